@@ -1,0 +1,81 @@
+// What a parse may be asked for.
+
+/// Which constructs are on.
+///
+/// A construct that is off accepts no line.
+#[derive(Clone, Copy, Debug, PartialEq, Eq)]
+pub struct Constructs {
+    /// Block quotes (CommonMark 5.1).
+    pub block_quote: bool,
+    /// Fenced code (CommonMark 4.5).
+    pub code_fenced: bool,
+    /// Indented code (CommonMark 4.4). Where it is off, an indent of any size is a small one.
+    pub code_indented: bool,
+    /// Link reference definitions (CommonMark 4.7).
+    pub definition: bool,
+    /// Frontmatter at the start of the text.
+    pub frontmatter: bool,
+    /// Footnote definitions, as on GitHub.
+    pub gfm_footnote_definition: bool,
+    /// Tables (GFM 4.10).
+    pub gfm_table: bool,
+    /// ATX headings (CommonMark 4.2).
+    pub heading_atx: bool,
+    /// Setext headings (CommonMark 4.3).
+    pub heading_setext: bool,
+    /// HTML blocks (CommonMark 4.6).
+    pub html_flow: bool,
+    /// List items (CommonMark 5.2).
+    pub list_item: bool,
+    /// Math blocks between `$$`.
+    pub math_flow: bool,
+    /// Thematic breaks (CommonMark 4.1).
+    pub thematic_break: bool,
+    /// ESM of MDX: not supported, so false.
+    pub mdx_esm: bool,
+    /// Expression blocks of MDX: not supported, so false.
+    pub mdx_expression_flow: bool,
+    /// Expressions in the text of MDX: not supported, so false.
+    pub mdx_expression_text: bool,
+    /// JSX blocks of MDX: not supported, so false.
+    pub mdx_jsx_flow: bool,
+    /// JSX in the text of MDX: not supported, so false.
+    pub mdx_jsx_text: bool,
+}
+
+impl Constructs {
+    /// The constructs of CommonMark.
+    pub const COMMONMARK: Constructs = Constructs {
+        block_quote: true,
+        code_fenced: true,
+        code_indented: true,
+        definition: true,
+        frontmatter: false,
+        gfm_footnote_definition: false,
+        gfm_table: false,
+        heading_atx: true,
+        heading_setext: true,
+        html_flow: true,
+        list_item: true,
+        math_flow: false,
+        thematic_break: true,
+        mdx_esm: false,
+        mdx_expression_flow: false,
+        mdx_expression_text: false,
+        mdx_jsx_flow: false,
+        mdx_jsx_text: false,
+    };
+}
+
+/// What a parse is asked for.
+#[derive(Clone, Copy, Debug, PartialEq, Eq)]
+pub struct ParseOptions {
+    pub constructs: Constructs,
+}
+
+impl ParseOptions {
+    /// CommonMark, without any extension.
+    pub const COMMONMARK: ParseOptions = ParseOptions {
+        constructs: Constructs::COMMONMARK,
+    };
+}

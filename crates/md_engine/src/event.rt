@@ -1,0 +1,149 @@
+// Events, and the points of the text that they stand at.
+//
+// The result of a parse is a list of events: an `Enter` and an `Exit` of each part, in the order of the text. Enters and
+// exits match by name like brackets.
+
+/// A place in the text.
+#[derive(Clone, Copy, Debug, PartialEq, Eq)]
+pub struct Point {
+    /// 1 plus the number of line endings before the place.
+    pub line: usize,
+    /// 1 plus the number of columns before the place on its line: a tab reaches to the next multiple of 4, and every
+    /// other byte is one column.
+    pub column: usize,
+    /// The byte, counted from 0.
+    pub index: usize,
+    /// How many columns of the tab at `index` lie before the place; 0 where no tab is cut.
+    pub vs: usize,
+}
+
+/// Whether a part begins or ends.
+#[derive(Clone, Copy, Debug, PartialEq, Eq)]
+pub enum Kind {
+    Enter,
+    Exit,
+}
+
+/// What a linked part holds, to be read later.
+#[derive(Clone, Copy, Debug, PartialEq, Eq)]
+pub enum Content {
+    /// Leaf blocks.
+    Flow,
+    /// Definitions and a paragraph.
+    Content,
+    /// Text without media, as an info string or a label.
+    String,
+    /// Text, as of a paragraph, a heading or a cell.
+    Text,
+}
+
+/// A link from one part to the parts before and behind it that are read as one with it: indices of their enters.
+#[derive(Clone, Copy, Debug, PartialEq, Eq)]
+pub struct Link {
+    pub previous: Option<usize>,
+    pub next: Option<usize>,
+    pub content: Content,
+}
+
+/// The begin or the end of a part.
+#[derive(Clone, Copy, Debug, PartialEq, Eq)]
+pub struct Event {
+    pub kind: Kind,
+    pub name: Name,
+    pub point: Point,
+    /// On the enter of a part that is read later.
+    pub link: Option<Link>,
+}
+
+/// Names of parts, by construct.
+#[derive(Clone, Copy, Debug, PartialEq, Eq)]
+pub enum Name {
+    // Frontmatter.
+    Frontmatter,
+    FrontmatterFence,
+    FrontmatterSequence,
+    FrontmatterChunk,
+    // Block quote.
+    BlockQuote,
+    BlockQuotePrefix,
+    BlockQuoteMarker,
+    // Lists and their items.
+    ListOrdered,
+    ListUnordered,
+    ListItem,
+    ListItemPrefix,
+    ListItemValue,
+    ListItemMarker,
+    // Footnote definition.
+    GfmFootnoteDefinition,
+    GfmFootnoteDefinitionPrefix,
+    GfmFootnoteDefinitionLabel,
+    GfmFootnoteDefinitionLabelMarker,
+    GfmFootnoteDefinitionMarker,
+    GfmFootnoteDefinitionLabelString,
+    // Headings.
+    HeadingAtx,
+    HeadingAtxSequence,
+    HeadingAtxText,
+    HeadingSetext,
+    HeadingSetextText,
+    HeadingSetextUnderline,
+    HeadingSetextUnderlineSequence,
+    // Thematic break.
+    ThematicBreak,
+    ThematicBreakSequence,
+    // Code, indented and fenced.
+    CodeIndented,
+    CodeFenced,
+    CodeFencedFence,
+    CodeFencedFenceSequence,
+    CodeFencedFenceInfo,
+    CodeFencedFenceMeta,
+    CodeFlowChunk,
+    // Math.
+    MathFlow,
+    MathFlowFence,
+    MathFlowFenceSequence,
+    MathFlowFenceMeta,
+    MathFlowChunk,
+    // HTML.
+    HtmlFlow,
+    HtmlFlowData,
+    // Definition.
+    Definition,
+    DefinitionLabel,
+    DefinitionLabelMarker,
+    DefinitionLabelString,
+    DefinitionMarker,
+    DefinitionDestination,
+    DefinitionDestinationLiteral,
+    DefinitionDestinationLiteralMarker,
+    DefinitionDestinationRaw,
+    DefinitionDestinationString,
+    DefinitionTitle,
+    DefinitionTitleMarker,
+    DefinitionTitleString,
+    // Paragraph.
+    Paragraph,
+    // Table.
+    GfmTable,
+    GfmTableHead,
+    GfmTableBody,
+    GfmTableRow,
+    GfmTableCell,
+    GfmTableCellDivider,
+    GfmTableCellText,
+    GfmTableDelimiterRow,
+    GfmTableDelimiterCell,
+    GfmTableDelimiterCellValue,
+    GfmTableDelimiterMarker,
+    GfmTableDelimiterFiller,
+    // Between these.
+    ByteOrderMark,
+    SpaceOrTab,
+    LineEnding,
+    BlankLineEnding,
+    // What is read later, until it is.
+    Content,
+    Data,
+}

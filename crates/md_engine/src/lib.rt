@@ -1,0 +1,8 @@
+// The engine of the parser: events, states, and a tokenizer that goes from state to state.
+#![tactic(auto)]
+
+pub mod configuration;
+pub mod event;
+pub mod message;
+pub mod resolve;
+pub mod state;
