@@ -24,6 +24,9 @@ spot w = record { setting = w.setting; point = w.point; scratch = w.scratch }
 abbrev pub moved_to : Spot → Point → Scratch → Spot
 moved_to x p s = record x { point = p; scratch = s }
 
+abbrev pub spot_at : Setting → Point → Scratch → Spot
+spot_at t p s = record { setting = t; point = p; scratch = s }
+
 -- the same text and options, where more may be read and more lines are begun
 pub record Grown (old new : Setting) : Type 0 where
   pub bytes : new.bytes ≡ old.bytes
@@ -144,17 +147,17 @@ pub record Reaches (limit : ℕ) (p q : Point) : Type 0 where
 
 -- wherever a construct ends with such scratch, one may go on
 pub record Ends (P Q : Scratch → Type 0) (x : Spot) (K : After) : Type 0 where
-  pub ok : (s : Scratch) (q : Point) (t : Setting) → P s → Grown x.setting t → Reaches t.limit x.point q → K.ok (record { setting = t; point = q; scratch = s })
-  pub nok : (s : Scratch) (q : Point) (t : Setting) → Q s → Grown x.setting t → K.nok (record { setting = t; point = q; scratch = s })
+  pub ok : (s : Scratch) (q : Point) (t : Setting) → P s → Grown x.setting t → Reaches t.limit x.point q → K.ok (spot_at t q s)
+  pub nok : (s : Scratch) (q : Point) (t : Setting) → Q s → Grown x.setting t → K.nok (spot_at t q s)
 
 -- what an attempt owes when it begins: what it goes on with is ready, and below what it sets aside
 pub record Tries (T : Scheme) (f : Frame) (P Q : Scratch → Type 0) (x : Spot) (K : After) : Type 0 where
-  pub ok : (s : Scratch) (q : Point) (t : Setting) → P s → Grown x.setting t → Reaches t.limit x.point q → holds T f.ok (record { setting = t; point = if f.is_check then x.point else q; scratch = s }) K
+  pub ok : (s : Scratch) (q : Point) (t : Setting) → P s → Grown x.setting t → Reaches t.limit x.point q → holds T f.ok (if f.is_check then spot_at t x.point s else spot_at t q s) K
   pub ok_level : state_level T f.ok ≤ frame_level T f
-  pub ok_rank : (s : Scratch) (t : Setting) → P s → Grown x.setting t → state_rank T f.ok (record { setting = t; point = x.point; scratch = s }) < frame_rank T f + 1
-  pub nok : (s : Scratch) (t : Setting) → Q s → Grown x.setting t → holds T f.nok (record { setting = t; point = x.point; scratch = s }) K
+  pub ok_rank : (s : Scratch) (t : Setting) → P s → Grown x.setting t → state_rank T f.ok (spot_at t x.point s) < frame_rank T f + 1
+  pub nok : (s : Scratch) (t : Setting) → Q s → Grown x.setting t → holds T f.nok (spot_at t x.point s) K
   pub nok_level : state_level T f.nok ≤ frame_level T f
-  pub nok_rank : (s : Scratch) (t : Setting) → Q s → Grown x.setting t → state_rank T f.nok (record { setting = t; point = x.point; scratch = s }) < frame_rank T f + 1
+  pub nok_rank : (s : Scratch) (t : Setting) → Q s → Grown x.setting t → state_rank T f.nok (spot_at t x.point s) < frame_rank T f + 1
 
 -- a state's call keeps what the table needs, and falls
 abbrev pub Good : Scheme → StateName → World → State → World → Type 0

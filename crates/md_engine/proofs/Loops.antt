@@ -1,0 +1,29 @@
+-- What the loop keeps.
+use Rattle.std.proofs.Common.{◌≡◌, ◌≢◌, refl, sym, ◌∙◌, ap, subst, inl, inr, ◌⊎◌}
+use Rattle.md_engine.specs.declared.state.Name.{Name as StateName}
+use Rattle.md_engine.specs.declared.state.State.{State}
+use Rattle.md_engine.specs.declared.state.State.TheVariants.{Error, Ok, Nok, Next, Retry}
+use Rattle.md_engine.specs.Run.{IsEnd, plain}
+
+-- an end that does not accept refuses
+pub IsEnd-not_ok : (s : State) → IsEnd s → s ≢ Ok → s ≡ Nok
+IsEnd-not_ok Ok end h = absurd (h refl)
+IsEnd-not_ok Nok end h = refl
+IsEnd-not_ok Error end h = absurd end
+IsEnd-not_ok (Next n) end h = absurd end
+IsEnd-not_ok (Retry n) end h = absurd end
+
+-- a state that names another, by either way
+pub plain_of : (s : State) (n : StateName) → (s ≡ Next n) ⊎ (s ≡ Retry n) → plain s ≡ Next n
+plain_of s n (inl e) = ap plain e
+plain_of s n (inr e) = ap plain e
+
+pub not_error : (s : State) (n : StateName) → plain s ≡ Next n → s ≢ Error
+not_error s n e h = let k : plain Error ≡ Next n = rw h at e in cc
+
+pub is_end_of : (s : State) → (s ≡ Ok) ⊎ (s ≡ Nok) → IsEnd s
+is_end_of s (inl e) = rw e tt
+is_end_of s (inr e) = rw e tt
+
+pub end_not_error : (s : State) → IsEnd s → s ≢ Error
+end_not_error s end h = let k : IsEnd Error = rw h at end in k
