@@ -2,7 +2,7 @@
 //
 // A table says which function each state name stands for. `push` reads a part of the text and answers the state that waits
 // for more; `flush` reads the end, and runs the resolvers that were registered.
-ghost use Rattle.std.specs.Prelude.{◌≡◌, ◌≢◌, ◌<◌, ◌≤◌, ◌⊎◌, [], length, IfOk, IfNone, IfSome, false, true};
+ghost use Rattle.std.specs.Prelude.{◌≡◌, ◌≢◌, ◌<◌, ◌≤◌, ◌⊎◌, [], length, IfOk, IfNone, IfSome, OnOk, false, true};
 ghost use Rattle.std.specs.Option.{option_map};
 ghost use Rattle.md_engine.specs.Found.{found_in};
 ghost use Rattle.md_engine.specs.Run.{Flushes, IsEnd, IsStopped, Leaves, Resolution, ResolvedIf, Runs, Step, plain};
@@ -36,9 +36,11 @@ pub trait Table {
         ensures falls { result ≢ State.Error → work scheme (world tokenizer.new) (plain result) < work scheme (world tokenizer.old) (State.Next name) }
         ensures setting { result ≢ State.Error → (world tokenizer.new).setting ≡ (world tokenizer.old).setting };
 
-    /// Runs the resolver of this name. After an `Err` the parse has failed.
+    /// Runs the resolver of this name, when no attempt is left. After an `Err` the parse has failed.
     fn resolve(tokenizer: &mut Tokenizer, name: ResolveName) -> Result<Option<Subresult>, Message>
-        ensures { IfOk result (λ found. resolves name (world tokenizer.old) (option_map found_in found) (world tokenizer.new)) };
+        requires { (world tokenizer.old).frames ≡ [] }
+        ensures frames { OnOk result ((world tokenizer.new).frames ≡ []) }
+        ensures resolves { IfOk result (λ found. resolves name (world tokenizer.old) (option_map found_in found) (world tokenizer.new)) };
 }
 
 /// Leaves the innermost attempt, if there is one.
@@ -138,6 +140,7 @@ pub fn flush<T: Table>(
 
 /// Runs the resolvers that were registered, if asked.
 fn resolve_all<T: Table>(tokenizer: &mut Tokenizer, resolve: bool) -> Result<Subresult, Message>
+    requires { (world tokenizer.old).frames ≡ [] }
     ensures { IfOk result (λ found. ResolvedIf T.resolves resolve (world tokenizer.old) (found_in found) (world tokenizer.new)) }
 {
     let alloc = tokenizer.alloc;
