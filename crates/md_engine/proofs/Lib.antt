@@ -4,3 +4,4 @@ pub mod Points
 pub mod Falls
 pub mod Local
 pub mod Loops
+pub mod Keeps

@@ -4,3 +4,4 @@ pub mod World
 pub mod Found
 pub mod Run
 pub mod Scheme
+pub mod Meaning

@@ -1,5 +1,6 @@
 -- What the loop that goes from state to state comes to.
-use Rattle.std.specs.Prelude.{◌≡◌, ◌<◌, ◌≤◌, ◌⊎◌, Bool, true, false, List, [], ◌∷◌, ◌++◌, Option, take, if◌then◌else◌}
+use Rattle.std.specs.Prelude.{◌≡◌, ◌≢◌, ◌<◌, ◌≤◌, ◌⊎◌, Bool, true, false, List, [], ◌∷◌, ◌++◌, Option, length, take, if◌then◌else◌}
+use Rattle.std.specs.List.{All}
 use Rattle.md_engine.specs.declared.resolve.Name.{Name as ResolveName}
 use Rattle.md_engine.specs.declared.state.Name.{Name as StateName}
 use Rattle.md_engine.specs.declared.state.State.{State}
@@ -53,6 +54,8 @@ pub record Leaves (s : State) (w : World) (s' : State) (w' : World) : Type 0 whe
   pub frames : w.frames ≡ frame ∷ outer
   pub next : s' ≡ next_of frame s
   pub new : w' ≡ left w outer frame (goes_back frame s)
+  -- the attempts around it go back to no more events
+  pub below : All (λ g. g.events_len ≤ frame.events_len) outer
 
 -- a state is called, at what stands at the point or at the end
 pub record Calls (T : Step) (is_end : Bool) (s : State) (w : World) (s' : State) (w' : World) : Type 0 where
@@ -60,6 +63,10 @@ pub record Calls (T : Step) (is_end : Bool) (s : State) (w : World) (s' : State)
   pub names : plain s ≡ Next name
   pub may : (is_end ≡ true) ⊎ (w.point.index < w.setting.limit)
   pub step : T name (reading w) s' w'
+  pub fine : s' ≢ Error
+  pub setting : w'.setting ≡ w.setting
+  -- all attempts go back to events that are there
+  pub within : All (λ f. f.events_len ≤ length w.events) w.frames
 
 -- what one comes to, from a state and a world, by leaving attempts and calling states
 pub data Runs (T : Step) (is_end : Bool) (s : State) (w : World) : State → World → Type 0 where

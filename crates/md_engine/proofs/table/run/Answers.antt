@@ -1,11 +1,22 @@
-use Rattle.std.proofs.Common.{◌∙◌, ap, refl, subst, sym}
+use Rattle.std.proofs.Common.{◌≤◌, length, ◌∙◌, ap, refl, subst, sym}
 use Rattle.md_engine.specs.declared.state.State.TheVariants.{Next}
 use Rattle.md_engine.specs.Run.{plain, reading}
 use Rattle.md_engine.specs.Run.Runs.{Stays, ThenCalls, ThenLeaves}
 use Rattle.md_engine.specs.World.{World, world}
+use Rattle.md_engine.specs.Sound.{IsSaved}
+use Rattle.md_engine.specs.declared.tokenizer.Frame.{Frame}
+use Rattle.md_engine.specs.declared.tokenizer.Tokenizer.{Tokenizer}
+use Rattle.std.specs.List.{All}
+use Rattle.std.proofs.lemmas.List.Elements.{All-weaker}
+use Rattle.md_engine.proofs.Sound.{All-reverse}
 use Rattle.md_engine.proofs.Falls.{falls_same, leaves_falls, leaves_stands, stands_same}
 use Rattle.md_engine.proofs.Loops.{end_not_error, is_end_of, not_error, plain_of}
 use Rattle.md_engine.proofs.table.run.Goals as goal
+
+-- the attempts of a tokenizer go back to events that are there
+within-world : (t : Tokenizer) → All (λ (f : Frame). f.events_len ≤ length (world t).events) (world t).frames
+within-world t = All-reverse (λ (f : Frame). f.events_len ≤ length t.events.items) t.frames.items
+    (All-weaker (IsSaved t.bytes.now (length t.events.items)) (λ (f : Frame). f.events_len ≤ length t.events.items) (λ f h. h.within) t.frames.items t.sound.saved)
 
 pub loop-state-init : goal.loop-state-init
 loop-state-init g c = record { runs = λ _. Stays; stands = λ _. c.requires; setting = λ _. refl }
@@ -43,7 +54,7 @@ loop-state-preserved g c =
     let fine = not_error _ _ p in
     let P : World → Type 0 = λ w. g.T.Table.step c.in-Next.name w c.call.result (world c.call.new.tokenizer) in
     record {
-      runs = λ h. ThenCalls _ _ _ _ (c.loop-state.invariant.runs fine) (record { name = c.in-Next.name; names = p; may = c.if-is_waiting.ensures.goes_on refl; step = subst P c.see.ensures (c.call.ensures.step h) });
+      runs = λ h. ThenCalls _ _ _ _ (c.loop-state.invariant.runs fine) (record { name = c.in-Next.name; names = p; may = c.if-is_waiting.ensures.goes_on refl; step = subst P c.see.ensures (c.call.ensures.step h); fine = h; setting = c.call.ensures.setting h ∙ ap (λ (w : World). w.setting) c.see.ensures; within = within-world c.loop-state.tokenizer });
       stands = c.call.ensures.stands;
       setting = λ h. c.call.ensures.setting h ∙ ap (λ (w : World). w.setting) c.see.ensures ∙ c.loop-state.invariant.setting fine;
     }
