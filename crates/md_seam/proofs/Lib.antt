@@ -1,1 +1,3 @@
+pub mod NestedLemmas
 mod Rows
+pub mod SpelledLemmas

@@ -12,7 +12,7 @@ use Rattle.md_seam.specs.Spelled.{spelled}
 use Rattle.md_seam.specs.Places.{first_point, is_placed}
 use Rattle.md_seam.specs.Nested.{pair, around, exit, Nested}
 use Rattle.md_seam.specs.Inline.{Part, plain_events, plain_chunks, pieces, Covers, together}
-use Rattle.md_seam.specs.Tiles.{Tiles, EachRead, parts, parts_stand, end_point, filled}
+use Rattle.md_seam.specs.Tiles.{Tiles, EachRead, parts, parts_stand, chunks_stand, end_point, filled}
 
 -- a point by its line, its column and its byte
 abbrev at : ℕ → ℕ → ℕ → Point
@@ -45,13 +45,14 @@ record Row (bytes : List ℕ) (blocks : List Event) (tree : t.Blocks) : Type 0 w
   before : spelled blocks bytes ≡ tree
   after : spelled (plain bytes blocks) bytes ≡ tree
   nested : Nested blocks
-  stands : IsTrue (parts_stand bytes blocks)
+  lines : IsTrue (parts_stand bytes blocks)
+  chunks : IsTrue (chunks_stand false blocks)
   covers : Covers first_point (pieces blocks) (end_point bytes)
   each : EachRead (λ part events. events ≡ plain_events bytes part) (parts blocks) (plain_lists bytes (parts blocks))
   empty : bytes ≡ [] → plain bytes blocks ≡ []
 
 row-tiles : {bytes : List ℕ} {blocks : List Event} {tree : t.Blocks} → Row bytes blocks tree → Tiles (λ part events. events ≡ plain_events bytes part) bytes (plain bytes blocks)
-row-tiles {bytes} {blocks} row = record { blocks = blocks; block_list = record { nested = row.nested; stands = row.stands }; covers = row.covers; lists = plain_lists bytes (parts blocks); each = row.each; read = refl; empty = row.empty }
+row-tiles {bytes} {blocks} row = record { blocks = blocks; block_list = record { nested = row.nested; lines = row.lines; chunks = row.chunks }; covers = row.covers; lists = plain_lists bytes (parts blocks); each = row.each; read = refl; empty = row.empty }
 
 -- nothing: ""
 abbrev empty_text : List ℕ
@@ -63,7 +64,7 @@ empty_events =
 
 row-empty : Row empty_text empty_events (t.End)
 unfolding spelled
-row-empty = record { placed = refl; before = refl; after = refl; nested = search rules; stands = refl; covers = search rules; each = search rules; empty = search rules }
+row-empty = record { placed = refl; before = refl; after = refl; nested = search rules; lines = refl; chunks = refl; covers = search rules; each = search rules; empty = search rules }
 
 -- a blank line: " \n"
 abbrev blank_text : List ℕ
@@ -76,7 +77,7 @@ blank_events =
 
 row-blank : Row blank_text blank_events (t.End)
 unfolding spelled
-row-blank = record { placed = refl; before = refl; after = refl; nested = search rules; stands = refl; covers = search rules; each = search rules; empty = search rules }
+row-blank = record { placed = refl; before = refl; after = refl; nested = search rules; lines = refl; chunks = refl; covers = search rules; each = search rules; empty = search rules }
 
 -- a byte order mark before a paragraph: "(mark)a"
 abbrev mark_text : List ℕ
@@ -90,7 +91,7 @@ mark_events =
 
 row-mark : Row mark_text mark_events (t.More (t.Paragraph (codes "a" ∷ [])) t.End)
 unfolding spelled
-row-mark = record { placed = refl; before = refl; after = refl; nested = search rules; stands = refl; covers = search rules; each = search rules; empty = search rules }
+row-mark = record { placed = refl; before = refl; after = refl; nested = search rules; lines = refl; chunks = refl; covers = search rules; each = search rules; empty = search rules }
 
 -- a paragraph of two lines, which lose their leading spaces: "  a\n b \n"
 abbrev paragraph_text : List ℕ
@@ -106,7 +107,7 @@ paragraph_events =
 
 row-paragraph : Row paragraph_text paragraph_events (t.More (t.Paragraph (codes "a" ∷ codes "b " ∷ [])) t.End)
 unfolding spelled
-row-paragraph = record { placed = refl; before = refl; after = refl; nested = search rules; stands = refl; covers = search rules; each = search rules; empty = search rules }
+row-paragraph = record { placed = refl; before = refl; after = refl; nested = search rules; lines = refl; chunks = refl; covers = search rules; each = search rules; empty = search rules }
 
 -- a thematic break: "* **"
 abbrev break_text : List ℕ
@@ -121,7 +122,7 @@ break_events =
 
 row-break : Row break_text break_events (t.More (t.Break) t.End)
 unfolding spelled
-row-break = record { placed = refl; before = refl; after = refl; nested = search rules; stands = refl; covers = search rules; each = search rules; empty = search rules }
+row-break = record { placed = refl; before = refl; after = refl; nested = search rules; lines = refl; chunks = refl; covers = search rules; each = search rules; empty = search rules }
 
 -- an ATX heading with a closing sequence: "# a b ##"
 abbrev heading_text : List ℕ
@@ -139,7 +140,7 @@ heading_events =
 
 row-heading : Row heading_text heading_events (t.More (t.Heading 1 (codes "a b" ∷ [])) t.End)
 unfolding spelled
-row-heading = record { placed = refl; before = refl; after = refl; nested = search rules; stands = refl; covers = search rules; each = search rules; empty = search rules }
+row-heading = record { placed = refl; before = refl; after = refl; nested = search rules; lines = refl; chunks = refl; covers = search rules; each = search rules; empty = search rules }
 
 -- an ATX heading without text: "##"
 abbrev empty_heading_text : List ℕ
@@ -152,7 +153,7 @@ empty_heading_events =
 
 row-empty-heading : Row empty_heading_text empty_heading_events (t.More (t.Heading 2 []) t.End)
 unfolding spelled
-row-empty-heading = record { placed = refl; before = refl; after = refl; nested = search rules; stands = refl; covers = search rules; each = search rules; empty = search rules }
+row-empty-heading = record { placed = refl; before = refl; after = refl; nested = search rules; lines = refl; chunks = refl; covers = search rules; each = search rules; empty = search rules }
 
 -- a setext heading of two lines: "a\r\nb\n---\n"
 abbrev underlined_text : List ℕ
@@ -171,7 +172,7 @@ underlined_events =
 
 row-underlined : Row underlined_text underlined_events (t.More (t.Heading 2 (codes "a" ∷ codes "b" ∷ [])) t.End)
 unfolding spelled
-row-underlined = record { placed = refl; before = refl; after = refl; nested = search rules; stands = refl; covers = search rules; each = search rules; empty = search rules }
+row-underlined = record { placed = refl; before = refl; after = refl; nested = search rules; lines = refl; chunks = refl; covers = search rules; each = search rules; empty = search rules }
 
 -- a quote whose second line is lazy: "> a\nb"
 abbrev lazy_text : List ℕ
@@ -189,7 +190,7 @@ lazy_events =
 
 row-lazy : Row lazy_text lazy_events (t.More (t.Quote (t.More (t.Paragraph (codes "a" ∷ codes "b" ∷ [])) t.End)) t.End)
 unfolding spelled
-row-lazy = record { placed = refl; before = refl; after = refl; nested = search rules; stands = refl; covers = search rules; each = search rules; empty = search rules }
+row-lazy = record { placed = refl; before = refl; after = refl; nested = search rules; lines = refl; chunks = refl; covers = search rules; each = search rules; empty = search rules }
 
 -- a quote whose second line has the prefix, behind a space: "> a\n > b"
 abbrev prefix_text : List ℕ
@@ -211,7 +212,7 @@ prefix_events =
 
 row-prefix : Row prefix_text prefix_events (t.More (t.Quote (t.More (t.Paragraph (codes "a" ∷ codes "b" ∷ [])) t.End)) t.End)
 unfolding spelled
-row-prefix = record { placed = refl; before = refl; after = refl; nested = search rules; stands = refl; covers = search rules; each = search rules; empty = search rules }
+row-prefix = record { placed = refl; before = refl; after = refl; nested = search rules; lines = refl; chunks = refl; covers = search rules; each = search rules; empty = search rules }
 
 -- an ordered list, with the digits as written: "01) a\n7) b"
 abbrev ordered_text : List ℕ
@@ -238,7 +239,7 @@ ordered_events =
 
 row-ordered : Row ordered_text ordered_events (t.More (t.ListOf 41 (t.More (t.Item 41 (codes "01") (t.More (t.Paragraph (codes "a" ∷ [])) t.End)) (t.More (t.Item 41 (codes "7") (t.More (t.Paragraph (codes "b" ∷ [])) t.End)) t.End))) t.End)
 unfolding spelled
-row-ordered = record { placed = refl; before = refl; after = refl; nested = search rules; stands = refl; covers = search rules; each = search rules; empty = search rules }
+row-ordered = record { placed = refl; before = refl; after = refl; nested = search rules; lines = refl; chunks = refl; covers = search rules; each = search rules; empty = search rules }
 
 -- items before they are grouped into lists: "- a\n+ b"
 abbrev items_text : List ℕ
@@ -262,7 +263,7 @@ items_events =
 
 row-items : Row items_text items_events (t.More (t.Item 45 [] (t.More (t.Paragraph (codes "a" ∷ [])) t.End)) (t.More (t.Item 43 [] (t.More (t.Paragraph (codes "b" ∷ [])) t.End)) t.End))
 unfolding spelled
-row-items = record { placed = refl; before = refl; after = refl; nested = search rules; stands = refl; covers = search rules; each = search rules; empty = search rules }
+row-items = record { placed = refl; before = refl; after = refl; nested = search rules; lines = refl; chunks = refl; covers = search rules; each = search rules; empty = search rules }
 
 -- a list in a quote, with a blank line and a line of the second paragraph indented: "> - a\n>\n>   b\n> -"
 abbrev nested_text : List ℕ
@@ -301,7 +302,7 @@ nested_events =
 
 row-nested : Row nested_text nested_events (t.More (t.Quote (t.More (t.ListOf 45 (t.More (t.Item 45 [] (t.More (t.Paragraph (codes "a" ∷ [])) (t.More (t.Paragraph (codes "b" ∷ [])) t.End))) (t.More (t.Item 45 [] t.End) t.End))) t.End)) t.End)
 unfolding spelled
-row-nested = record { placed = refl; before = refl; after = refl; nested = search rules; stands = refl; covers = search rules; each = search rules; empty = search rules }
+row-nested = record { placed = refl; before = refl; after = refl; nested = search rules; lines = refl; chunks = refl; covers = search rules; each = search rules; empty = search rules }
 
 -- a closed fence with info, meta and an empty line: "```r x y\na\n\n b\n```\n"
 abbrev fence_text : List ℕ
@@ -329,7 +330,7 @@ fence_events =
 
 row-fence : Row fence_text fence_events (t.More (t.Fence 96 (Some (codes "r")) (Some (codes "x y")) (line 0 (codes "a") ∷ line 0 ([]) ∷ line 0 (codes " b") ∷ []) true) t.End)
 unfolding spelled
-row-fence = record { placed = refl; before = refl; after = refl; nested = search rules; stands = refl; covers = search rules; each = search rules; empty = search rules }
+row-fence = record { placed = refl; before = refl; after = refl; nested = search rules; lines = refl; chunks = refl; covers = search rules; each = search rules; empty = search rules }
 
 -- an open fence, whose last line ending opens no line: "~~~\na\n"
 abbrev open_fence_text : List ℕ
@@ -346,7 +347,7 @@ open_fence_events =
 
 row-open-fence : Row open_fence_text open_fence_events (t.More (t.Fence 126 None None (line 0 (codes "a") ∷ []) false) t.End)
 unfolding spelled
-row-open-fence = record { placed = refl; before = refl; after = refl; nested = search rules; stands = refl; covers = search rules; each = search rules; empty = search rules }
+row-open-fence = record { placed = refl; before = refl; after = refl; nested = search rules; lines = refl; chunks = refl; covers = search rules; each = search rules; empty = search rules }
 
 -- an open fence whose container ends behind a blank line: "- ```\n\nb"
 abbrev left_fence_text : List ℕ
@@ -369,7 +370,7 @@ left_fence_events =
 
 row-left-fence : Row left_fence_text left_fence_events (t.More (t.ListOf 45 (t.More (t.Item 45 [] (t.More (t.Fence 96 None None (line 0 ([]) ∷ []) false) t.End)) t.End)) (t.More (t.Paragraph (codes "b" ∷ [])) t.End))
 unfolding spelled
-row-left-fence = record { placed = refl; before = refl; after = refl; nested = search rules; stands = refl; covers = search rules; each = search rules; empty = search rules }
+row-left-fence = record { placed = refl; before = refl; after = refl; nested = search rules; lines = refl; chunks = refl; covers = search rules; each = search rules; empty = search rules }
 
 -- a tab that a prefix, the indent of a fence and a line share: ">  ~~~\n>\ta"
 abbrev shared_tab_text : List ℕ
@@ -394,7 +395,7 @@ shared_tab_events =
 
 row-shared-tab : Row shared_tab_text shared_tab_events (t.More (t.Quote (t.More (t.Fence 126 None None (line 1 (codes "a") ∷ []) false) t.End)) t.End)
 unfolding spelled
-row-shared-tab = record { placed = refl; before = refl; after = refl; nested = search rules; stands = refl; covers = search rules; each = search rules; empty = search rules }
+row-shared-tab = record { placed = refl; before = refl; after = refl; nested = search rules; lines = refl; chunks = refl; covers = search rules; each = search rules; empty = search rules }
 
 -- indented code with a blank line inside: "    a\n  \n      b\n"
 abbrev code_text : List ℕ
@@ -414,7 +415,7 @@ code_events =
 
 row-code : Row code_text code_events (t.More (t.Code (line 0 (codes "a") ∷ line 0 ([]) ∷ line 0 (codes "  b") ∷ [])) t.End)
 unfolding spelled
-row-code = record { placed = refl; before = refl; after = refl; nested = search rules; stands = refl; covers = search rules; each = search rules; empty = search rules }
+row-code = record { placed = refl; before = refl; after = refl; nested = search rules; lines = refl; chunks = refl; covers = search rules; each = search rules; empty = search rules }
 
 -- code behind tabs that are cut: ">\t\ta"
 abbrev tabs_text : List ℕ
@@ -432,7 +433,7 @@ tabs_events =
 
 row-tabs : Row tabs_text tabs_events (t.More (t.Quote (t.More (t.Code (line 2 (codes "a") ∷ [])) t.End)) t.End)
 unfolding spelled
-row-tabs = record { placed = refl; before = refl; after = refl; nested = search rules; stands = refl; covers = search rules; each = search rules; empty = search rules }
+row-tabs = record { placed = refl; before = refl; after = refl; nested = search rules; lines = refl; chunks = refl; covers = search rules; each = search rules; empty = search rules }
 
 -- HTML, its first line in two pieces, and a blank line in it: " <?\n\n x\n"
 abbrev html_text : List ℕ
@@ -450,7 +451,7 @@ html_events =
 
 row-html : Row html_text html_events (t.More (t.Html (line 0 (codes " <?") ∷ line 0 ([]) ∷ line 0 (codes " x") ∷ [])) t.End)
 unfolding spelled
-row-html = record { placed = refl; before = refl; after = refl; nested = search rules; stands = refl; covers = search rules; each = search rules; empty = search rules }
+row-html = record { placed = refl; before = refl; after = refl; nested = search rules; lines = refl; chunks = refl; covers = search rules; each = search rules; empty = search rules }
 
 -- closed math with meta: "$$ m\na\n$$"
 abbrev math_text : List ℕ
@@ -472,7 +473,7 @@ math_events =
 
 row-math : Row math_text math_events (t.More (t.Math (Some (codes "m")) (line 0 (codes "a") ∷ []) true) t.End)
 unfolding spelled
-row-math = record { placed = refl; before = refl; after = refl; nested = search rules; stands = refl; covers = search rules; each = search rules; empty = search rules }
+row-math = record { placed = refl; before = refl; after = refl; nested = search rules; lines = refl; chunks = refl; covers = search rules; each = search rules; empty = search rules }
 
 -- frontmatter with an empty line, and a paragraph: "+++\nx\n\n+++ \na"
 abbrev frontmatter_text : List ℕ
@@ -496,7 +497,7 @@ frontmatter_events =
 
 row-frontmatter : Row frontmatter_text frontmatter_events (t.More (t.Frontmatter 43 (codes "x" ∷ [] ∷ [])) (t.More (t.Paragraph (codes "a" ∷ [])) t.End))
 unfolding spelled
-row-frontmatter = record { placed = refl; before = refl; after = refl; nested = search rules; stands = refl; covers = search rules; each = search rules; empty = search rules }
+row-frontmatter = record { placed = refl; before = refl; after = refl; nested = search rules; lines = refl; chunks = refl; covers = search rules; each = search rules; empty = search rules }
 
 -- a definition over four lines of a quote: "> [a\n> b]: c\n> 'd\n>e'"
 abbrev definition_text : List ℕ
@@ -539,7 +540,7 @@ definition_events =
 
 row-definition : Row definition_text definition_events (t.More (t.Quote (t.More (t.Definition (codes "a" ∷ codes "b" ∷ []) (codes "c") (Some (codes "d" ∷ codes "e" ∷ []))) t.End)) t.End)
 unfolding spelled
-row-definition = record { placed = refl; before = refl; after = refl; nested = search rules; stands = refl; covers = search rules; each = search rules; empty = search rules }
+row-definition = record { placed = refl; before = refl; after = refl; nested = search rules; lines = refl; chunks = refl; covers = search rules; each = search rules; empty = search rules }
 
 -- a definition with an empty last line of its label, an empty destination and an empty title: "[a\n]: <> ''"
 abbrev empty_parts_text : List ℕ
@@ -566,7 +567,7 @@ empty_parts_events =
 
 row-empty-parts : Row empty_parts_text empty_parts_events (t.More (t.Definition (codes "a" ∷ [] ∷ []) [] (Some ([] ∷ []))) t.End)
 unfolding spelled
-row-empty-parts = record { placed = refl; before = refl; after = refl; nested = search rules; stands = refl; covers = search rules; each = search rules; empty = search rules }
+row-empty-parts = record { placed = refl; before = refl; after = refl; nested = search rules; lines = refl; chunks = refl; covers = search rules; each = search rules; empty = search rules }
 
 -- a definition with empty first lines of its label and its title: "[\n a]: b '\n c'"
 abbrev empty_lines_text : List ℕ
@@ -598,7 +599,7 @@ empty_lines_events =
 
 row-empty-lines : Row empty_lines_text empty_lines_events (t.More (t.Definition ([] ∷ codes "a" ∷ []) (codes "b") (Some ([] ∷ codes "c" ∷ []))) t.End)
 unfolding spelled
-row-empty-lines = record { placed = refl; before = refl; after = refl; nested = search rules; stands = refl; covers = search rules; each = search rules; empty = search rules }
+row-empty-lines = record { placed = refl; before = refl; after = refl; nested = search rules; lines = refl; chunks = refl; covers = search rules; each = search rules; empty = search rules }
 
 -- a table with a row of one empty cell: "| a | b\n:-|-\n|\n"
 abbrev table_text : List ℕ
@@ -639,7 +640,7 @@ table_events =
 
 row-table : Row table_text table_events (t.More (t.Table (codes ":-|-") ((codes "a" ∷ codes "b" ∷ []) ∷ ([] ∷ []) ∷ [])) t.End)
 unfolding spelled
-row-table = record { placed = refl; before = refl; after = refl; nested = search rules; stands = refl; covers = search rules; each = search rules; empty = search rules }
+row-table = record { placed = refl; before = refl; after = refl; nested = search rules; lines = refl; chunks = refl; covers = search rules; each = search rules; empty = search rules }
 
 -- a footnote definition with two paragraphs: "[^a]: b\n\n    c"
 abbrev footnote_text : List ℕ
@@ -667,4 +668,4 @@ footnote_events =
 
 row-footnote : Row footnote_text footnote_events (t.More (t.Footnote (codes "a") (t.More (t.Paragraph (codes "b" ∷ [])) (t.More (t.Paragraph (codes "c" ∷ [])) t.End))) t.End)
 unfolding spelled
-row-footnote = record { placed = refl; before = refl; after = refl; nested = search rules; stands = refl; covers = search rules; each = search rules; empty = search rules }
+row-footnote = record { placed = refl; before = refl; after = refl; nested = search rules; lines = refl; chunks = refl; covers = search rules; each = search rules; empty = search rules }

@@ -1,5 +1,5 @@
 -- Every byte of a text is accounted for: the innermost pairs of its events lie side by side.
-use Rattle.std.specs.Prelude.{◌≡◌, ℕ, Bool, true, false, ◌&&◌, if◌then◌else◌, IsTrue, List, [], ◌∷◌, ◌++◌, length, Option, Some, None}
+use Rattle.std.specs.Prelude.{◌≡◌, ℕ, Bool, true, false, ◌&&◌, ◌||◌, not, if◌then◌else◌, IsTrue, List, [], ◌∷◌, ◌++◌, length, Option, Some, None}
 use Rattle.std.specs.List.{list_all}
 use Rattle.md_engine.specs.declared.event.Point.{Point}
 use Rattle.md_engine.specs.declared.event.Event.{Event}
@@ -44,6 +44,10 @@ stands_in_part n.BlockQuotePrefix = true
 stands_in_part n.BlockQuoteMarker = true
 stands_in_part _ = false
 
+abbrev pub is_data : Name → Bool
+is_data n.Data = true
+is_data _ = false
+
 abbrev pub is_exit : Kind → Bool
 is_exit Exit = true
 is_exit Enter = false
@@ -54,11 +58,11 @@ is_part name = elim (part_kind name) [ None ↦ false | Some kind ↦ true ]
 -- the events up to the end of a text part, and the point of that end
 abbrev pub inside_part : List Event → List Event
 inside_part [] = []
-inside_part (e ∷ es) = if is_exit e.kind && is_part e.name then [] else e ∷ inside_part es
+inside_part (e ∷ es) = if is_part e.name && is_exit e.kind then [] else e ∷ inside_part es
 
 abbrev pub part_end : List Event → Point
 part_end [] = first_point
-part_end (e ∷ es) = if is_exit e.kind && is_part e.name then e.point else part_end es
+part_end (e ∷ es) = if is_part e.name && is_exit e.kind then e.point else part_end es
 
 -- the pieces that are not read yet
 abbrev pub chunks : List Piece → List Chunk
@@ -89,9 +93,7 @@ is_one_line (line ∷ [] ∷ []) ends_part = true
 is_one_line _ ends_part = false
 
 abbrev pub part_stands : List ℕ → Kind → Option PartKind → List Event → Bool
-part_stands bytes Enter (Some kind) es =
-    list_all (λ (e : Event). stands_in_part e.name) (inside_part es)
-    && list_all (λ (chunk : Chunk). is_one_line (split_lines (chunk_text bytes chunk)) (same_place chunk.after (part_end es))) (chunks (pieces (inside_part es)))
+part_stands bytes Enter (Some kind) es = list_all (λ (chunk : Chunk). is_one_line (split_lines (chunk_text bytes chunk)) (same_place chunk.after (part_end es))) (chunks (pieces (inside_part es)))
 part_stands bytes Enter None es = true
 part_stands bytes Exit kind es = true
 
@@ -100,10 +102,22 @@ abbrev pub parts_stand : List ℕ → List Event → Bool
 parts_stand bytes [] = true
 parts_stand bytes (e ∷ es) = part_stands bytes e.kind (part_kind e.name) es && parts_stand bytes es
 
+-- whether a link is that of a chunk, which ends with the next event
+abbrev pub chunk_stands : Event → List Event → Bool
+chunk_stands e [] = not (is_linked e)
+chunk_stands e (f ∷ es) = not (is_linked e) || (is_data e.name && is_exit f.kind && is_data f.name)
+
+-- Whether chunks stand only in text parts, and nothing stands in these but chunks and container prefixes.
+abbrev pub chunks_stand : Bool → List Event → Bool
+chunks_stand inside [] = true
+chunks_stand false (e ∷ es) = not (is_linked e) && chunks_stand (is_part e.name && not (is_exit e.kind)) es
+chunks_stand true (e ∷ es) = if is_part e.name && is_exit e.kind then not (is_linked e) && chunks_stand false es else stands_in_part e.name && chunk_stands e es && chunks_stand true es
+
 -- A list of events whose text parts are not read yet.
 pub record IsBlockList (bytes : List ℕ) (events : List Event) : Type 0 where
   pub nested : Nested events
-  pub stands : IsTrue (parts_stand bytes events)
+  pub lines : IsTrue (parts_stand bytes events)
+  pub chunks : IsTrue (chunks_stand false events)
 
 -- The chunks are read.
 
