@@ -1,4 +1,5 @@
 pub mod BlocksLemmas
+pub mod FilledLemmas
 pub mod NestedLemmas
 mod Rows
 pub mod SpelledLemmas

@@ -1,6 +1,6 @@
 -- What events are read as.
-use Rattle.std.proofs.Common.{◌≡◌, ℕ, ◌+◌, Bool, true, false, cond, List, [], ◌∷◌, ◌++◌, length, refl, ap, sym, ◌∙◌, subst}
-use Rattle.std.specs.Prelude.{Option, Some, None, IsTrue, option_map, nat_lt}
+use Rattle.std.proofs.Common.{◌≡◌, ℕ, ◌+◌, Bool, true, false, cond, List, [], ◌∷◌, ◌++◌, length, refl, ap, sym, ◌∙◌, append_assoc}
+use Rattle.std.specs.Prelude.{Option, Some, None, option_map, nat_lt, slice_range}
 use Rattle.md_engine.specs.declared.event.Point.{Point}
 use Rattle.md_engine.specs.declared.event.Event.{Event}
 use Rattle.md_engine.specs.declared.event.Kind.{Kind}
@@ -10,7 +10,7 @@ use Rattle.md_engine.specs.declared.event.Name.TheVariants as n
 use Rattle.md_seam.specs.Tree as t
 use Rattle.md_seam.specs.Texts.{split_lines, each_after_white}
 use Rattle.md_seam.specs.Nested.{enter, exit, around}
-use Rattle.md_seam.specs.Spelled.{Reading, Text, Leaf, Role, Holds, Opens, Tells, IsFence, IsTitle, IsRow, IsCell, IsPrefix, IsEnding, IsQuiet, role, then_block, add_block, begun, text_to, before_prefix, after_prefix, at_ending, on_leaf, next_line, read_by, read, unread, spelled}
+use Rattle.md_seam.specs.Spelled.{Reading, Text, Leaf, Role, Holds, Opens, Tells, IsFence, IsTitle, IsRow, IsCell, IsPrefix, IsEnding, IsQuiet, role, then_block, add_block, byte_at, text_to, before_prefix, after_prefix, at_ending, on_leaf, next_line, read_by, read, unread, spelled}
 
 -- a reader goes on over what is appended
 pub read-append : (bytes : List ℕ) (r : Reading) (xs ys : List Event) → read bytes r (xs ++ ys) ≡ read bytes (read bytes r xs) ys
@@ -151,3 +151,49 @@ read-text bytes r text (f ∷ es) e h =
     let next : Text = text_by bytes f.kind (role f.name) f.point text in
     ap (λ (x : Reading). read bytes x es) (step-text bytes r text e f.kind (role f.name) f.point h.0)
     ∙ read-text bytes (record r { text = Some next }) next es refl h.1
+
+-- what an inline layer gives moves no text
+pub text-inline : (bytes : List ℕ) (text : Text) (es : List Event) → Roles QuietOrEnding es → text_after bytes text es ≡ text
+text-inline bytes text [] h = refl
+text-inline bytes text (e ∷ es) h = ap (λ (x : Text). text_after bytes x es) (go e.kind (role e.name) h.0) ∙ text-inline bytes text es h.1
+  where
+    go : (kind : Kind) (x : Role) → QuietOrEnding x → text_by bytes kind x e.point text ≡ text
+    go Enter IsQuiet h = refl
+    go Exit IsQuiet h = refl
+    go Enter IsEnding h = refl
+    go Exit IsEnding h = refl
+    go kind _ h = absurd h
+
+-- A container prefix in a text, and the events behind it.
+pub record Cut : Type 0 where
+  pub first : Point
+  pub inside : List Event
+  pub after : Point
+  pub events : List Event
+
+abbrev pub cut_events : List Cut → List Event
+cut_events [] = []
+cut_events (cut ∷ cuts) = around n.BlockQuotePrefix cut.first cut.after cut.inside ++ (cut.events ++ cut_events cuts)
+
+-- the text from a byte to a byte, without these prefixes
+abbrev pub cut_text : List ℕ → ℕ → List Cut → ℕ → List ℕ
+cut_text bytes from [] end = slice_range bytes from end
+cut_text bytes from (cut ∷ cuts) end = slice_range bytes from cut.first.index ++ cut_text bytes (byte_at cut.after) cuts end
+
+abbrev pub CutsInline : List Cut → Type 0
+CutsInline [] = Unit {0}
+CutsInline (cut ∷ cuts) = Roles QuietOrEnding cut.inside × Roles QuietOrEnding cut.events × CutsInline cuts
+
+-- a text is what stands between its container prefixes
+pub text-cuts : (bytes : List ℕ) (text : Text) (cuts : List Cut) (end : ℕ) → CutsInline cuts → text_to bytes end (text_after bytes text (cut_events cuts)) ≡ text.front ++ cut_text bytes text.from cuts end
+text-cuts bytes text [] end h = refl
+text-cuts bytes text (cut ∷ cuts) end h =
+    let behind : Text = record text { front = text_to bytes cut.first.index text; from = byte_at cut.after } in
+    ap (text_to bytes end)
+        (ap (λ (l : List Event). text_after bytes (before_prefix bytes cut.first text) l) (append_assoc cut.inside (exit n.BlockQuotePrefix cut.after ∷ []) (cut.events ++ cut_events cuts))
+          ∙ text_after-append bytes (before_prefix bytes cut.first text) cut.inside (exit n.BlockQuotePrefix cut.after ∷ cut.events ++ cut_events cuts)
+          ∙ ap (λ (x : Text). text_after bytes x (exit n.BlockQuotePrefix cut.after ∷ cut.events ++ cut_events cuts)) (text-inline bytes (before_prefix bytes cut.first text) cut.inside h.0)
+          ∙ text_after-append bytes behind cut.events (cut_events cuts)
+          ∙ ap (λ (x : Text). text_after bytes x (cut_events cuts)) (text-inline bytes behind cut.events h.1))
+      ∙ text-cuts bytes behind cuts end h.2
+      ∙ append_assoc text.front (slice_range bytes text.from cut.first.index) (cut_text bytes (byte_at cut.after) cuts end)
