@@ -1,1 +1,15 @@
 pub mod Tree
+pub mod Lines
+pub mod Rest
+pub mod Html
+pub mod Definition
+pub mod Table
+pub mod State
+pub mod Preamble
+pub mod Containers
+pub mod Leaves
+pub mod Step
+pub mod Grouped
+pub mod Meaning
+pub mod Outline
+pub mod Wrapped
