@@ -1,5 +1,5 @@
 -- Lists: neighbouring items with the same marker byte (CommonMark 5.3).
-use Rattle.std.specs.Prelude.{ℕ, ◌==◌, if◌then◌else◌, List}
+use Rattle.std.specs.Prelude.{ℕ, ◌==◌, if◌then◌else◌}
 use Rattle.md_seam.specs.Tree.{Block, Quote, ListOf, Item, Footnote, Blocks, End, More}
 
 -- this item before these blocks: in their first list if the marker is the same, else in a list of its own

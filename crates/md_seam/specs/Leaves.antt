@@ -1,11 +1,11 @@
 -- Leaf blocks: where they start, and how they go on.
 use Rattle.std.specs.Prelude.{ℕ, ◌-◌, Bool, true, false, ◌&&◌, ◌||◌, ◌==◌, not, nat_le, if◌then◌else◌, List, [], ◌∷◌, ◌++◌, length, take, drop, reverse, count_by, Option, Some, None}
-use Rattle.std.specs.List.{list_all, list_any, prefix_len, suffix_len, take_while}
+use Rattle.std.specs.List.{list_all, list_any, suffix_len, take_while}
 use Rattle.std.specs.Option.{option_or, is_some}
 use Rattle.md_engine.specs.declared.configuration.ParseOptions.{ParseOptions}
 use Rattle.md_seam.specs.Tree.{Line, Block, Heading, Break, Html, Blocks}
 use Rattle.md_seam.specs.Rest.{Rest, is_white, is_blank, is_parted, run_len, trim_start, trim_end, trim, indent, has_small_indent, is_small, lose, line_of}
-use Rattle.md_seam.specs.Html.{HtmlKind, Raw, Comment, Instruction, Declaration, Cdata, Basic, Complete, html_kind, html_ends}
+use Rattle.md_seam.specs.Html.{HtmlKind, Basic, Complete, html_kind, html_ends}
 use Rattle.md_seam.specs.Table.{delimiter_columns, row_cells, is_head}
 use Rattle.md_seam.specs.State.{Kept, Opening, Leaf, NoLeaf, OpenParagraph, OpenCode, OpenFence, OpenHtml, OpenTable, Spot, then_block, then_definitions, shut_paragraph, kept, texts, cut, fence_block}
 

@@ -1,5 +1,5 @@
 -- The lines of a text (CommonMark 2.1).
-use Rattle.std.specs.Prelude.{ℕ, Bool, true, false, ◌&&◌, ◌||◌, ◌==◌, not, if◌then◌else◌, List, [], ◌∷◌, map}
+use Rattle.std.specs.Prelude.{ℕ, Bool, false, ◌&&◌, ◌||◌, ◌==◌, not, if◌then◌else◌, List, [], ◌∷◌, map}
 use Rattle.std.specs.List.{take_while}
 
 -- a line feed or a carriage return

@@ -2,8 +2,8 @@
 use Rattle.std.specs.Prelude.{ℕ, List, Option, Some, None}
 use Rattle.md_engine.specs.declared.configuration.ParseOptions.{ParseOptions}
 use Rattle.md_seam.specs.Tree.{Block, Blocks, End, More}
-use Rattle.md_seam.specs.State.{Path, At, closed}
-use Rattle.md_seam.specs.Preamble.{Preamble, preamble}
+use Rattle.md_seam.specs.State.{At, closed}
+use Rattle.md_seam.specs.Preamble.{preamble}
 use Rattle.md_seam.specs.Step.{spot_of, steps}
 use Rattle.md_seam.specs.Grouped.{grouped}
 

@@ -1,5 +1,5 @@
 -- The outline of a tree: its lines from the first to the last.
-use Rattle.std.specs.Prelude.{ℕ, ◌+◌, Bool, List, [], ◌∷◌, ◌++◌, map, length, Option, Some, None}
+use Rattle.std.specs.Prelude.{ℕ, ◌+◌, List, [], ◌∷◌, ◌++◌, map, length, Option, Some, None}
 use Rattle.md_seam.specs.declared.outline.Word.{Word}
 use Rattle.md_seam.specs.declared.outline.Word.TheVariants as word
 use Rattle.md_seam.specs.Tree.{Line, Block, Frontmatter, Quote, ListOf, Item, Footnote, Heading, Break, Code, Html, Fence, Math, Definition, Paragraph, Table, Blocks, End, More}
