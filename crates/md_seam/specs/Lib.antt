@@ -1,1 +1,7 @@
 pub mod Tree
+pub mod Bytes
+pub mod Html
+pub mod Enclosed
+pub mod Definition
+pub mod Table
+pub mod Label
