@@ -1,7 +1,9 @@
 pub mod Tree
+pub mod Bytes
 pub mod Lines
 pub mod Rest
 pub mod Html
+pub mod Enclosed
 pub mod Definition
 pub mod Table
 pub mod State
@@ -11,5 +13,6 @@ pub mod Leaves
 pub mod Step
 pub mod Grouped
 pub mod Meaning
+pub mod Label
 pub mod Outline
 pub mod Wrapped
