@@ -55,7 +55,7 @@ kinds_rows =
 
 -- the kind that begins at each text
 kinds : map (λ row. html_kind row.0) kinds_rows ≡ map (λ row. row.1) kinds_rows
-unfolding kind_after begins_raw begins_basic begins_complete ends_opening after_attribute after_assignment after_value
+unfolding html_kind kind_after begins_raw begins_basic begins_complete ends_opening after_attribute after_assignment after_value
 kinds = refl
 
 abbrev ends_raw_rows : List (List ℕ × Bool)
@@ -176,16 +176,16 @@ definitions_rows =
 
 -- the definitions that are cut from the front of the lines, and the lines that remain
 definitions : map (λ row. cut_definitions row.0) definitions_rows ≡ map (λ row. row.1) definitions_rows
-unfolding label_at enclosed_lines enclosed destination_at balanced title_at definition_at cut_at_most
+unfolding label_at enclosed_lines enclosed destination_at balanced title_at definition_at cut_at_most cut_definitions
 definitions = refl
 
 -- a label of 999 bytes, and one of 1000 bytes, of which the whitespace before an ending counts and the ending does not
 long_label : cut_definitions ((91 ∷ (replicate 999 97 ++ codes "]: b")) ∷ []) ≡ (record { label = replicate 999 97 ∷ []; destination = codes "b"; title = None } ∷ [], [])
-unfolding label_at enclosed_lines enclosed destination_at balanced title_at definition_at cut_at_most
+unfolding label_at enclosed_lines enclosed destination_at balanced title_at definition_at cut_at_most cut_definitions
 long_label = refl
 
 longer_label : cut_definitions ((91 ∷ (replicate 998 97 ++ codes "  ")) ∷ codes "]:b" ∷ []) ≡ ([], (91 ∷ (replicate 998 97 ++ codes "  ")) ∷ codes "]:b" ∷ [])
-unfolding label_at enclosed_lines enclosed destination_at balanced title_at definition_at cut_at_most
+unfolding label_at enclosed_lines enclosed destination_at balanced title_at definition_at cut_at_most cut_definitions
 longer_label = refl
 
 abbrev cells_rows : List (List ℕ × List (List ℕ))
@@ -207,7 +207,7 @@ cells_rows =
 
 -- the cells of each row
 cells : map (λ row. row_cells row.0) cells_rows ≡ map (λ row. row.1) cells_rows
-unfolding pieces
+unfolding row_cells pieces
 cells = refl
 
 abbrev delimiters_rows : List (List ℕ × Option ℕ)
@@ -232,7 +232,7 @@ delimiters_rows =
 
 -- how many columns each delimiter row has
 delimiters : map (λ row. delimiter_columns row.0) delimiters_rows ≡ map (λ row. row.1) delimiters_rows
-unfolding delimiter_columns pieces
+unfolding delimiter_columns row_cells pieces
 delimiters = refl
 
 abbrev heads_rows : List (List ℕ × Bool)
@@ -246,6 +246,7 @@ heads_rows =
 
 -- whether each line may be a head
 heads : map (λ row. is_head row.0) heads_rows ≡ map (λ row. row.1) heads_rows
+unfolding is_head
 heads = refl
 
 abbrev spaces_rows : List (List (List ℕ) × List ℕ)

@@ -1,10 +1,10 @@
 -- Containers: block quotes, list items and footnote definitions.
 use Rattle.std.specs.Prelude.{ℕ, ◌+◌, Bool, true, false, ◌&&◌, ◌||◌, ◌==◌, not, nat_le, nat_eq, if◌then◌else◌, List, [], ◌∷◌, length, drop, Option, Some, None}
-use Rattle.std.specs.List.{starts_with}
+use Rattle.std.specs.List.{starts_with, take_while}
 use Rattle.std.specs.Option.{option_or}
 use Rattle.md_engine.specs.declared.configuration.ParseOptions.{ParseOptions}
-use Rattle.md_seam.specs.Bytes.{front, is_space, is_blank, begins}
-use Rattle.md_seam.specs.Rest.{Rest, is_parted, indent, has_small_indent, lose, behind_indent, behind}
+use Rattle.md_seam.specs.Lines.{begins_with}
+use Rattle.md_seam.specs.Rest.{Rest, is_white, is_blank, is_parted, indent, has_small_indent, lose, behind_indent, behind}
 use Rattle.md_seam.specs.State.{Container, InQuote, InItem, InFootnote}
 use Rattle.md_seam.specs.Leaves.{is_rule}
 
@@ -17,7 +17,7 @@ pub record Taken : Type 0 where
 unfoldable pub quote_taken : ParseOptions → Rest → Option Taken
 quote_taken options r =
     let marker = behind_indent r in
-    if has_small_indent options r && begins (λ b. b == 62) marker.bytes
+    if has_small_indent options r && begins_with 62 marker.bytes
     then Some (record { container = InQuote; rest = lose 1 (behind 1 marker) })
     else None
 
@@ -65,7 +65,7 @@ marker_behind digits (b ∷ bytes) = if (b == 46) || (b == 41) then Some (record
 abbrev pub list_marker : List ℕ → Option Marker
 list_marker [] = None
 list_marker (b ∷ bytes) =
-    let digits = front is_digit (b ∷ bytes) in
+    let digits = take_while is_digit (b ∷ bytes) in
     if is_bullet b then Some (record { digits = []; byte = b })
     else if nat_le 1 (length digits) && nat_le (length digits) 9 then marker_behind digits (drop (length digits) (b ∷ bytes))
     else None
@@ -125,13 +125,13 @@ footnote_label escaped [] = None
 footnote_label escaped (b ∷ bytes) =
     if escaped && is_label_mark b then with_label_byte b (footnote_label false bytes)
     else if b == 93 then Some (record { label = []; after = bytes })
-    else if is_space b || (b == 91) then None
+    else if is_white b || (b == 91) then None
     else with_label_byte b (footnote_label (b == 92) bytes)
 
 abbrev pub footnote_by : Rest → Option Labelled → Option Taken
 footnote_by from None = None
 footnote_by from (Some l) =
-    if nat_le 1 (length l.label) && nat_le (length l.label) 999 && begins (λ b. b == 58) l.after
+    if nat_le 1 (length l.label) && nat_le (length l.label) 999 && begins_with 58 l.after
     then Some (record { container = InFootnote l.label; rest = behind_indent (behind (length l.label + 4) from) })
     else None
 

@@ -1,8 +1,9 @@
 -- Link reference definitions (CommonMark 4.7). A paragraph's lines are given without leading spaces and tabs. What is still to
 -- come is a list of lines, of which the first may be the rest of one.
 use Rattle.std.specs.Prelude.{ℕ, zero, suc, ◌+◌, ◌-◌, Bool, true, false, ◌&&◌, ◌||◌, not, nat_lt, nat_le, ◌==◌, if◌then◌else◌, List, [], ◌∷◌, length, sum_by, Option, Some, None}
-use Rattle.std.specs.List.{list_all}
-use Rattle.md_seam.specs.Bytes.{is_space, is_blank, front, after, begins, after_spaces}
+use Rattle.std.specs.List.{list_all, take_while}
+use Rattle.md_seam.specs.Rest.{is_blank, is_parted, trim_start}
+use Rattle.md_seam.specs.Bytes.{after}
 use Rattle.md_seam.specs.Enclosed.{Closed, Open, Broken, enclosed, Lines, enclosed_lines}
 
 pub record Defined : Type 0 where
@@ -34,7 +35,7 @@ after_colon ((b ∷ bs) ∷ lines) = if b == 58 then Some (bs ∷ lines) else No
 -- what follows spaces and tabs with at most one line ending
 abbrev pub after_gap : List (List ℕ) → List (List ℕ)
 after_gap [] = []
-after_gap (line ∷ lines) = if is_blank line then lines else after_spaces line ∷ lines
+after_gap (line ∷ lines) = if is_blank line then lines else trim_start line ∷ lines
 
 -- A destination, and what follows it on its line.
 pub record Destination : Type 0 where
@@ -60,7 +61,7 @@ unfoldable pub destination_at : List ℕ → Option Destination
 destination_at [] = None
 destination_at (b ∷ bs) =
     if b == 60 then elim (enclosed 60 62 false bs) [ Closed text rest ↦ Some (record { text = text; rest = rest }) | Open ↦ None | Broken ↦ None ]
-    else if is_raw_byte b && balanced 0 false (front is_raw_byte (b ∷ bs)) then Some (record { text = front is_raw_byte (b ∷ bs); rest = after is_raw_byte (b ∷ bs) })
+    else if is_raw_byte b && balanced 0 false (take_while is_raw_byte (b ∷ bs)) then Some (record { text = take_while is_raw_byte (b ∷ bs); rest = after is_raw_byte (b ∷ bs) })
     else None
 
 -- the mark that closes a title which begins with this byte
@@ -80,7 +81,7 @@ title_at ((b ∷ bs) ∷ lines) = elim (title_closer b) [ Some closer ↦ alone 
 
 -- the title behind a destination, after whitespace with at most one line ending
 abbrev pub title_after : List ℕ → List (List ℕ) → Option Lines
-title_after rest lines = if begins is_space rest || is_blank rest then title_at (after_gap (rest ∷ lines)) else None
+title_after rest lines = if is_parted rest then title_at (after_gap (rest ∷ lines)) else None
 
 -- A definition, and the lines behind it.
 pub record Cut : Type 0 where
@@ -114,5 +115,5 @@ cut_at_most zero lines = ([], lines)
 cut_at_most (suc n) lines = elim (definition_at lines) [ Some cut ↦ with_definition cut.defined (cut_at_most n cut.rest) | None ↦ ([], lines) ]
 
 -- the definitions at the front of a paragraph, and the lines that remain
-abbrev pub cut_definitions : List (List ℕ) → List Defined × List (List ℕ)
+unfoldable pub cut_definitions : List (List ℕ) → List Defined × List (List ℕ)
 cut_definitions lines = cut_at_most (length lines) lines

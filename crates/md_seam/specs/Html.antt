@@ -1,9 +1,11 @@
 -- HTML blocks: how each of the seven kinds begins and ends (CommonMark 4.6).
-use Rattle.std.specs.Prelude.{ℕ, zero, suc, Bool, true, false, ◌&&◌, ◌||◌, not, ◌==◌, if◌then◌else◌, List, [], ◌∷◌, ◌++◌, length, Option, Some, None, codes, nat_eq}
-use Rattle.std.specs.List.{list_any, starts_with}
+use Rattle.std.specs.Prelude.{ℕ, zero, suc, Bool, false, ◌&&◌, ◌||◌, not, ◌==◌, if◌then◌else◌, List, [], ◌∷◌, ◌++◌, length, Option, Some, None, codes, nat_eq}
+use Rattle.std.specs.List.{list_any, starts_with, take_while}
 use Rattle.std.specs.Char.{is_ascii_alphabetic, is_ascii_alphanumeric}
 use Rattle.std.specs.Str.{str_eq_ignore_ascii_case, str_to_ascii_lowercase}
-use Rattle.md_seam.specs.Bytes.{is_space, is_blank, front, after, begins, after_optional, after_spaces}
+use Rattle.md_seam.specs.Lines.{begins_with}
+use Rattle.md_seam.specs.Rest.{is_white, is_blank, is_parted, trim_start}
+use Rattle.md_seam.specs.Bytes.{after, begins, after_optional}
 
 -- The kinds 1 to 7 of the standard, in its order.
 pub data HtmlKind : Type 0 where
@@ -45,16 +47,15 @@ is_tag_byte b = is_ascii_alphanumeric b || (b == 45)
 
 -- what may follow a name of kind 1: the end of the line, a space, a tab or `>`
 abbrev pub ends_name : List ℕ → Bool
-ends_name [] = true
-ends_name (b ∷ rest) = is_space b || (b == 62)
+ends_name rest = is_parted rest || begins_with 62 rest
 
 -- whether kind 1 begins, after `<`
 unfoldable pub begins_raw : List ℕ → Bool
-begins_raw rest = is_name_of raw_names (front is_tag_byte rest) && ends_name (after is_tag_byte rest)
+begins_raw rest = is_name_of raw_names (take_while is_tag_byte rest) && ends_name (after is_tag_byte rest)
 
 -- whether kind 6 begins, after `<` or `</`: its name may also be followed by `/>`
 unfoldable pub begins_basic : List ℕ → Bool
-begins_basic rest = is_name_of basic_names (front is_tag_byte rest) && (ends_name (after is_tag_byte rest) || starts_with nat_eq (after is_tag_byte rest) (codes "/>"))
+begins_basic rest = is_name_of basic_names (take_while is_tag_byte rest) && (ends_name (after is_tag_byte rest) || starts_with nat_eq (after is_tag_byte rest) (codes "/>"))
 
 -- the first byte of an attribute's name, and the others (CommonMark 6.6)
 abbrev pub begins_attribute : ℕ → Bool
@@ -65,7 +66,7 @@ is_attribute_byte b = is_ascii_alphanumeric b || (b == 95) || (b == 46) || (b ==
 
 -- the bytes of a value without quotes: no space, tab, `"`, `'`, `=`, `<`, `>` or backtick (CommonMark 6.6)
 abbrev pub is_value_byte : ℕ → Bool
-is_value_byte b = not (is_space b || (b == 34) || (b == 39) || (b == 61) || (b == 60) || (b == 62) || (b == 96))
+is_value_byte b = not (is_white b || (b == 34) || (b == 39) || (b == 61) || (b == 60) || (b == 62) || (b == 96))
 
 -- what follows the next such byte, if there is one
 abbrev pub after_next : ℕ → List ℕ → Option (List ℕ)
@@ -83,12 +84,12 @@ after_value (b ∷ bs) =
 -- what follows the value of an attribute that may have one, after its name
 unfoldable pub after_assignment : List ℕ → Option (List ℕ)
 after_assignment rest =
-    if begins (λ b. b == 61) (after_spaces rest) then after_value (after_spaces (after_optional 61 (after_spaces rest))) else Some rest
+    if begins_with 61 (trim_start rest) then after_value (trim_start (after_optional 61 (trim_start rest))) else Some rest
 
 -- what follows an attribute: whitespace, a name, and perhaps `=` and a value
 unfoldable pub after_attribute : List ℕ → Option (List ℕ)
 after_attribute rest =
-    if begins is_space rest && begins begins_attribute (after_spaces rest) then after_assignment (after is_attribute_byte (after_spaces rest)) else None
+    if begins is_white rest && begins begins_attribute (trim_start rest) then after_assignment (after is_attribute_byte (trim_start rest)) else None
 
 -- what follows at most so many attributes
 abbrev pub after_attributes : ℕ → List ℕ → List ℕ
@@ -97,18 +98,17 @@ after_attributes (suc n) rest = elim (after_attribute rest) [ Some more ↦ afte
 
 -- whether `>` is next and then spaces and tabs to the end of the line
 abbrev pub closes_tag : List ℕ → Bool
-closes_tag [] = false
-closes_tag (b ∷ rest) = (b == 62) && is_blank rest
+closes_tag rest = begins_with 62 rest && is_blank (after_optional 62 rest)
 
 -- whether this is the rest of an opening tag after its name, with spaces and tabs to the end of the line
 unfoldable pub ends_opening : List ℕ → Bool
-ends_opening rest = closes_tag (after_optional 47 (after_spaces (after_attributes (length rest) rest)))
+ends_opening rest = closes_tag (after_optional 47 (trim_start (after_attributes (length rest) rest)))
 
 -- whether kind 7 begins, after `<`: a closing tag or an opening tag, and then spaces and tabs
 unfoldable pub begins_complete : List ℕ → Bool
 begins_complete [] = false
 begins_complete (b ∷ rest) =
-    if b == 47 then begins is_ascii_alphabetic rest && closes_tag (after_spaces (after is_tag_byte rest))
+    if b == 47 then begins is_ascii_alphabetic rest && closes_tag (trim_start (after is_tag_byte rest))
     else is_ascii_alphabetic b && ends_opening (after is_tag_byte rest)
 
 -- the kind that begins here, after `<`
@@ -124,7 +124,7 @@ kind_after rest =
     else None
 
 -- the kind that a line begins, given from its `<` on
-abbrev pub html_kind : List ℕ → Option HtmlKind
+unfoldable pub html_kind : List ℕ → Option HtmlKind
 html_kind [] = None
 html_kind (b ∷ rest) = if b == 60 then kind_after rest else None
 

@@ -2,12 +2,13 @@
 use Rattle.std.specs.Prelude.{ℕ, List, [], ◌∷◌, ◌++◌, flat_map, filter, not, chars, encode_utf8_all}
 use Rattle.std.specs.List.{join_with_byte, slice_split}
 use Rattle.caseless.specs.Caseless.{default_case_fold}
-use Rattle.md_seam.specs.Bytes.{is_space, is_end}
+use Rattle.md_seam.specs.Rest.{is_white}
+use Rattle.md_seam.specs.Bytes.{is_end}
 use Rattle.md_seam.specs.Tree as t
 
 -- the words of a line
 abbrev pub words : List ℕ → List (List ℕ)
-words line = filter (λ piece. not (is_end piece)) (slice_split is_space line)
+words line = filter (λ piece. not (is_end piece)) (slice_split is_white line)
 
 -- the lines as one, with a single space for each run of spaces, tabs and endings, and none at the ends
 abbrev pub spaced : List (List ℕ) → List ℕ

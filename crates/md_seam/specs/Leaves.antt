@@ -1,11 +1,10 @@
 -- Leaf blocks: where they start, and how they go on.
 use Rattle.std.specs.Prelude.{ℕ, ◌-◌, Bool, true, false, ◌&&◌, ◌||◌, ◌==◌, not, nat_le, if◌then◌else◌, List, [], ◌∷◌, ◌++◌, length, take, drop, reverse, count_by, Option, Some, None}
-use Rattle.std.specs.List.{list_all, list_any, suffix_len}
+use Rattle.std.specs.List.{list_all, list_any, suffix_len, take_while}
 use Rattle.std.specs.Option.{option_or, is_some}
 use Rattle.md_engine.specs.declared.configuration.ParseOptions.{ParseOptions}
 use Rattle.md_seam.specs.Tree.{Line, Block, Heading, Break, Html, Blocks}
-use Rattle.md_seam.specs.Bytes.{after, front, is_space, is_blank, after_spaces, before_spaces, trimmed}
-use Rattle.md_seam.specs.Rest.{Rest, is_parted, run_len, indent, has_small_indent, is_small, lose, line_of}
+use Rattle.md_seam.specs.Rest.{Rest, is_white, is_blank, is_parted, run_len, trim_start, trim_end, trim, indent, has_small_indent, is_small, lose, line_of}
 use Rattle.md_seam.specs.Html.{HtmlKind, Basic, Complete, html_kind, html_ends}
 use Rattle.md_seam.specs.Table.{delimiter_columns, row_cells, is_head}
 use Rattle.md_seam.specs.State.{Kept, Opening, Leaf, NoLeaf, OpenParagraph, OpenCode, OpenFence, OpenHtml, OpenTable, Spot, then_block, then_definitions, shut_paragraph, kept, texts, cut, fence_block}
@@ -39,11 +38,11 @@ is_rule_marker b = (b == 42) || (b == 45) || (b == 95)
 -- three or more of one of `*`, `-` and `_`, with spaces and tabs between and after
 abbrev pub is_rule : List ℕ → Bool
 is_rule [] = false
-is_rule (m ∷ bytes) = is_rule_marker m && list_all (λ b. (b == m) || is_space b) bytes && nat_le 2 (count_by (λ b. b == m) bytes)
+is_rule (m ∷ bytes) = is_rule_marker m && list_all (λ b. (b == m) || is_white b) bytes && nat_le 2 (count_by (λ b. b == m) bytes)
 
 unfoldable pub break_at : ParseOptions → Rest → Option Came
 break_at options r =
-    if options.constructs.thematic_break && has_small_indent options r && is_rule (after_spaces r.bytes)
+    if options.constructs.thematic_break && has_small_indent options r && is_rule (trim_start r.bytes)
     then Some (Finished Break)
     else None
 
@@ -56,9 +55,9 @@ without_closing text = take (length text - suffix_len (λ b. b == 35) text) text
 -- what follows the opening run, without a closing run that is all of it or stands behind whitespace
 abbrev pub heading_text : List ℕ → List ℕ
 heading_text after =
-    let text = trimmed after in
+    let text = trim after in
     let front = without_closing text in
-    if is_parted (reverse front) then before_spaces front else text
+    if is_parted (reverse front) then trim_end front else text
 
 -- an empty text gives no line
 abbrev pub heading_lines : List ℕ → List (List ℕ)
@@ -68,7 +67,7 @@ heading_lines (b ∷ text) = (b ∷ text) ∷ []
 -- a small indent, 1 to 6 `#`, and then whitespace or the end of the line
 unfoldable pub heading_at : ParseOptions → Rest → Option Came
 heading_at options r =
-    let text = after_spaces r.bytes in
+    let text = trim_start r.bytes in
     let depth = run_len 35 text in
     if options.constructs.heading_atx && has_small_indent options r && nat_le 1 depth && nat_le depth 6 && is_parted (drop depth text)
     then Some (Finished (Heading depth (heading_lines (heading_text (drop depth text)))))
@@ -110,10 +109,10 @@ nonempty [] = None
 nonempty (b ∷ bytes) = Some (b ∷ bytes)
 
 abbrev pub first_word : List ℕ → List ℕ
-first_word text = front (λ b. not (is_space b)) text
+first_word text = take_while (λ b. not (is_white b)) text
 
 abbrev pub behind_word : List ℕ → List ℕ
-behind_word text = after_spaces (after (λ b. not (is_space b)) text)
+behind_word text = trim_start (drop (length (first_word text)) text)
 
 -- an opening fence; math has no info, and its meta is the whole rest
 abbrev pub opening : ℕ → ℕ → ℕ → List ℕ → Opening
@@ -131,17 +130,17 @@ fence_from options columns (m ∷ bytes) =
     let size = run_len m (m ∷ bytes) in
     let after = drop size (m ∷ bytes) in
     if is_fence_marker options m && nat_le (least_size m) size && allows m after
-    then Some (Opened (OpenFence (opening m size columns (after_spaces after)) []))
+    then Some (Opened (OpenFence (opening m size columns (trim_start after)) []))
     else None
 
 -- a small indent, a run of markers, and what may follow it
 unfoldable pub fence_at : ParseOptions → Rest → Option Came
-fence_at options r = if has_small_indent options r then fence_from options (indent r) (after_spaces r.bytes) else None
+fence_at options r = if has_small_indent options r then fence_from options (indent r) (trim_start r.bytes) else None
 
 -- a small indent, at least as many of the same marker, and nothing else
 abbrev pub closes : ParseOptions → Opening → Rest → Bool
 closes options o r =
-    let text = after_spaces r.bytes in
+    let text = trim_start r.bytes in
     let size = run_len o.marker text in
     has_small_indent options r && nat_le o.size size && is_blank (drop size text)
 
@@ -177,7 +176,7 @@ html_by against r (Some kind) = if may_start against kind then Some (html_line k
 -- a small indent, and then one of the seven beginnings
 unfoldable pub html_at : ParseOptions → Against → Rest → Option Came
 html_at options against r =
-    if options.constructs.html_flow && has_small_indent options r then html_by against r (html_kind (after_spaces r.bytes)) else None
+    if options.constructs.html_flow && has_small_indent options r then html_by against r (html_kind (trim_start r.bytes)) else None
 
 unfoldable pub html_goes_on : HtmlKind → List Line → Rest → Option Came
 html_goes_on kind lines r = if ends_at_blank kind && is_blank r.bytes then None else Some (html_line kind lines r)
@@ -215,7 +214,7 @@ is_run m (b ∷ bytes) = list_all (λ c. c == m) (b ∷ bytes)
 -- the depth of the heading that this line underlines: a run of `=` or of `-` with a small indent (CommonMark 4.3)
 unfoldable pub underline_depth : ParseOptions → Rest → Option ℕ
 underline_depth options r =
-    let text = trimmed r.bytes in
+    let text = trim r.bytes in
     if options.constructs.heading_setext && has_small_indent options r
     then if is_run 61 text then Some 1 else if is_run 45 text then Some 2 else None
     else None
@@ -249,5 +248,5 @@ table_by options bs (k ∷ before) delimiter (Some columns) =
 unfoldable pub table_at : ParseOptions → Blocks → List Kept → Rest → Option Spot
 table_at options bs lines r =
     if options.constructs.gfm_table && has_small_indent options r
-    then table_by options bs (reverse lines) (trimmed r.bytes) (delimiter_columns (trimmed r.bytes))
+    then table_by options bs (reverse lines) (trim r.bytes) (delimiter_columns (trim r.bytes))
     else None

@@ -1,11 +1,12 @@
 pub mod Tree
-pub mod Bytes
 pub mod Lines
 pub mod Rest
+pub mod Bytes
 pub mod Html
 pub mod Enclosed
 pub mod Definition
 pub mod Table
+pub mod Label
 pub mod State
 pub mod Preamble
 pub mod Containers
@@ -13,6 +14,5 @@ pub mod Leaves
 pub mod Step
 pub mod Grouped
 pub mod Meaning
-pub mod Label
 pub mod Outline
 pub mod Wrapped

@@ -1,9 +1,8 @@
 -- The rest of a line: what no prefix has taken (CommonMark 2.2).
-use Rattle.std.specs.Prelude.{ℕ, zero, suc, ◌+◌, ◌-◌, ◌%◌, Bool, true, ◌||◌, ◌==◌, not, nat_le, if◌then◌else◌, List, [], ◌∷◌, drop}
-use Rattle.std.specs.List.{prefix_len}
+use Rattle.std.specs.Prelude.{ℕ, zero, suc, ◌+◌, ◌-◌, ◌%◌, Bool, true, ◌||◌, ◌==◌, not, nat_le, if◌then◌else◌, List, [], ◌∷◌, length, take, drop}
+use Rattle.std.specs.List.{list_all, prefix_len, suffix_len}
 use Rattle.md_engine.specs.declared.configuration.ParseOptions.{ParseOptions}
 use Rattle.md_seam.specs.Tree.{Line}
-use Rattle.md_seam.specs.Bytes.{is_space}
 
 -- the column from 0 at which it begins, the virtual spaces there (columns left of a cut tab), and the bytes behind them
 pub record Rest : Type 0 where
@@ -11,14 +10,32 @@ pub record Rest : Type 0 where
   pub spaces : ℕ
   pub bytes : List ℕ
 
+-- a space or a tab
+abbrev pub is_white : ℕ → Bool
+is_white b = (b == 32) || (b == 9)
+
+-- only spaces and tabs
+abbrev pub is_blank : List ℕ → Bool
+is_blank bytes = list_all is_white bytes
+
 -- nothing, or a space or a tab comes first
 abbrev pub is_parted : List ℕ → Bool
 is_parted [] = true
-is_parted (b ∷ bytes) = is_space b
+is_parted (b ∷ bytes) = is_white b
 
 -- how many of this byte stand at the front
 abbrev pub run_len : ℕ → List ℕ → ℕ
 run_len m bytes = prefix_len (λ b. b == m) bytes
+
+abbrev pub trim_start : List ℕ → List ℕ
+trim_start bytes = drop (prefix_len is_white bytes) bytes
+
+abbrev pub trim_end : List ℕ → List ℕ
+trim_end bytes = take (length bytes - suffix_len is_white bytes) bytes
+
+-- without outer spaces and tabs
+abbrev pub trim : List ℕ → List ℕ
+trim bytes = trim_end (trim_start bytes)
 
 -- the columns of a tab: it reaches to the next multiple of 4 (CommonMark 2.2)
 abbrev pub tab_columns : ℕ → ℕ

@@ -3,8 +3,7 @@ use Rattle.std.specs.Prelude.{ℕ, ◌-◌, Bool, false, ◌==◌, if◌then◌e
 use Rattle.std.specs.List.{suffix_len}
 use Rattle.md_engine.specs.declared.configuration.ParseOptions.{ParseOptions}
 use Rattle.md_seam.specs.Tree.{Line, Block, Quote, Item, Footnote, Code, Html, Fence, Math, Definition, Paragraph, Table, Blocks, End, More}
-use Rattle.md_seam.specs.Bytes.{is_blank, after_spaces}
-use Rattle.md_seam.specs.Rest.{Rest, indent}
+use Rattle.md_seam.specs.Rest.{Rest, is_blank, indent, trim_start}
 use Rattle.md_seam.specs.Html.{HtmlKind}
 use Rattle.md_seam.specs.Definition.{Defined, cut_definitions}
 
@@ -75,7 +74,7 @@ then_paragraph bs [] = bs
 then_paragraph bs (line ∷ lines) = then_block bs (Paragraph (line ∷ lines))
 
 abbrev pub kept : Rest → Kept
-kept r = record { indent = indent r; text = after_spaces r.bytes }
+kept r = record { indent = indent r; text = trim_start r.bytes }
 
 abbrev pub texts : List Kept → List (List ℕ)
 texts lines = map (λ k. k.text) lines
