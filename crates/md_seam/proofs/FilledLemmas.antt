@@ -107,7 +107,7 @@ same-unlinked : (bytes : List ℕ) (e : Event) (es : List Event) (inside : Bool)
     (inside ≡ true → HasText (read_by bytes e.kind (role e.name) e.point r)) → EachInline lists → read bytes r (filled_from false (e ∷ es) lists) ≡ read bytes r (e ∷ es)
 same-unlinked bytes e es inside r lists same unlinked stands has each =
     ap (λ (x : Bool). read bytes r (cond x (first_list lists ++ filled_from true es (further_lists lists)) (e ∷ filled_from false es lists))) unlinked
-      ∙ same inside (read_by bytes e.kind (role e.name) e.point r) lists stands has each
+    ∙ same inside (read_by bytes e.kind (role e.name) e.point r) lists stands has each
 
 not-true : (x : Bool) → not x ≡ true → x ≡ false
 not-true false h = refl
@@ -127,14 +127,14 @@ same-linked bytes e (f ∷ es) r lists same linked chunk stands has each =
     let ends : read_by bytes f.kind (role f.name) f.point r ≡ r = quiet-kept bytes f.kind (role f.name) f.point r (data-role f.name parts.1) in
     let behind : cond (is_part f.name && is_exit f.kind) (not (is_linked f) && chunks_stand false es) (stands_in_part f.name && chunk_stands f es && chunks_stand true es) ≡ true = stands in
     let on : chunks_stand true es ≡ true =
-      (and_parts (stands_in_part f.name && chunk_stands f es) (chunks_stand true es)
-        (subst (λ (x : Bool). cond (x && is_exit f.kind) (not (is_linked f) && chunks_stand false es) (stands_in_part f.name && chunk_stands f es && chunks_stand true es) ≡ true) (data-no_part f.name parts.1) behind)).1 in
+    (and_parts (stands_in_part f.name && chunk_stands f es) (chunks_stand true es)
+    (subst (λ (x : Bool). cond (x && is_exit f.kind) (not (is_linked f) && chunks_stand false es) (stands_in_part f.name && chunk_stands f es && chunks_stand true es) ≡ true) (data-no_part f.name parts.1) behind)).1 in
     ap (λ (x : Bool). read bytes r (cond x (first_list lists ++ filled_from true (f ∷ es) (further_lists lists)) (e ∷ filled_from false (f ∷ es) lists))) linked
-      ∙ read-append bytes r (first_list lists) (filled_from false es (further_lists lists))
-      ∙ ap (λ (x : Reading). read bytes x (filled_from false es (further_lists lists))) (read-inline bytes r has.0 (first_list lists) has.1 (first-inline lists each))
-      ∙ same true r (further_lists lists) on (λ t. has) (further-inline lists each)
-      ∙ ap (λ (x : Reading). read bytes x es) (sym ends)
-      ∙ ap (λ (x : Reading). read bytes (read_by bytes f.kind (role f.name) f.point x) es) (sym starts)
+    ∙ read-append bytes r (first_list lists) (filled_from false es (further_lists lists))
+    ∙ ap (λ (x : Reading). read bytes x (filled_from false es (further_lists lists))) (read-inline bytes r has.0 (first_list lists) has.1 (first-inline lists each))
+    ∙ same true r (further_lists lists) on (λ t. has) (further-inline lists each)
+    ∙ ap (λ (x : Reading). read bytes x es) (sym ends)
+    ∙ ap (λ (x : Reading). read bytes (read_by bytes f.kind (role f.name) f.point x) es) (sym starts)
 
 same-step : (bytes : List ℕ) (e : Event) (es : List Event) → Same bytes es → SameBehind bytes es → Same bytes (e ∷ es)
 same-step bytes e es same behind false r lists stands has each =
@@ -200,4 +200,4 @@ read-inline_lists bytes reads frame (part ∷ parts) (l ∷ lists) each =
 pub tiles-spelled : (bytes : List ℕ) (reads : Part → List Event → Type 0) (events : List Event) → KeepsFrame bytes reads → (tiles : Tiles reads bytes events) → spelled events bytes ≡ spelled tiles.blocks bytes
 tiles-spelled bytes reads events frame tiles =
     ap (λ (es : List Event). spelled es bytes) tiles.read
-      ∙ spelled-filled bytes tiles.blocks (together tiles.lists) tiles.block_list.chunks (read-inline_lists bytes reads frame (parts tiles.blocks) tiles.lists tiles.each)
+    ∙ spelled-filled bytes tiles.blocks (together tiles.lists) tiles.block_list.chunks (read-inline_lists bytes reads frame (parts tiles.blocks) tiles.lists tiles.each)

@@ -8,9 +8,8 @@ use Rattle.md_engine.specs.declared.event.Kind.TheVariants.{Enter, Exit}
 use Rattle.md_engine.specs.declared.event.Name.{Name}
 use Rattle.md_engine.specs.declared.event.Name.TheVariants as n
 use Rattle.md_seam.specs.Tree as t
-use Rattle.md_seam.specs.Texts.{split_lines, each_after_white}
 use Rattle.md_seam.specs.Nested.{enter, exit, around}
-use Rattle.md_seam.specs.Spelled.{Reading, Text, Leaf, Role, Holds, Opens, Tells, IsFence, IsTitle, IsRow, IsCell, IsPrefix, IsEnding, IsQuiet, role, then_block, add_block, byte_at, text_to, before_prefix, after_prefix, at_ending, on_leaf, next_line, read_by, read, unread, spelled}
+use Rattle.md_seam.specs.Spelled.{Reading, Text, OpenLeaf, Role, Holds, Opens, Tells, IsFence, IsTitle, IsRow, IsCell, IsPrefix, IsEnding, IsQuiet, role, add_block, byte_at, text_to, before_prefix, after_prefix, at_ending, on_leaf, next_line, read_by, read, unread, spelled}
 
 -- a reader goes on over what is appended
 pub read-append : (bytes : List ℕ) (r : Reading) (xs ys : List Event) → read bytes r (xs ++ ys) ≡ read bytes (read bytes r xs) ys
@@ -68,8 +67,8 @@ cond-same false a b e = refl
 same-text : (r : Reading) (f : Text → Text) → r.text ≡ None → record r { text = option_map f r.text } ≡ r
 same-text r f e = ap (λ (x : Option Text). record r { text = option_map f x }) e ∙ sym (ap (λ (x : Option Text). record r { text = x }) e)
 
-same-leaf : (r : Reading) (f : Leaf → Leaf) → r.leaf ≡ None → record r { leaf = option_map f r.leaf } ≡ r
-same-leaf r f e = ap (λ (x : Option Leaf). record r { leaf = option_map f x }) e ∙ sym (ap (λ (x : Option Leaf). record r { leaf = x }) e)
+same-leaf : (r : Reading) (f : OpenLeaf → OpenLeaf) → r.leaf ≡ None → record r { leaf = option_map f r.leaf } ≡ r
+same-leaf r f e = ap (λ (x : Option OpenLeaf). record r { leaf = option_map f x }) e ∙ sym (ap (λ (x : Option OpenLeaf). record r { leaf = x }) e)
 
 kept-quiet : (bytes : List ℕ) (r : Reading) (kind : Kind) (x : Role) (p : Point) → Quiet x → read_by bytes kind x p r ≡ r
 kept-quiet bytes r Enter IsQuiet p h = refl
@@ -190,10 +189,10 @@ text-cuts bytes text [] end h = refl
 text-cuts bytes text (cut ∷ cuts) end h =
     let behind : Text = record text { front = text_to bytes cut.first.index text; from = byte_at cut.after } in
     ap (text_to bytes end)
-        (ap (λ (l : List Event). text_after bytes (before_prefix bytes cut.first text) l) (append_assoc cut.inside (exit n.BlockQuotePrefix cut.after ∷ []) (cut.events ++ cut_events cuts))
-          ∙ text_after-append bytes (before_prefix bytes cut.first text) cut.inside (exit n.BlockQuotePrefix cut.after ∷ cut.events ++ cut_events cuts)
-          ∙ ap (λ (x : Text). text_after bytes x (exit n.BlockQuotePrefix cut.after ∷ cut.events ++ cut_events cuts)) (text-inline bytes (before_prefix bytes cut.first text) cut.inside h.0)
-          ∙ text_after-append bytes behind cut.events (cut_events cuts)
-          ∙ ap (λ (x : Text). text_after bytes x (cut_events cuts)) (text-inline bytes behind cut.events h.1))
-      ∙ text-cuts bytes behind cuts end h.2
-      ∙ append_assoc text.front (slice_range bytes text.from cut.first.index) (cut_text bytes (byte_at cut.after) cuts end)
+    (ap (λ (l : List Event). text_after bytes (before_prefix bytes cut.first text) l) (append_assoc cut.inside (exit n.BlockQuotePrefix cut.after ∷ []) (cut.events ++ cut_events cuts))
+    ∙ text_after-append bytes (before_prefix bytes cut.first text) cut.inside (exit n.BlockQuotePrefix cut.after ∷ cut.events ++ cut_events cuts)
+    ∙ ap (λ (x : Text). text_after bytes x (exit n.BlockQuotePrefix cut.after ∷ cut.events ++ cut_events cuts)) (text-inline bytes (before_prefix bytes cut.first text) cut.inside h.0)
+    ∙ text_after-append bytes behind cut.events (cut_events cuts)
+    ∙ ap (λ (x : Text). text_after bytes x (cut_events cuts)) (text-inline bytes behind cut.events h.1))
+    ∙ text-cuts bytes behind cuts end h.2
+    ∙ append_assoc text.front (slice_range bytes text.from cut.first.index) (cut_text bytes (byte_at cut.after) cuts end)

@@ -9,7 +9,7 @@ use Rattle.md_engine.specs.declared.event.Name.{Name}
 use Rattle.md_engine.specs.declared.event.Name.TheVariants as n
 use Rattle.md_seam.specs.declared.inline.PartKind.{PartKind}
 use Rattle.md_seam.specs.declared.inline.Chunk.{Chunk}
-use Rattle.md_seam.specs.Texts.{is_ending, split_lines}
+use Rattle.md_seam.specs.Lines.{without_ending}
 use Rattle.md_seam.specs.Places.{first_point, is_placed, same_place, past_text}
 use Rattle.md_seam.specs.Nested.{Balanced, Forward, pair}
 
@@ -51,13 +51,9 @@ Covers from (piece ∷ pieces) to = IsTrue (same_place from piece.first) × Cove
 abbrev pub chunk_text : List ℕ → Chunk → List ℕ
 chunk_text bytes chunk = slice_range bytes chunk.first.index chunk.after.index
 
-abbrev pub before_ending : List ℕ → List ℕ
-before_ending [] = []
-before_ending (b ∷ bs) = if is_ending b then [] else b ∷ before_ending bs
-
 -- the point at the end of its line
 abbrev pub line_end : List ℕ → Chunk → Point
-line_end bytes chunk = past_text (before_ending (chunk_text bytes chunk)) chunk.first
+line_end bytes chunk = past_text (without_ending (chunk_text bytes chunk)) chunk.first
 
 -- a part of this name between two points, or none if it would be empty
 abbrev pub pair_unless_empty : Name → Point → Point → List Event

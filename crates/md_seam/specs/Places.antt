@@ -1,18 +1,15 @@
 -- The points of a text: where they are, and which comes first.
-use Rattle.std.specs.Prelude.{◌≡◌, ℕ, ◌+◌, ◌-◌, ◌*◌, ◌/◌, ◌%◌, Bool, true, false, ◌&&◌, ◌||◌, ◌==◌, nat_lt, nat_le, if◌then◌else◌, List, [], ◌∷◌, length, take, drop}
+use Rattle.std.specs.Prelude.{ℕ, ◌+◌, ◌-◌, Bool, ◌&&◌, ◌||◌, ◌==◌, nat_lt, nat_le, if◌then◌else◌, List, [], ◌∷◌, length, take, drop}
 use Rattle.md_engine.specs.declared.event.Point.{Point}
+use Rattle.md_seam.specs.Rest.{tab_columns}
 use Rattle.md_seam.specs.Texts.{split_lines, first_byte}
 
 abbrev pub first_point : Point
 first_point = record { line = 1; column = 1; index = 0; vs = 0 }
 
--- the column behind a tab that begins in this column, both counted from 0 (CommonMark 2.2)
-abbrev pub next_stop : ℕ → ℕ
-next_stop column = 4 * (column / 4) + 4
-
--- the column behind this one that a byte reaches, both counted from 0
+-- the column behind a byte that begins in this column, both counted from 0 (CommonMark 2.2)
 abbrev pub column_past : ℕ → ℕ → ℕ
-column_past b column = if b == 9 then next_stop column else column + 1
+column_past b column = if b == 9 then column + tab_columns column else column + 1
 
 -- the columns up to the end of a piece of a line that begins in this column
 abbrev pub columns_from : ℕ → List ℕ → ℕ
@@ -30,7 +27,7 @@ columns_before bytes index = columns_from 0 (last_line (split_lines (take index 
 
 -- Whether virtual spaces are counted only within a tab.
 abbrev pub within_tab : List ℕ → Point → Bool
-within_tab bytes p = (p.vs == 0) || ((first_byte (drop p.index bytes) == 9) && nat_lt (columns_before bytes p.index + p.vs) (next_stop (columns_before bytes p.index)))
+within_tab bytes p = (p.vs == 0) || ((first_byte (drop p.index bytes) == 9) && nat_lt p.vs (tab_columns (columns_before bytes p.index)))
 
 -- Whether a point is one of the text: its line is 1 plus the line endings before it, its column 1 plus the columns before
 -- it on that line.

@@ -2,7 +2,7 @@
 --
 -- A fold over the events. It goes on from a half-read tree: the containers that are open, the blocks that are finished in
 -- the innermost, the leaf block that is open, and the text that is being read.
-use Rattle.std.specs.Prelude.{ℕ, ◌+◌, ◌-◌, ◌%◌, Bool, true, false, ◌==◌, nat_lt, if◌then◌else◌, List, [], ◌∷◌, ◌++◌, length, map, slice_range, Option, Some, None, option_map}
+use Rattle.std.specs.Prelude.{ℕ, ◌+◌, ◌-◌, Bool, true, false, ◌==◌, nat_lt, if◌then◌else◌, List, [], ◌∷◌, ◌++◌, length, map, slice_range, Option, Some, None, option_map}
 use Rattle.md_engine.specs.declared.event.Point.{Point}
 use Rattle.md_engine.specs.declared.event.Event.{Event}
 use Rattle.md_engine.specs.declared.event.Kind.{Kind}
@@ -11,12 +11,9 @@ use Rattle.md_engine.specs.declared.event.Name.{Name}
 use Rattle.md_engine.specs.declared.event.Name.TheVariants as n
 use Rattle.md_seam.specs.Tree.{Line, Block, Blocks, Quote, ListOf, Item, Footnote, Heading, Break, Code, Html, Fence, Math, Definition, Paragraph, Table, End, More}
 use Rattle.md_seam.specs.Tree as t
-use Rattle.md_seam.specs.Texts.{split_lines, after_white, before_white, each_after_white, further_after_white, first_byte}
-
--- these blocks, and then this one
-abbrev pub then_block : Blocks → Block → Blocks
-then_block End b = More b End
-then_block (More a bs) b = More a (then_block bs b)
+use Rattle.md_seam.specs.Rest.{trim, tab_columns}
+use Rattle.md_seam.specs.State.{then_block}
+use Rattle.md_seam.specs.Texts.{split_lines, trim_each, trim_further, first_byte}
 
 -- a list with its last item changed
 abbrev pub on_last : {A : Type 0} → (A → A) → List A → List A
@@ -30,16 +27,16 @@ without_last [] = []
 without_last (x ∷ []) = []
 without_last (x ∷ y ∷ ys) = x ∷ without_last (y ∷ ys)
 
--- A container that is open: an item with its marker and digits, a footnote definition with its label.
-pub data Container : Type 0 where
-  InQuote : Container
-  InList : Container
-  InItem : ℕ → List ℕ → Container
-  InFootnote : List ℕ → Container
+-- What is known of an open container: an item's marker and digits, the label of a footnote definition.
+pub data Shape : Type 0 where
+  QuoteShape : Shape
+  ListShape : Shape
+  ItemShape : ℕ → List ℕ → Shape
+  FootnoteShape : List ℕ → Shape
 
 -- an open container, and the blocks that were finished before it
 pub record Around : Type 0 where
-  pub container : Container
+  pub shape : Shape
   pub before : Blocks
 
 -- The kinds of leaf blocks that have parts; a paragraph is a text alone.
@@ -56,7 +53,7 @@ pub data LeafKind : Type 0 where
   OfTable : LeafKind
 
 -- A leaf block that is open, and what was found in it so far.
-pub record Leaf : Type 0 where
+pub record OpenLeaf : Type 0 where
   pub kind : LeafKind
   -- its first run of markers
   pub markers : List ℕ
@@ -87,7 +84,7 @@ pub record Reading : Type 0 where
   pub outer : List Around
   -- the finished blocks in the innermost
   pub here : Blocks
-  pub leaf : Option Leaf
+  pub leaf : Option OpenLeaf
   pub text : Option Text
 
 -- What a text is read as.
@@ -110,7 +107,7 @@ pub data Purpose : Type 0 where
 -- What a pair of events means, by its name.
 pub data Role : Type 0 where
   -- a container, as it begins
-  Holds : Container → Role
+  Holds : Shape → Role
   -- a leaf block
   Opens : LeafKind → Role
   -- the slice between the points
@@ -136,14 +133,14 @@ role n.Frontmatter = Opens OfFrontmatter
 role n.FrontmatterFence = IsFence
 role n.FrontmatterSequence = Tells AsMarkers
 role n.FrontmatterChunk = Tells AsLine
-role n.BlockQuote = Holds InQuote
+role n.BlockQuote = Holds QuoteShape
 role n.BlockQuotePrefix = IsPrefix
-role n.ListOrdered = Holds InList
-role n.ListUnordered = Holds InList
-role n.ListItem = Holds (InItem 0 [])
+role n.ListOrdered = Holds ListShape
+role n.ListUnordered = Holds ListShape
+role n.ListItem = Holds (ItemShape 0 [])
 role n.ListItemValue = Tells AsDigits
 role n.ListItemMarker = Tells AsItemMarker
-role n.GfmFootnoteDefinition = Holds (InFootnote [])
+role n.GfmFootnoteDefinition = Holds (FootnoteShape [])
 role n.GfmFootnoteDefinitionLabelString = Tells AsFootnoteLabel
 role n.HeadingAtx = Opens OfHeadingAtx
 role n.HeadingAtxSequence = Tells AsMarkers
@@ -184,7 +181,7 @@ role _ = IsQuiet
 
 -- the columns that are left of the tab at a point, where the point cuts one: virtual spaces (CommonMark 2.2)
 abbrev pub columns_left : Point → ℕ
-columns_left p = if p.vs == 0 then 0 else 4 - (p.column - 1) % 4
+columns_left p = if p.vs == 0 then 0 else tab_columns (p.column - 1)
 
 -- the first byte behind the point: a tab that is cut counts as virtual spaces
 abbrev pub byte_at : Point → ℕ
@@ -205,7 +202,7 @@ before_prefix bytes p text = record text { front = text_to bytes p.index text }
 abbrev pub after_prefix : Point → Text → Text
 after_prefix p text = record text { from = byte_at p }
 
--- Leaf blocks.
+-- OpenLeaf blocks.
 
 abbrev pub empty_line : Line
 empty_line = record { spaces = 0; text = [] }
@@ -225,14 +222,14 @@ has_lines OfMath = true
 has_lines OfHtml = true
 has_lines _ = false
 
-abbrev pub fresh : LeafKind → Leaf
+abbrev pub fresh : LeafKind → OpenLeaf
 fresh kind = record { kind = kind; markers = []; lines = first_lines kind; info = None; meta = None; closed = false; text = []; destination = []; title = None; delimiter = []; rows = [] }
 
-abbrev pub next_line : Leaf → Leaf
+abbrev pub next_line : OpenLeaf → OpenLeaf
 next_line leaf = if has_lines leaf.kind then record leaf { lines = leaf.lines ++ empty_line ∷ [] } else leaf
 
 -- A fence after the first is the closing one: it is no line.
-abbrev pub at_fence : Leaf → Leaf
+abbrev pub at_fence : OpenLeaf → OpenLeaf
 at_fence leaf = elim leaf.markers [ [] ↦ leaf | m ∷ ms ↦ record leaf { lines = without_last leaf.lines; closed = true } ]
 
 -- a line and the next piece of it
@@ -243,7 +240,7 @@ joined line piece = record { spaces = line.spaces + piece.spaces; text = line.te
 abbrev pub underline_depth : ℕ → ℕ
 underline_depth marker = if marker == 61 then 1 else 2
 
-abbrev pub block_of : Leaf → LeafKind → Block
+abbrev pub block_of : OpenLeaf → LeafKind → Block
 block_of leaf OfFrontmatter = t.Frontmatter (first_byte leaf.markers) (map (λ (line : Line). line.text) leaf.lines)
 block_of leaf OfHeadingAtx = Heading (length leaf.markers) leaf.text
 block_of leaf OfHeadingSetext = Heading (underline_depth (first_byte leaf.markers)) leaf.text
@@ -256,73 +253,73 @@ block_of leaf OfDefinition = Definition leaf.text leaf.destination leaf.title
 block_of leaf OfTable = Table leaf.delimiter leaf.rows
 
 -- What a text of a leaf block says of it.
-abbrev pub noted : Purpose → Line → Leaf → Leaf
-noted AsHeading line leaf = record leaf { text = each_after_white (split_lines line.text) }
+abbrev pub noted : Purpose → Line → OpenLeaf → OpenLeaf
+noted AsHeading line leaf = record leaf { text = trim_each (split_lines line.text) }
 noted AsMarkers line leaf = elim leaf.markers [ [] ↦ record leaf { markers = line.text } | m ∷ ms ↦ leaf ]
 noted AsLine line leaf = record leaf { lines = on_last (λ (l : Line). joined l line) leaf.lines }
 noted AsInfo line leaf = record leaf { info = Some line.text }
 noted AsMeta line leaf = record leaf { meta = Some line.text }
-noted AsLabel line leaf = record leaf { text = further_after_white (split_lines line.text) }
+noted AsLabel line leaf = record leaf { text = trim_further (split_lines line.text) }
 noted AsDestination line leaf = record leaf { destination = line.text }
-noted AsTitle line leaf = record leaf { title = Some (further_after_white (split_lines line.text)) }
+noted AsTitle line leaf = record leaf { title = Some (trim_further (split_lines line.text)) }
 noted AsCell line leaf = record leaf { rows = on_last (on_last (λ (cell : List ℕ). line.text)) leaf.rows }
-noted AsDelimiter line leaf = record leaf { delimiter = before_white (after_white line.text) }
+noted AsDelimiter line leaf = record leaf { delimiter = trim line.text }
 noted _ line leaf = leaf
 
--- Containers.
+-- Shapes.
 
 -- the marker of the first item
 abbrev pub list_marker : Blocks → ℕ
 list_marker (More (Item marker digits blocks) items) = marker
 list_marker _ = 0
 
-abbrev pub block_around : Container → Blocks → Block
-block_around InQuote blocks = Quote blocks
-block_around InList items = ListOf (list_marker items) items
-block_around (InItem marker digits) blocks = Item marker digits blocks
-block_around (InFootnote label) blocks = Footnote label blocks
+abbrev pub block_around : Shape → Blocks → Block
+block_around QuoteShape blocks = Quote blocks
+block_around ListShape items = ListOf (list_marker items) items
+block_around (ItemShape marker digits) blocks = Item marker digits blocks
+block_around (FootnoteShape label) blocks = Footnote label blocks
 
--- What a text of a prefix says of its container.
-abbrev pub named : Purpose → List ℕ → Container → Container
-named AsDigits text (InItem marker digits) = InItem marker text
-named AsItemMarker text (InItem marker digits) = InItem (first_byte text) digits
-named AsFootnoteLabel text (InFootnote label) = InFootnote text
-named _ text container = container
+-- What a text of an opening prefix says of its container.
+abbrev pub named : Purpose → List ℕ → Shape → Shape
+named AsDigits text (ItemShape marker digits) = ItemShape marker text
+named AsItemMarker text (ItemShape marker digits) = ItemShape (first_byte text) digits
+named AsFootnoteLabel text (FootnoteShape label) = FootnoteShape text
+named _ text shape = shape
 
 -- The step of one event.
 
-abbrev pub on_leaf : (Leaf → Leaf) → Reading → Reading
+abbrev pub on_leaf : (OpenLeaf → OpenLeaf) → Reading → Reading
 on_leaf f r = record r { leaf = option_map f r.leaf }
 
 abbrev pub on_text : (Text → Text) → Reading → Reading
 on_text f r = record r { text = option_map f r.text }
 
-abbrev pub on_container : (Container → Container) → List Around → List Around
-on_container f [] = []
-on_container f (around ∷ outer) = record around { container = f around.container } ∷ outer
+abbrev pub on_shape : (Shape → Shape) → List Around → List Around
+on_shape f [] = []
+on_shape f (around ∷ outer) = record around { shape = f around.shape } ∷ outer
 
 abbrev pub add_block : Block → Reading → Reading
 add_block block r = record r { here = then_block r.here block }
 
 -- a text ends
 abbrev pub told : Purpose → Line → Reading → Reading
-told AsParagraph line r = add_block (Paragraph (each_after_white (split_lines line.text))) r
-told AsDigits line r = record r { outer = on_container (named AsDigits line.text) r.outer }
-told AsItemMarker line r = record r { outer = on_container (named AsItemMarker line.text) r.outer }
-told AsFootnoteLabel line r = record r { outer = on_container (named AsFootnoteLabel line.text) r.outer }
+told AsParagraph line r = add_block (Paragraph (trim_each (split_lines line.text))) r
+told AsDigits line r = record r { outer = on_shape (named AsDigits line.text) r.outer }
+told AsItemMarker line r = record r { outer = on_shape (named AsItemMarker line.text) r.outer }
+told AsFootnoteLabel line r = record r { outer = on_shape (named AsFootnoteLabel line.text) r.outer }
 told purpose line r = on_leaf (noted purpose line) r
 
 abbrev pub told_at : List ℕ → Purpose → Point → Option Text → Reading → Reading
 told_at bytes purpose p None r = r
 told_at bytes purpose p (Some text) r = told purpose (record { spaces = text.spaces; text = text_to bytes p.index text }) (record r { text = None })
 
-abbrev pub finished : Option Leaf → Reading → Reading
+abbrev pub finished : Option OpenLeaf → Reading → Reading
 finished None r = r
 finished (Some leaf) r = add_block (block_of leaf leaf.kind) (record r { leaf = None })
 
 abbrev pub left : List Around → Reading → Reading
 left [] r = r
-left (around ∷ outer) r = record r { outer = outer; here = then_block around.before (block_around around.container r.here) }
+left (around ∷ outer) r = record r { outer = outer; here = then_block around.before (block_around around.shape r.here) }
 
 -- A line ending in a text is a part of that text. Any other opens a line of the leaf block, if the text of the document
 -- goes on behind it.
@@ -331,19 +328,19 @@ at_ending bytes p (Some text) r = r
 at_ending bytes p None r = if nat_lt p.index (length bytes) then on_leaf next_line r else r
 
 abbrev pub read_enter : List ℕ → Role → Point → Reading → Reading
-read_enter bytes (Holds container) p r = record r { outer = (record { container = container; before = r.here }) ∷ r.outer; here = End }
+read_enter bytes (Holds shape) p r = record r { outer = (record { shape = shape; before = r.here }) ∷ r.outer; here = End }
 read_enter bytes (Opens kind) p r = record r { leaf = Some (fresh kind) }
 read_enter bytes (Tells purpose) p r = record r { text = Some (begun p) }
 read_enter bytes IsFence p r = on_leaf at_fence r
-read_enter bytes IsTitle p r = on_leaf (λ (leaf : Leaf). record leaf { title = Some ([] ∷ []) }) r
-read_enter bytes IsRow p r = on_leaf (λ (leaf : Leaf). record leaf { rows = leaf.rows ++ [] ∷ [] }) r
-read_enter bytes IsCell p r = on_leaf (λ (leaf : Leaf). record leaf { rows = on_last (λ (row : List (List ℕ)). row ++ [] ∷ []) leaf.rows }) r
+read_enter bytes IsTitle p r = on_leaf (λ (leaf : OpenLeaf). record leaf { title = Some ([] ∷ []) }) r
+read_enter bytes IsRow p r = on_leaf (λ (leaf : OpenLeaf). record leaf { rows = leaf.rows ++ [] ∷ [] }) r
+read_enter bytes IsCell p r = on_leaf (λ (leaf : OpenLeaf). record leaf { rows = on_last (λ (row : List (List ℕ)). row ++ [] ∷ []) leaf.rows }) r
 read_enter bytes IsPrefix p r = on_text (before_prefix bytes p) r
 read_enter bytes IsEnding p r = r
 read_enter bytes IsQuiet p r = r
 
 abbrev pub read_exit : List ℕ → Role → Point → Reading → Reading
-read_exit bytes (Holds container) p r = left r.outer r
+read_exit bytes (Holds shape) p r = left r.outer r
 read_exit bytes (Opens kind) p r = finished r.leaf r
 read_exit bytes (Tells purpose) p r = told_at bytes purpose p r.text r
 read_exit bytes IsPrefix p r = on_text (after_prefix p) r
