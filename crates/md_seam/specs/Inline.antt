@@ -1,5 +1,5 @@
 -- What every inline layer promises of the events that it answers for a text part, and what the plain layer answers.
-use Rattle.std.specs.Prelude.{◌≡◌, ℕ, ◌-◌, Bool, true, false, ◌==◌, if◌then◌else◌, IsTrue, List, [], ◌∷◌, ◌++◌, length, take, slice_range, Option, Some, None}
+use Rattle.std.specs.Prelude.{◌≡◌, ℕ, ◌<◌, Bool, true, false, ◌&&◌, if◌then◌else◌, IsTrue, List, [], ◌∷◌, ◌++◌, length, take, slice_range, Option, Some, None}
 use Rattle.std.specs.List.{list_all}
 use Rattle.md_engine.specs.declared.event.Point.{Point}
 use Rattle.md_engine.specs.declared.event.Event.{Event}
@@ -10,7 +10,7 @@ use Rattle.md_engine.specs.declared.event.Name.TheVariants as n
 use Rattle.md_seam.specs.declared.inline.PartKind.{PartKind}
 use Rattle.md_seam.specs.declared.inline.Chunk.{Chunk}
 use Rattle.md_seam.specs.Lines.{without_ending}
-use Rattle.md_seam.specs.Places.{first_point, is_placed, same_place, past_text}
+use Rattle.md_seam.specs.Places.{first_point, is_placed, are_placed, same_place, at_or_before, past_text}
 use Rattle.md_seam.specs.Nested.{Balanced, Forward, pair}
 
 -- A text part: what it may hold, and its chunks, one a line.
@@ -45,6 +45,15 @@ pieces (e ∷ es) = pieces_from e es
 abbrev pub Covers : Point → List Piece → Point → Type 0
 Covers from [] to = IsTrue (same_place from to)
 Covers from (piece ∷ pieces) to = IsTrue (same_place from piece.first) × Covers piece.after pieces to
+
+-- whether chunks stand behind a point, one behind the other
+abbrev pub in_order : Point → List Chunk → Bool
+in_order p [] = true
+in_order p (chunk ∷ chunks) = at_or_before p chunk.first && at_or_before chunk.first chunk.after && in_order chunk.after chunks
+
+-- whether both ends of a chunk are points of the text
+abbrev pub chunk_placed : List ℕ → Chunk → Bool
+chunk_placed bytes chunk = is_placed bytes chunk.first && is_placed bytes chunk.after
 
 -- The line of a chunk, and its ending, of which it may have none.
 
@@ -114,9 +123,15 @@ Fills (chunk ∷ chunks) [] = ⊥
 pub record Framed (bytes : List ℕ) (part : Part) (events : List Event) : Type 0 where
   pub balanced : Balanced events
   pub forward : Forward first_point events
-  pub placed : IsTrue (list_all (λ (e : Event). is_placed bytes e.point) events)
+  pub placed : IsTrue (are_placed bytes events)
   pub inline : IsTrue (list_all (λ (e : Event). is_inline e.name) events)
   pub endings : line_endings events ≡ endings_of bytes part.chunks
   pub cut : List (List Event)
   pub whole : together cut ≡ events
   pub fills : Fills part.chunks cut
+
+-- A text part that may be read: its chunks stand in the text, one behind the other, and there is one at least.
+pub record IsPart (bytes : List ℕ) (part : Part) : Type 0 where
+  pub some : 0 < length part.chunks
+  pub order : IsTrue (in_order first_point part.chunks)
+  pub placed : IsTrue (list_all (chunk_placed bytes) part.chunks)

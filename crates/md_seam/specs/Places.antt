@@ -1,6 +1,8 @@
 -- The points of a text: where they are, and which comes first.
 use Rattle.std.specs.Prelude.{ℕ, ◌+◌, ◌-◌, Bool, ◌&&◌, ◌||◌, ◌==◌, nat_lt, nat_le, if◌then◌else◌, List, [], ◌∷◌, length, take, drop}
+use Rattle.std.specs.List.{list_all}
 use Rattle.md_engine.specs.declared.event.Point.{Point}
+use Rattle.md_engine.specs.declared.event.Event.{Event}
 use Rattle.md_seam.specs.Rest.{tab_columns}
 use Rattle.md_seam.specs.Texts.{split_lines, first_byte}
 
@@ -36,6 +38,10 @@ is_placed bytes p =
     nat_le p.index (length bytes) && within_tab bytes p
     && (p.line == length (split_lines (take p.index bytes)))
     && (p.column == columns_before bytes p.index + p.vs + 1)
+
+-- whether the points of some events are
+abbrev pub are_placed : List ℕ → List Event → Bool
+are_placed bytes events = list_all (λ (e : Event). is_placed bytes e.point) events
 
 -- whether two points are one: byte and virtual spaces
 abbrev pub same_place : Point → Point → Bool
