@@ -51,7 +51,7 @@ record Row (bytes : List ℕ) (blocks : List Event) (tree : t.Blocks) : Type 0 w
   empty : bytes ≡ [] → plain bytes blocks ≡ []
 
 row-tiles : {bytes : List ℕ} {blocks : List Event} {tree : t.Blocks} → Row bytes blocks tree → Tiles (λ part events. events ≡ plain_events bytes part) bytes (plain bytes blocks)
-row-tiles {bytes} {blocks} row = record { blocks = blocks; block_list = record { nested = row.nested; lines = row.lines; chunks = row.chunks }; covers = row.covers; lists = plain_lists bytes (parts blocks); each = row.each; read = refl; empty = row.empty }
+row-tiles {bytes} {blocks} row = record { blocks = blocks; block_list = record { nested = row.nested; placed = row.placed; lines = row.lines; chunks = row.chunks }; covers = row.covers; lists = plain_lists bytes (parts blocks); each = row.each; read = refl; empty = row.empty }
 
 -- nothing: ""
 abbrev pub empty_text : List ℕ

@@ -10,6 +10,7 @@ use Rattle.md_engine.specs.declared.event.Name.TheVariants as n
 use Rattle.md_seam.specs.declared.inline.PartKind.{PartKind}
 use Rattle.md_seam.specs.declared.inline.Chunk.{Chunk}
 use Rattle.md_seam.specs.Lines.{without_ending}
+use Rattle.md_seam.specs.Texts.{split_lines}
 use Rattle.md_seam.specs.Places.{first_point, is_placed, are_placed, same_place, at_or_before, past_text}
 use Rattle.md_seam.specs.Nested.{Balanced, Forward, pair}
 
@@ -59,6 +60,22 @@ chunk_placed bytes chunk = is_placed bytes chunk.first && is_placed bytes chunk.
 
 abbrev pub chunk_text : List ℕ → Chunk → List ℕ
 chunk_text bytes chunk = slice_range bytes chunk.first.index chunk.after.index
+
+-- whether there is no chunk
+abbrev pub is_none : List Chunk → Bool
+is_none [] = true
+is_none (chunk ∷ chunks) = false
+
+-- whether the lines of a chunk are one, which ends with its ending, or is not empty and ends with the part
+abbrev pub is_one_line : List (List ℕ) → Bool → Bool
+is_one_line ((b ∷ bs) ∷ []) ends_part = ends_part
+is_one_line (line ∷ [] ∷ []) ends_part = true
+is_one_line _ ends_part = false
+
+-- whether each chunk is a line and its ending; the last has none if the part ends there
+abbrev pub are_lines : List ℕ → Point → List Chunk → Bool
+are_lines bytes end [] = true
+are_lines bytes end (chunk ∷ chunks) = is_one_line (split_lines (chunk_text bytes chunk)) (is_none chunks && same_place chunk.after end) && are_lines bytes end chunks
 
 -- the point at the end of its line
 abbrev pub line_end : List ℕ → Chunk → Point
@@ -130,8 +147,10 @@ pub record Framed (bytes : List ℕ) (part : Part) (events : List Event) : Type 
   pub whole : together cut ≡ events
   pub fills : Fills part.chunks cut
 
--- A text part that may be read: its chunks stand in the text, one behind the other, and there is one at least.
+-- A text part that may be read: it has a chunk at least, and its chunks stand in the text, one behind the other, one a line.
 pub record IsPart (bytes : List ℕ) (part : Part) : Type 0 where
+  pub end : Point
+  pub lines : IsTrue (are_lines bytes end part.chunks)
   pub some : 0 < length part.chunks
   pub order : IsTrue (in_order first_point part.chunks)
   pub placed : IsTrue (list_all (chunk_placed bytes) part.chunks)

@@ -1,6 +1,5 @@
 -- Every byte of a text is accounted for: the innermost pairs of its events lie side by side.
 use Rattle.std.specs.Prelude.{◌≡◌, ℕ, Bool, true, false, ◌&&◌, ◌||◌, not, if◌then◌else◌, IsTrue, List, [], ◌∷◌, ◌++◌, length, Option, Some, None}
-use Rattle.std.specs.List.{list_all}
 use Rattle.md_engine.specs.declared.event.Point.{Point}
 use Rattle.md_engine.specs.declared.event.Event.{Event}
 use Rattle.md_engine.specs.declared.event.Kind.{Kind}
@@ -10,10 +9,9 @@ use Rattle.md_engine.specs.declared.event.Name.TheVariants as n
 use Rattle.md_seam.specs.declared.inline.PartKind.{PartKind}
 use Rattle.md_seam.specs.declared.inline.PartKind.TheVariants as k
 use Rattle.md_seam.specs.declared.inline.Chunk.{Chunk}
-use Rattle.md_seam.specs.Texts.{split_lines}
-use Rattle.md_seam.specs.Places.{first_point, same_place}
+use Rattle.md_seam.specs.Places.{first_point, are_placed}
 use Rattle.md_seam.specs.Nested.{Nested}
-use Rattle.md_seam.specs.Inline.{Part, Piece, pieces, Covers, Fills, chunk_text, is_linked, together}
+use Rattle.md_seam.specs.Inline.{Part, Piece, pieces, Covers, Fills, are_lines, is_linked, together}
 
 -- the point behind the last byte
 abbrev pub end_point : List ℕ → Point
@@ -86,14 +84,8 @@ parts (e ∷ es) = part_at e.kind (part_kind e.name) es ++ parts es
 
 -- Block lists.
 
--- whether the lines of a chunk are one, which ends with its ending, or is not empty and ends with the part
-abbrev pub is_one_line : List (List ℕ) → Bool → Bool
-is_one_line ((b ∷ bs) ∷ []) ends_part = ends_part
-is_one_line (line ∷ [] ∷ []) ends_part = true
-is_one_line _ ends_part = false
-
 abbrev pub part_stands : List ℕ → Kind → Option PartKind → List Event → Bool
-part_stands bytes Enter (Some kind) es = list_all (λ (chunk : Chunk). is_one_line (split_lines (chunk_text bytes chunk)) (same_place chunk.after (part_end es))) (chunks (pieces (inside_part es)))
+part_stands bytes Enter (Some kind) es = are_lines bytes (part_end es) (chunks (pieces (inside_part es)))
 part_stands bytes Enter None es = true
 part_stands bytes Exit kind es = true
 
@@ -113,9 +105,10 @@ chunks_stand inside [] = true
 chunks_stand false (e ∷ es) = not (is_linked e) && chunks_stand (is_part e.name && not (is_exit e.kind)) es
 chunks_stand true (e ∷ es) = if is_part e.name && is_exit e.kind then not (is_linked e) && chunks_stand false es else stands_in_part e.name && chunk_stands e es && chunks_stand true es
 
--- A list of events whose text parts are not read yet.
+-- A list of events, at points of the text, whose text parts are not read yet.
 pub record IsBlockList (bytes : List ℕ) (events : List Event) : Type 0 where
   pub nested : Nested events
+  pub placed : IsTrue (are_placed bytes events)
   pub lines : IsTrue (parts_stand bytes events)
   pub chunks : IsTrue (chunks_stand false events)
 
