@@ -45,7 +45,7 @@ record Row (bytes : List ℕ) (blocks : List Event) (tree : t.Blocks) : Type 0 w
   after : spelled (plain bytes blocks) bytes ≡ tree
   nested : Nested blocks
   lines : IsTrue (parts_stand bytes blocks)
-  chunks : IsTrue (chunks_stand false blocks)
+  chunks : IsTrue (chunks_stand 0 blocks)
   covers : Covers first_point (pieces blocks) (end_point bytes)
   each : EachRead (λ part events. events ≡ plain_events bytes part) (parts blocks) (plain_lists bytes (parts blocks))
   empty : bytes ≡ [] → plain bytes blocks ≡ []

@@ -1,6 +1,6 @@
 -- A document is read as the same tree before its text parts are read and after.
-use Rattle.std.proofs.Common.{◌≡◌, ℕ, Bool, true, false, cond, ◌&&◌, ◌||◌, List, [], ◌∷◌, ◌++◌, refl, ap, sym, ◌∙◌, subst, arith}
-use Rattle.std.specs.Prelude.{Option, Some, None, option_map, not, IsTrue}
+use Rattle.std.proofs.Common.{◌≡◌, ℕ, zero, suc, Bool, true, false, cond, ◌&&◌, ◌||◌, List, [], ◌∷◌, ◌++◌, refl, ap, sym, ◌∙◌, subst, arith}
+use Rattle.std.specs.Prelude.{Option, Some, None, option_map, ◌==◌, not, IsTrue}
 use Rattle.std.specs.List.{list_all}
 use Rattle.std.proofs.lemmas.Bool.{and_parts, and_from}
 use Rattle.md_engine.specs.declared.event.Point.{Point}
@@ -16,7 +16,7 @@ use Rattle.md_seam.specs.declared.inline.Chunk.{Chunk}
 use Rattle.md_seam.specs.Places.{first_point, is_placed, are_placed, at_or_before}
 use Rattle.md_seam.specs.Nested.{Forward}
 use Rattle.md_seam.specs.Inline.{Part, Piece, Framed, IsPart, is_linked, is_inline, together, piece_of, pieces_from, pieces, in_order, chunk_placed, are_lines}
-use Rattle.md_seam.specs.Tiles.{stands_in_part, is_data, is_exit, is_part, chunk_stands, chunks_stand, first_list, further_lists, filled_from, filled, parts, part_kind, part_of, part_at, part_end, part_stands, parts_stand, inside_part, chunks, IsBlockList, EachRead, Tiles}
+use Rattle.md_seam.specs.Tiles.{stands_in_part, is_data, is_exit, is_part, is_chunk, depth_behind, chunks_stand, first_list, further_lists, filled_from, filled, parts, part_kind, part_of, part_at, part_end, part_stands, parts_stand, inside_part, chunks, IsBlockList, EachRead, Tiles}
 use Rattle.md_seam.proofs.NestedLemmas.{at_or_before-refl, at_or_before-trans}
 use Rattle.md_seam.proofs.SpelledLemmas.{Roles, QuietOrPrefix, QuietOrEnding, read-append, read-inline}
 
@@ -67,11 +67,31 @@ data-no_part _ h = cc
 abbrev HasText : Reading → Type 0
 HasText r = (text : Text) × (r.text ≡ Some text)
 
-enter-has : (bytes : List ℕ) (kind : Kind) (name : Name) (p : Point) (r : Reading) → (is_part name && not (is_exit kind)) ≡ true → HasText (read_by bytes kind (role name) p r)
-enter-has bytes Enter name p r h =
-    let tells : (purpose : Purpose) × (role name ≡ Tells purpose) = part-tells name (and_parts (is_part name) true h).0 in
+-- at this depth inside a text part
+abbrev HasTextAt : ℕ → Reading → Type 0
+HasTextAt zero r = Unit {0}
+HasTextAt (suc depth) r = HasText r
+
+has-at : (depth : ℕ) (r : Reading) → HasText r → HasTextAt depth r
+has-at zero r has = tt
+has-at (suc depth) r has = has
+
+part-has : (bytes : List ℕ) (name : Name) (p : Point) (r : Reading) → is_part name ≡ true → HasText (read_by bytes Enter (role name) p r)
+part-has bytes name p r h =
+    let tells : (purpose : Purpose) × (role name ≡ Tells purpose) = part-tells name h in
     (begun p, ap (λ (x : Role). (read_by bytes Enter x p r).text) tells.1)
-enter-has bytes Exit name p r h = cc ((and_parts (is_part name) false h).1)
+
+enter-has : (bytes : List ℕ) (kind : Kind) (name : Name) (p : Point) (r : Reading) → HasTextAt (cond (is_part name && not (is_exit kind)) 1 0) (read_by bytes kind (role name) p r)
+enter-has bytes Enter name p r = go (is_part name) refl
+  where
+    go : (x : Bool) → is_part name ≡ x → HasTextAt (cond (x && true) 1 0) (read_by bytes Enter (role name) p r)
+    go true h = part-has bytes name p r h
+    go false h = tt
+enter-has bytes Exit name p r = go (is_part name)
+  where
+    go : (x : Bool) → HasTextAt (cond (x && false) 1 0) (read_by bytes Exit (role name) p r)
+    go true = tt
+    go false = tt
 
 keep-has : (bytes : List ℕ) (kind : Kind) (x : Role) (p : Point) (r : Reading) → QuietOrPrefix x → HasText r → HasText (read_by bytes kind x p r)
 keep-has bytes Enter IsQuiet p r h has = has
@@ -101,18 +121,18 @@ further-inline (events ∷ lists) h = h.1
 -- Event by event.
 
 abbrev Same : List ℕ → List Event → Type 0
-Same bytes es = (inside : Bool) (r : Reading) (lists : List (List Event)) → chunks_stand inside es ≡ true → (inside ≡ true → HasText r) → EachInline lists → read bytes r (filled_from false es lists) ≡ read bytes r es
+Same bytes es = (depth : ℕ) (r : Reading) (lists : List (List Event)) → chunks_stand depth es ≡ true → HasTextAt depth r → EachInline lists → read bytes r (filled_from false es lists) ≡ read bytes r es
 
 abbrev SameBehind : List ℕ → List Event → Type 0
 SameBehind bytes [] = Unit {0}
 SameBehind bytes (e ∷ es) = Same bytes es
 
 -- an event with no link stays as it is
-same-unlinked : (bytes : List ℕ) (e : Event) (es : List Event) (inside : Bool) (r : Reading) (lists : List (List Event)) → Same bytes es → is_linked e ≡ false → chunks_stand inside es ≡ true →
-    (inside ≡ true → HasText (read_by bytes e.kind (role e.name) e.point r)) → EachInline lists → read bytes r (filled_from false (e ∷ es) lists) ≡ read bytes r (e ∷ es)
-same-unlinked bytes e es inside r lists same unlinked stands has each =
+same-unlinked : (bytes : List ℕ) (e : Event) (es : List Event) (depth : ℕ) (r : Reading) (lists : List (List Event)) → Same bytes es → is_linked e ≡ false → chunks_stand depth es ≡ true →
+    HasTextAt depth (read_by bytes e.kind (role e.name) e.point r) → EachInline lists → read bytes r (filled_from false (e ∷ es) lists) ≡ read bytes r (e ∷ es)
+same-unlinked bytes e es depth r lists same unlinked stands has each =
     ap (λ (x : Bool). read bytes r (cond x (first_list lists ++ filled_from true es (further_lists lists)) (e ∷ filled_from false es lists))) unlinked
-    ∙ same inside (read_by bytes e.kind (role e.name) e.point r) lists stands has each
+      ∙ same depth (read_by bytes e.kind (role e.name) e.point r) lists stands has each
 
 not-true : (x : Bool) → not x ≡ true → x ≡ false
 not-true false h = refl
@@ -122,51 +142,68 @@ or-false : (x y : Bool) → (not x || y) ≡ true → x ≡ true → y ≡ true
 or-false true y h e = h
 or-false false y h e = cc
 
+exit-kind : (kind : Kind) → is_exit kind ≡ true → kind ≡ Exit
+exit-kind Exit h = refl
+exit-kind Enter h = cc
+
+enter-kind : (kind : Kind) → not (is_exit kind) ≡ true → kind ≡ Enter
+enter-kind Enter h = refl
+enter-kind Exit h = cc
+
 -- a chunk gives way to what an inline layer makes of it
-same-linked : (bytes : List ℕ) (e : Event) (es : List Event) (r : Reading) (lists : List (List Event)) → SameBehind bytes es → is_linked e ≡ true → chunk_stands e es ≡ true → chunks_stand true es ≡ true →
+same-linked : (bytes : List ℕ) (e : Event) (es : List Event) (depth : ℕ) (r : Reading) (lists : List (List Event)) → SameBehind bytes es → is_linked e ≡ true → is_chunk e es ≡ true → chunks_stand (depth_behind e.kind (suc depth)) es ≡ true →
     HasText r → EachInline lists → read bytes r (filled_from false (e ∷ es) lists) ≡ read bytes r (e ∷ es)
-same-linked bytes e [] r lists same linked chunk stands has each = cc (not-true (is_linked e) chunk)
-same-linked bytes e (f ∷ es) r lists same linked chunk stands has each =
-    let parts : (is_data e.name && is_exit f.kind ≡ true) × (is_data f.name ≡ true) = and_parts (is_data e.name && is_exit f.kind) (is_data f.name) (or-false (is_linked e) (is_data e.name && is_exit f.kind && is_data f.name) chunk linked) in
-    let starts : read_by bytes e.kind (role e.name) e.point r ≡ r = quiet-kept bytes e.kind (role e.name) e.point r (data-role e.name (and_parts (is_data e.name) (is_exit f.kind) parts.0).0) in
-    let ends : read_by bytes f.kind (role f.name) f.point r ≡ r = quiet-kept bytes f.kind (role f.name) f.point r (data-role f.name parts.1) in
-    let behind : cond (is_part f.name && is_exit f.kind) (not (is_linked f) && chunks_stand false es) (stands_in_part f.name && chunk_stands f es && chunks_stand true es) ≡ true = stands in
-    let on : chunks_stand true es ≡ true =
-    (and_parts (stands_in_part f.name && chunk_stands f es) (chunks_stand true es)
-    (subst (λ (x : Bool). cond (x && is_exit f.kind) (not (is_linked f) && chunks_stand false es) (stands_in_part f.name && chunk_stands f es && chunks_stand true es) ≡ true) (data-no_part f.name parts.1) behind)).1 in
+same-linked bytes e [] depth r lists same linked chunk stands has each = cc
+same-linked bytes e (f ∷ es) depth r lists same linked chunk stands has each =
+    let outer : (not (is_exit e.kind) && is_data e.name && is_exit f.kind ≡ true) × (is_data f.name ≡ true) = and_parts (not (is_exit e.kind) && is_data e.name && is_exit f.kind) (is_data f.name) chunk in
+    let middle : (not (is_exit e.kind) && is_data e.name ≡ true) × (is_exit f.kind ≡ true) = and_parts (not (is_exit e.kind) && is_data e.name) (is_exit f.kind) outer.0 in
+    let inner : (not (is_exit e.kind) ≡ true) × (is_data e.name ≡ true) = and_parts (not (is_exit e.kind)) (is_data e.name) middle.0 in
+    let starts : read_by bytes e.kind (role e.name) e.point r ≡ r = quiet-kept bytes e.kind (role e.name) e.point r (data-role e.name inner.1) in
+    let ends : read_by bytes f.kind (role f.name) f.point r ≡ r = quiet-kept bytes f.kind (role f.name) f.point r (data-role f.name outer.1) in
+    let within : chunks_stand (suc (suc depth)) (f ∷ es) ≡ true = subst (λ (k : Kind). chunks_stand (depth_behind k (suc depth)) (f ∷ es) ≡ true) (enter-kind e.kind inner.0) stands in
+    let behind : (stands_in_part f.name && (not (is_linked f) || ((suc depth == 0) && is_chunk f es)) && chunks_stand (depth_behind f.kind (suc (suc depth))) es) ≡ true =
+      subst (λ (x : Bool). cond x (is_exit f.kind && (suc depth == 0) && not (is_linked f) && chunks_stand 0 es) (stands_in_part f.name && (not (is_linked f) || ((suc depth == 0) && is_chunk f es)) && chunks_stand (depth_behind f.kind (suc (suc depth))) es) ≡ true) (data-no_part f.name outer.1) within in
+    let on : chunks_stand (suc depth) es ≡ true =
+      subst (λ (k : Kind). chunks_stand (depth_behind k (suc (suc depth))) es ≡ true) (exit-kind f.kind middle.1)
+        (and_parts (stands_in_part f.name && (not (is_linked f) || ((suc depth == 0) && is_chunk f es))) (chunks_stand (depth_behind f.kind (suc (suc depth))) es) behind).1 in
     ap (λ (x : Bool). read bytes r (cond x (first_list lists ++ filled_from true (f ∷ es) (further_lists lists)) (e ∷ filled_from false (f ∷ es) lists))) linked
-    ∙ read-append bytes r (first_list lists) (filled_from false es (further_lists lists))
-    ∙ ap (λ (x : Reading). read bytes x (filled_from false es (further_lists lists))) (read-inline bytes r has.0 (first_list lists) has.1 (first-inline lists each))
-    ∙ same true r (further_lists lists) on (λ t. has) (further-inline lists each)
-    ∙ ap (λ (x : Reading). read bytes x es) (sym ends)
-    ∙ ap (λ (x : Reading). read bytes (read_by bytes f.kind (role f.name) f.point x) es) (sym starts)
+      ∙ read-append bytes r (first_list lists) (filled_from false es (further_lists lists))
+      ∙ ap (λ (x : Reading). read bytes x (filled_from false es (further_lists lists))) (read-inline bytes r has.0 (first_list lists) has.1 (first-inline lists each))
+      ∙ same (suc depth) r (further_lists lists) on has (further-inline lists each)
+      ∙ ap (λ (x : Reading). read bytes x es) (sym ends)
+      ∙ ap (λ (x : Reading). read bytes (read_by bytes f.kind (role f.name) f.point x) es) (sym starts)
 
 same-step : (bytes : List ℕ) (e : Event) (es : List Event) → Same bytes es → SameBehind bytes es → Same bytes (e ∷ es)
-same-step bytes e es same behind false r lists stands has each =
-    let parts : (not (is_linked e) ≡ true) × (chunks_stand (is_part e.name && not (is_exit e.kind)) es ≡ true) = and_parts (not (is_linked e)) (chunks_stand (is_part e.name && not (is_exit e.kind)) es) stands in
-    same-unlinked bytes e es (is_part e.name && not (is_exit e.kind)) r lists same (not-true (is_linked e) parts.0) parts.1 (enter-has bytes e.kind e.name e.point r) each
-same-step bytes e es same behind true r lists stands has each = go (is_part e.name && is_exit e.kind) refl (is_linked e) refl stands
+same-step bytes e es same behind zero r lists stands has each =
+    let parts : (not (is_linked e) ≡ true) × (chunks_stand (cond (is_part e.name && not (is_exit e.kind)) 1 0) es ≡ true) = and_parts (not (is_linked e)) (chunks_stand (cond (is_part e.name && not (is_exit e.kind)) 1 0) es) stands in
+    same-unlinked bytes e es (cond (is_part e.name && not (is_exit e.kind)) 1 0) r lists same (not-true (is_linked e) parts.0) parts.1 (enter-has bytes e.kind e.name e.point r) each
+same-step bytes e es same behind (suc depth) r lists stands has each = go (is_part e.name) (is_linked e) refl stands
   where
-    go : (x : Bool) → (is_part e.name && is_exit e.kind) ≡ x → (y : Bool) → is_linked e ≡ y → cond x (not (is_linked e) && chunks_stand false es) (stands_in_part e.name && chunk_stands e es && chunks_stand true es) ≡ true →
+    go : (x y : Bool) → is_linked e ≡ y →
+        cond x (is_exit e.kind && (depth == 0) && not (is_linked e) && chunks_stand 0 es) (stands_in_part e.name && (not (is_linked e) || ((depth == 0) && is_chunk e es)) && chunks_stand (depth_behind e.kind (suc depth)) es) ≡ true →
         read bytes r (filled_from false (e ∷ es) lists) ≡ read bytes r (e ∷ es)
-    go true is_end y linked h =
-        let parts : (not (is_linked e) ≡ true) × (chunks_stand false es ≡ true) = and_parts (not (is_linked e)) (chunks_stand false es) h in
-        same-unlinked bytes e es false r lists same (not-true (is_linked e) parts.0) parts.1 (λ (f : false ≡ true). cc) each
-    go false is_end false linked h =
-        let parts : (stands_in_part e.name && chunk_stands e es ≡ true) × (chunks_stand true es ≡ true) = and_parts (stands_in_part e.name && chunk_stands e es) (chunks_stand true es) h in
-        same-unlinked bytes e es true r lists same linked parts.1 (λ t. keep-has bytes e.kind (role e.name) e.point r (stands-role e.name (and_parts (stands_in_part e.name) (chunk_stands e es) parts.0).0) (has refl)) each
-    go false is_end true linked h =
-        let parts : (stands_in_part e.name && chunk_stands e es ≡ true) × (chunks_stand true es ≡ true) = and_parts (stands_in_part e.name && chunk_stands e es) (chunks_stand true es) h in
-        same-linked bytes e es r lists behind linked (and_parts (stands_in_part e.name) (chunk_stands e es) parts.0).1 parts.1 (has refl) each
+    go true y linked h =
+        let outer : (is_exit e.kind && (depth == 0) && not (is_linked e) ≡ true) × (chunks_stand 0 es ≡ true) = and_parts (is_exit e.kind && (depth == 0) && not (is_linked e)) (chunks_stand 0 es) h in
+        same-unlinked bytes e es 0 r lists same (not-true (is_linked e) (and_parts (is_exit e.kind && (depth == 0)) (not (is_linked e)) outer.0).1) outer.1 tt each
+    go false y linked h =
+        let outer : (stands_in_part e.name && (not (is_linked e) || ((depth == 0) && is_chunk e es)) ≡ true) × (chunks_stand (depth_behind e.kind (suc depth)) es ≡ true) =
+          and_parts (stands_in_part e.name && (not (is_linked e) || ((depth == 0) && is_chunk e es))) (chunks_stand (depth_behind e.kind (suc depth)) es) h in
+        let inner : (stands_in_part e.name ≡ true) × ((not (is_linked e) || ((depth == 0) && is_chunk e es)) ≡ true) = and_parts (stands_in_part e.name) (not (is_linked e) || ((depth == 0) && is_chunk e es)) outer.0 in
+        by y linked inner.0 inner.1 outer.1
+      where
+        by : (y : Bool) → is_linked e ≡ y → stands_in_part e.name ≡ true → (not (is_linked e) || ((depth == 0) && is_chunk e es)) ≡ true → chunks_stand (depth_behind e.kind (suc depth)) es ≡ true →
+            read bytes r (filled_from false (e ∷ es) lists) ≡ read bytes r (e ∷ es)
+        by false linked inside chunk on = same-unlinked bytes e es (depth_behind e.kind (suc depth)) r lists same linked on (has-at (depth_behind e.kind (suc depth)) (read_by bytes e.kind (role e.name) e.point r) (keep-has bytes e.kind (role e.name) e.point r (stands-role e.name inside) has)) each
+        by true linked inside chunk on = same-linked bytes e es depth r lists behind linked (and_parts (depth == 0) (is_chunk e es) (or-false (is_linked e) ((depth == 0) && is_chunk e es) chunk linked)).1 on has each
 
 same-both : (bytes : List ℕ) (es : List Event) → (inner : Same bytes es) × SameBehind bytes es
-same-both bytes [] = ((λ inside r lists stands has each. refl), tt)
+same-both bytes [] = ((λ depth r lists stands has each. refl), tt)
 same-both bytes (e ∷ es) = let both : (inner : Same bytes es) × SameBehind bytes es = same-both bytes es in (same-step bytes e es both.0 both.1, both.0)
 
 -- Whatever a layer gives for the chunks of a block list, the tree is the same.
-pub spelled-filled : (bytes : List ℕ) (events : List Event) (lists : List (List Event)) → chunks_stand false events ≡ true → EachInline lists → spelled (filled events lists) bytes ≡ spelled events bytes
+pub spelled-filled : (bytes : List ℕ) (events : List Event) (lists : List (List Event)) → chunks_stand 0 events ≡ true → EachInline lists → spelled (filled events lists) bytes ≡ spelled events bytes
 unfolding spelled
-spelled-filled bytes events lists stands each = ap (λ (r : Reading). r.here) ((same-both bytes events).0 false unread lists stands (λ (f : false ≡ true). cc) each)
+spelled-filled bytes events lists stands each = ap (λ (r : Reading). r.here) ((same-both bytes events).0 0 unread lists stands tt each)
 
 -- Layers that keep the promise of all layers.
 

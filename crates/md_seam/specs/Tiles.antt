@@ -1,5 +1,5 @@
 -- Every byte of a text is accounted for: the innermost pairs of its events lie side by side.
-use Rattle.std.specs.Prelude.{◌≡◌, ℕ, Bool, true, false, ◌&&◌, ◌||◌, not, if◌then◌else◌, IsTrue, List, [], ◌∷◌, ◌++◌, length, Option, Some, None}
+use Rattle.std.specs.Prelude.{◌≡◌, ℕ, zero, suc, Bool, true, false, ◌&&◌, ◌||◌, ◌==◌, not, if◌then◌else◌, IsTrue, List, [], ◌∷◌, ◌++◌, length, Option, Some, None}
 use Rattle.md_engine.specs.declared.event.Point.{Point}
 use Rattle.md_engine.specs.declared.event.Event.{Event}
 use Rattle.md_engine.specs.declared.event.Kind.{Kind}
@@ -94,23 +94,32 @@ abbrev pub parts_stand : List ℕ → List Event → Bool
 parts_stand bytes [] = true
 parts_stand bytes (e ∷ es) = part_stands bytes e.kind (part_kind e.name) es && parts_stand bytes es
 
--- whether a link is that of a chunk, which ends with the next event
-abbrev pub chunk_stands : Event → List Event → Bool
-chunk_stands e [] = not (is_linked e)
-chunk_stands e (f ∷ es) = not (is_linked e) || (is_data e.name && is_exit f.kind && is_data f.name)
+-- how many parts are open behind an event
+abbrev pub depth_behind : Kind → ℕ → ℕ
+depth_behind Enter depth = suc depth
+depth_behind Exit zero = zero
+depth_behind Exit (suc depth) = depth
 
--- Whether chunks stand only in text parts, and nothing stands in these but chunks and container prefixes.
-abbrev pub chunks_stand : Bool → List Event → Bool
-chunks_stand inside [] = true
-chunks_stand false (e ∷ es) = not (is_linked e) && chunks_stand (is_part e.name && not (is_exit e.kind)) es
-chunks_stand true (e ∷ es) = if is_part e.name && is_exit e.kind then not (is_linked e) && chunks_stand false es else stands_in_part e.name && chunk_stands e es && chunks_stand true es
+-- whether an event begins a chunk, which ends with the next
+abbrev pub is_chunk : Event → List Event → Bool
+is_chunk e [] = false
+is_chunk e (f ∷ es) = not (is_exit e.kind) && is_data e.name && is_exit f.kind && is_data f.name
+
+-- Whether chunks stand only in text parts, directly inside of them, and nothing else but container prefixes does. The depth
+-- is 0 outside of text parts, and 1 directly inside of one.
+abbrev pub chunks_stand : ℕ → List Event → Bool
+chunks_stand depth [] = true
+chunks_stand zero (e ∷ es) = not (is_linked e) && chunks_stand (if is_part e.name && not (is_exit e.kind) then 1 else 0) es
+chunks_stand (suc depth) (e ∷ es) =
+    if is_part e.name then is_exit e.kind && (depth == 0) && not (is_linked e) && chunks_stand 0 es
+    else stands_in_part e.name && (not (is_linked e) || ((depth == 0) && is_chunk e es)) && chunks_stand (depth_behind e.kind (suc depth)) es
 
 -- A list of events, at points of the text, whose text parts are not read yet.
 pub record IsBlockList (bytes : List ℕ) (events : List Event) : Type 0 where
   pub nested : Nested events
   pub placed : IsTrue (are_placed bytes events)
   pub lines : IsTrue (parts_stand bytes events)
-  pub chunks : IsTrue (chunks_stand false events)
+  pub chunks : IsTrue (chunks_stand 0 events)
 
 -- The chunks are read.
 
