@@ -13,8 +13,8 @@ use Rattle.md_engine.specs.declared.event.Name.TheVariants as n
 use Rattle.md_seam.specs.declared.inline.Chunk.{Chunk}
 use Rattle.md_seam.specs.Lines.{is_ending, without_ending}
 use Rattle.md_seam.specs.Places.{first_point, is_placed, are_placed, same_place, at_or_before, past_byte, past_text}
-use Rattle.md_seam.specs.Nested.{pair, Balanced, Forward}
-use Rattle.md_seam.specs.Inline.{Part, Piece, pieces, Covers, in_order, chunk_placed, chunk_text, line_end, pair_unless_empty, endings_of, plain_chunk, plain_chunks, together, plain_events, is_inline, is_line_ending, line_endings, Fills, Framed, IsPart}
+use Rattle.md_seam.specs.Nested.{pair, Balanced, Forward, last_point}
+use Rattle.md_seam.specs.Inline.{Part, Piece, pieces, Covers, in_order, chunk_placed, chunk_text, line_end, pair_unless_empty, endings_of, plain_chunk, plain_chunks, together, plain_events, is_inline, is_line_ending, line_endings, Fills, Framed, IsPart, KeepsFrame}
 use Rattle.md_seam.proofs.TextsLemmas.{NoEnding}
 use Rattle.md_seam.proofs.PlacesLemmas.{Placed, placed-facts, placed-from, placed-text}
 use Rattle.md_seam.proofs.NestedLemmas.{balanced-none, balanced-append, at_or_before-refl, at_or_before-trans, forward-from}
@@ -128,6 +128,10 @@ inline-pair name p q h = go (same_place p q)
     go true = refl
     go false = and_from (is_inline name) (is_inline name && true) h (and_from (is_inline name) true h refl)
 
+append-none : (es : List Event) → es ++ [] ≡ es
+append-none [] = refl
+append-none (e ∷ es) = ap (λ (l : List Event). e ∷ l) (append-none es)
+
 forward-pair : (o : Point) (name : Name) (p q : Point) (es : List Event) → IsTrue (at_or_before o p) → IsTrue (at_or_before p q) → Forward q es → Forward o (pair_unless_empty name p q ++ es)
 forward-pair o name p q es h k f = go (same_place p q)
   where
@@ -166,17 +170,25 @@ plain-balanced bytes (chunk ∷ chunks) =
       (balanced-append (pair_unless_empty n.Data chunk.first (line_end bytes chunk)) (pair_unless_empty n.LineEnding (line_end bytes chunk) chunk.after) (balanced-pair n.Data chunk.first (line_end bytes chunk)) (balanced-pair n.LineEnding (line_end bytes chunk) chunk.after))
       (plain-balanced bytes chunks)
 
-plain-forward : (bytes : List ℕ) (p : Point) (chunks : List Chunk) → in_order p chunks ≡ true → Forward p (together (plain_chunks bytes chunks))
-plain-forward bytes p [] h = tt
-plain-forward bytes p (chunk ∷ chunks) h =
-    let content : List Event = pair_unless_empty n.Data chunk.first (line_end bytes chunk) in
-    let ending : List Event = pair_unless_empty n.LineEnding (line_end bytes chunk) chunk.after in
-    let rest : List Event = together (plain_chunks bytes chunks) in
-    let outer : (at_or_before p chunk.first && at_or_before chunk.first chunk.after ≡ true) × (in_order chunk.after chunks ≡ true) = and_parts (at_or_before p chunk.first && at_or_before chunk.first chunk.after) (in_order chunk.after chunks) h in
-    let inner : (at_or_before p chunk.first ≡ true) × (at_or_before chunk.first chunk.after ≡ true) = and_parts (at_or_before p chunk.first) (at_or_before chunk.first chunk.after) outer.0 in
-    subst (Forward p) (sym (append_assoc content ending rest))
-      (forward-pair p n.Data chunk.first (line_end bytes chunk) (ending ++ rest) inner.0 (end-behind bytes chunk)
-        (forward-pair (line_end bytes chunk) n.LineEnding (line_end bytes chunk) chunk.after rest (at_or_before-refl (line_end bytes chunk)) (end-before bytes chunk inner.1) (plain-forward bytes chunk.after chunks outer.1)))
+last-pair : (o : Point) (name : Name) (p q : Point) → IsTrue (at_or_before o p) → IsTrue (at_or_before p q) → (es : List Event) (r : Point) → ((o : Point) → IsTrue (at_or_before o q) → IsTrue (at_or_before (last_point o es) r)) → IsTrue (at_or_before (last_point o (pair_unless_empty name p q ++ es)) r)
+last-pair o name p q h k es r rest = go (same_place p q)
+  where
+    go : (x : Bool) → IsTrue (at_or_before (last_point o (cond x [] (pair name p q) ++ es)) r)
+    go true = rest o (at_or_before-trans o p q h k)
+    go false = rest q (at_or_before-refl q)
+
+plain-forward : (bytes : List ℕ) (chunk : Chunk) → IsTrue (at_or_before chunk.first chunk.after) → Forward chunk.first (plain_chunk bytes chunk)
+plain-forward bytes chunk h =
+    let end : Point = line_end bytes chunk in
+    forward-pair chunk.first n.Data chunk.first end (pair_unless_empty n.LineEnding end chunk.after) (at_or_before-refl chunk.first) (end-behind bytes chunk)
+      (subst (Forward end) (append-none (pair_unless_empty n.LineEnding end chunk.after)) (forward-pair end n.LineEnding end chunk.after [] (at_or_before-refl end) (end-before bytes chunk h) tt))
+
+plain-last : (bytes : List ℕ) (chunk : Chunk) → IsTrue (at_or_before chunk.first chunk.after) → IsTrue (at_or_before (last_point chunk.first (plain_chunk bytes chunk)) chunk.after)
+plain-last bytes chunk h =
+    let end : Point = line_end bytes chunk in
+    last-pair chunk.first n.Data chunk.first end (at_or_before-refl chunk.first) (end-behind bytes chunk) (pair_unless_empty n.LineEnding end chunk.after) chunk.after
+      (λ o before. subst (λ (l : List Event). IsTrue (at_or_before (last_point o l) chunk.after)) (append-none (pair_unless_empty n.LineEnding end chunk.after))
+        (last-pair o n.LineEnding end chunk.after before (end-before bytes chunk h) [] chunk.after (λ o h. h)))
 
 plain-placed : (bytes : List ℕ) (chunks : List Chunk) → list_all (chunk_placed bytes) chunks ≡ true → are_placed bytes (together (plain_chunks bytes chunks)) ≡ true
 plain-placed bytes [] h = refl
@@ -219,19 +231,24 @@ plain-covers bytes chunk = go (line_end bytes chunk) (same_place chunk.first (li
     go end false h true k = (same-refl chunk.first, k)
     go end false h false k = (same-refl chunk.first, (same-refl end, same-refl chunk.after))
 
-plain-fills : (bytes : List ℕ) (chunks : List Chunk) → Fills chunks (plain_chunks bytes chunks)
-plain-fills bytes [] = tt
-plain-fills bytes (chunk ∷ chunks) = (plain-covers bytes chunk, plain-fills bytes chunks)
+plain-fills : (bytes : List ℕ) (p : Point) (chunks : List Chunk) → in_order p chunks ≡ true → Fills chunks (plain_chunks bytes chunks)
+plain-fills bytes p [] h = tt
+plain-fills bytes p (chunk ∷ chunks) h =
+    let outer : (at_or_before p chunk.first && at_or_before chunk.first chunk.after ≡ true) × (in_order chunk.after chunks ≡ true) = and_parts (at_or_before p chunk.first && at_or_before chunk.first chunk.after) (in_order chunk.after chunks) h in
+    let inner : (at_or_before p chunk.first ≡ true) × (at_or_before chunk.first chunk.after ≡ true) = and_parts (at_or_before p chunk.first) (at_or_before chunk.first chunk.after) outer.0 in
+    (plain-forward bytes chunk inner.1, plain-last bytes chunk inner.1, plain-covers bytes chunk, plain-fills bytes chunk.after chunks outer.1)
 
 -- What the plain layer gives for a text part keeps the promise of every layer.
 pub plain-framed : (bytes : List ℕ) (part : Part) → IsPart bytes part → Framed bytes part (plain_events bytes part)
 plain-framed bytes part is = record {
   balanced = plain-balanced bytes part.chunks;
-  forward = plain-forward bytes first_point part.chunks is.order;
   placed = plain-placed bytes part.chunks is.placed;
   inline = plain-inline bytes part.chunks;
   endings = plain-endings bytes part.chunks;
   cut = plain_chunks bytes part.chunks;
   whole = refl;
-  fills = plain-fills bytes part.chunks;
+  fills = plain-fills bytes first_point part.chunks is.order;
 }
+
+pub plain-keeps : (bytes : List ℕ) → KeepsFrame bytes (λ part events. events ≡ plain_events bytes part)
+plain-keeps bytes part events is read = subst (Framed bytes part) (sym read) (plain-framed bytes part is)

@@ -12,7 +12,7 @@ use Rattle.md_seam.specs.declared.inline.Chunk.{Chunk}
 use Rattle.md_seam.specs.Lines.{without_ending}
 use Rattle.md_seam.specs.Texts.{split_lines}
 use Rattle.md_seam.specs.Places.{first_point, is_placed, are_placed, same_place, at_or_before, past_text}
-use Rattle.md_seam.specs.Nested.{Balanced, Forward, pair}
+use Rattle.md_seam.specs.Nested.{Balanced, Forward, last_point, pair}
 
 -- A text part: what it may hold, and its chunks, one a line.
 pub record Part : Type 0 where
@@ -127,19 +127,19 @@ abbrev pub line_endings : List Event → List Event
 line_endings [] = []
 line_endings (e ∷ es) = if is_line_ending e.name then e ∷ line_endings es else line_endings es
 
--- the events that stand in the place of each chunk cover it
+-- what stands in the place of each chunk lies in it, never goes back, and covers it with its innermost pairs
 abbrev pub Fills : List Chunk → List (List Event) → Type 0
 Fills [] [] = Unit {0}
-Fills (chunk ∷ chunks) (events ∷ rest) = Covers chunk.first (pieces events) chunk.after × Fills chunks rest
+Fills (chunk ∷ chunks) (events ∷ rest) =
+    Forward chunk.first events × IsTrue (at_or_before (last_point chunk.first events) chunk.after) × Covers chunk.first (pieces events) chunk.after × Fills chunks rest
 Fills [] (events ∷ rest) = ⊥
 Fills (chunk ∷ chunks) [] = ⊥
 
--- What the events of a text part are in every layer: brackets over the whole part, at points of the text that never go
--- back, with no name of a block, and with one `LineEnding` over each ending of a chunk and none elsewhere. They are cut so
--- that the innermost pairs cover each chunk, and none reaches over two.
+-- What the events of a text part are in every layer: brackets over the whole part, at points of the text, with no name of a
+-- block, and with one `LineEnding` over each ending of a chunk and none elsewhere. They are cut into what stands in the place
+-- of each chunk, and no piece reaches over two.
 pub record Framed (bytes : List ℕ) (part : Part) (events : List Event) : Type 0 where
   pub balanced : Balanced events
-  pub forward : Forward first_point events
   pub placed : IsTrue (are_placed bytes events)
   pub inline : IsTrue (list_all (λ (e : Event). is_inline e.name) events)
   pub endings : line_endings events ≡ endings_of bytes part.chunks
@@ -154,3 +154,7 @@ pub record IsPart (bytes : List ℕ) (part : Part) : Type 0 where
   pub some : 0 < length part.chunks
   pub order : IsTrue (in_order first_point part.chunks)
   pub placed : IsTrue (list_all (chunk_placed bytes) part.chunks)
+
+-- a layer that keeps the promise of every layer
+abbrev pub KeepsFrame : List ℕ → (Part → List Event → Type 0) → Type 0
+KeepsFrame bytes reads = (part : Part) (events : List Event) → IsPart bytes part → reads part events → Framed bytes part events
