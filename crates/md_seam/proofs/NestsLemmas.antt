@@ -147,3 +147,107 @@ inside-chunk name other p q link back es X part N G gs inside ends linked stands
         subst (λ (x : Bool). Does (X ++ (part ∷ N)) (cond x (events ++ filled_from true (f ∷ es) (G ++ together gs)) (e ∷ filled_from false (f ∷ es) ((events ∷ G) ++ together gs))) (part ∷ N) (e ∷ f ∷ es)) (sym linked)
           (matches-append (X ++ (part ∷ N)) events (filled_from false es (G ++ together gs)) (matches-under X (part ∷ N) events (matches-front X events (together G) m)) rest.0,
            open_after-append (X ++ (part ∷ N)) events (filled_from false es (G ++ together gs)) ∙ rest.1)
+
+abbrev InsideBehind : List Event → Type 0
+InsideBehind [] = Unit {0}
+InsideBehind (f ∷ es) = Inside es
+
+not-true : (x : Bool) → not x ≡ true → x ≡ false
+not-true false h = refl
+not-true true h = cc
+
+or-false : (x y : Bool) → (not x || y) ≡ true → x ≡ true → y ≡ true
+or-false true y h e = h
+or-false false y h e = cc
+
+inside-linked : (kind : Kind) (name : Name) (p : Point) (link : Option Link) (es : List Event) (D X : List Name) (part : Name) (N : List Name) (G : List (List Event)) (gs : List (List (List Event))) → InsideBehind es →
+    let e : Event = record { kind = kind; name = name; point = p; link = link } in
+    length D ≡ 0 → is_chunk e es ≡ true → is_linked e ≡ true → chunks_stand (depth_behind kind (suc (length D))) es ≡ true → is_part part ≡ true →
+    Fills (chunks (pieces (e ∷ inside_part es))) G → Matches X (together G) → open_after X (together G) ≡ [] → EachFills (parts es) gs → Matches (D ++ (part ∷ N)) (e ∷ es) →
+    Does (D ++ (X ++ (part ∷ N))) (filled_from false (e ∷ es) (G ++ together gs)) (D ++ (part ∷ N)) (e ∷ es)
+inside-linked kind name p link es (d ∷ D) X part N G gs inside flat chunk linked stands is fills m closed each k = absurd (omega arith)
+inside-linked kind name p link [] [] X part N G gs inside flat chunk linked stands is fills m closed each k = cc
+inside-linked kind name p link (f ∷ es) [] X part N G gs inside flat chunk linked stands is fills m closed each k = go kind f.kind chunk stands fills each k
+  where
+    go : (kind back : Kind) →
+        let e : Event = record { kind = kind; name = name; point = p; link = link } in
+        let g : Event = record { kind = back; name = f.name; point = f.point; link = f.link } in
+        is_chunk e (g ∷ es) ≡ true → chunks_stand (depth_behind kind 1) (g ∷ es) ≡ true → Fills (chunks (pieces (e ∷ inside_part (g ∷ es)))) G → EachFills (parts (g ∷ es)) gs → Matches (part ∷ N) (e ∷ g ∷ es) →
+        Does (X ++ (part ∷ N)) (filled_from false (e ∷ g ∷ es) (G ++ together gs)) (part ∷ N) (e ∷ g ∷ es)
+    go Enter Exit chunk stands fills each k = inside-chunk name f.name p f.point link f.link es X part N G gs inside (and_parts (is_data name && true) (is_data f.name) chunk).1 linked stands is fills m closed each k
+    go Enter Enter chunk stands fills each k = cc ((and_parts (is_data name) false (and_parts (is_data name && false) (is_data f.name) chunk).0).1)
+    go Exit back chunk stands fills each k = cc
+
+inside-step : (kind : Kind) (name : Name) (p : Point) (link : Option Link) (es : List Event) → Outside es → Inside es → InsideBehind es → Inside ((record { kind = kind; name = name; point = p; link = link }) ∷ es)
+inside-step kind name p link es outside inside behind D X part N G gs stands is fills m closed each k = go (is_part name) refl stands
+  where
+    e : Event
+    e = record { kind = kind; name = name; point = p; link = link }
+    go : (x : Bool) → is_part name ≡ x →
+        cond x (is_exit kind && (length D == 0) && not (is_linked e) && chunks_stand 0 es) (stands_in_part name && (not (is_linked e) || ((length D == 0) && is_chunk e es)) && chunks_stand (depth_behind kind (suc (length D))) es) ≡ true →
+        Does (D ++ (X ++ (part ∷ N))) (filled_from false (e ∷ es) (G ++ together gs)) (D ++ (part ∷ N)) (e ∷ es)
+    go true at h =
+        let outer : (is_exit kind && (length D == 0) && not (is_linked e) ≡ true) × (chunks_stand 0 es ≡ true) = and_parts (is_exit kind && (length D == 0) && not (is_linked e)) (chunks_stand 0 es) h in
+        let middle : (is_exit kind && (length D == 0) ≡ true) × (not (is_linked e) ≡ true) = and_parts (is_exit kind && (length D == 0)) (not (is_linked e)) outer.0 in
+        let inner : (is_exit kind ≡ true) × ((length D == 0) ≡ true) = and_parts (is_exit kind) (length D == 0) middle.0 in
+        inside-part_ends kind name p link es D X part N G gs outside at inner.0 (eqb-true (length D) 0 inner.1) (not-true (is_linked e) middle.1) outer.1 fills closed each k
+    go false at h =
+        let outer : (stands_in_part name && (not (is_linked e) || ((length D == 0) && is_chunk e es)) ≡ true) × (chunks_stand (depth_behind kind (suc (length D))) es ≡ true) =
+          and_parts (stands_in_part name && (not (is_linked e) || ((length D == 0) && is_chunk e es))) (chunks_stand (depth_behind kind (suc (length D))) es) h in
+        let chunk : (not (is_linked e) || ((length D == 0) && is_chunk e es)) ≡ true = (and_parts (stands_in_part name) (not (is_linked e) || ((length D == 0) && is_chunk e es)) outer.0).1 in
+        by (is_linked e) refl chunk outer.1
+          (subst (λ (x : Bool). Fills (chunks (pieces (cond (x && is_exit kind) [] (e ∷ inside_part es)))) G) at fills)
+          (subst (λ (l : List Part). EachFills (l ++ parts es) gs) (part-none kind name es at) each)
+      where
+        by : (y : Bool) → is_linked e ≡ y → (not (is_linked e) || ((length D == 0) && is_chunk e es)) ≡ true → chunks_stand (depth_behind kind (suc (length D))) es ≡ true → Fills (chunks (pieces (e ∷ inside_part es))) G → EachFills (parts es) gs →
+            Does (D ++ (X ++ (part ∷ N))) (filled_from false (e ∷ es) (G ++ together gs)) (D ++ (part ∷ N)) (e ∷ es)
+        by false unlinked chunk on fills each = inside-other kind name p link es D X part N G gs inside at unlinked on is (subst (λ (l : List Chunk). Fills l G) (chunks-unlinked e (inside_part es) unlinked) fills) m closed each k
+        by true linked chunk on fills each =
+            let parts : ((length D == 0) ≡ true) × (is_chunk e es ≡ true) = and_parts (length D == 0) (is_chunk e es) (or-false (is_linked e) ((length D == 0) && is_chunk e es) chunk linked) in
+            inside-linked kind name p link es D X part N G gs behind (eqb-true (length D) 0 parts.0) parts.1 linked on is fills m closed each k
+
+-- a part begins
+outside-part : (name : Name) (p : Point) (link : Option Link) (es : List Event) (N : List Name) (gs : List (List (List Event))) → Inside es → is_part name ≡ true → (kind : PartKind) (list : List Chunk) → chunks (pieces (inside_part es)) ≡ list →
+    chunks_stand 1 es ≡ true → EachFills (part_of kind list ++ parts es) gs → Matches (name ∷ N) es → Does (name ∷ N) (filled_from false es (together gs)) (name ∷ N) es
+outside-part name p link es N gs inside is kind [] none stands each k = inside [] [] name N [] gs stands is (subst (λ (l : List Chunk). Fills l []) (sym none) tt) tt refl each k
+outside-part name p link es N [] inside is kind (chunk ∷ list) some stands each k = absurd each
+outside-part name p link es N (g ∷ gs) inside is kind (chunk ∷ list) some stands each k =
+    let does : Does (name ∷ N) (filled_from false es (g ++ together gs)) (name ∷ N) es = inside [] [] name N g gs stands is (subst (λ (l : List Chunk). Fills l g) (sym some) each.0) each.1.matches each.1.closed each.2 k in
+    does
+
+outside-step : (kind : Kind) (name : Name) (p : Point) (link : Option Link) (es : List Event) → Outside es → Inside es → Outside ((record { kind = kind; name = name; point = p; link = link }) ∷ es)
+outside-step kind name p link es outside inside N gs stands each k =
+    let parts : (not (is_linked e) ≡ true) × (chunks_stand (cond (is_part name && not (is_exit kind)) 1 0) es ≡ true) = and_parts (not (is_linked e)) (chunks_stand (cond (is_part name && not (is_exit kind)) 1 0) es) stands in
+    does-next N N e es (together gs) (not-true (is_linked e) parts.0) k.0 (go kind (is_part name) refl parts.1 each k.1)
+  where
+    e : Event
+    e = record { kind = kind; name = name; point = p; link = link }
+    at : (x : Option PartKind) → (elim x [ None ↦ false | Some k ↦ true ]) ≡ true → chunks_stand 1 es ≡ true → EachFills (part_at Enter x es ++ parts es) gs → is_part name ≡ true → Matches (name ∷ N) es → Does (name ∷ N) (filled_from false es (together gs)) (name ∷ N) es
+    at None h stands each is k = cc
+    at (Some kind) h stands each is k = outside-part name p link es N gs inside is kind (chunks (pieces (inside_part es))) refl stands each k
+    go : (kind : Kind) (x : Bool) → is_part name ≡ x → chunks_stand (cond (x && not (is_exit kind)) 1 0) es ≡ true → EachFills (part_at kind (part_kind name) es ++ parts es) gs → Matches (open_behind N kind name) es →
+        Does (open_behind N kind name) (filled_from false es (together gs)) (open_behind N kind name) es
+    go Enter true is stands each k = at (part_kind name) is stands each is k
+    go Enter false is stands each k = outside (name ∷ N) gs stands (subst (λ (l : List Part). EachFills (l ++ parts es) gs) (part-none Enter name es is) each) k
+    go Exit true is stands each k = outside (open_behind N Exit name) gs stands each k
+    go Exit false is stands each k = outside (open_behind N Exit name) gs stands each k
+
+does-all : (es : List Event) → (outside : Outside es) × (inside : Inside es) × InsideBehind es
+does-all [] = ((λ N gs stands each k. (tt, refl)), inside-end, tt)
+does-all (e ∷ es) =
+    let all : (outside : Outside es) × (inside : Inside es) × InsideBehind es = does-all es in
+    (outside-step e.kind e.name e.point e.link es all.0 all.1, inside-step e.kind e.name e.point e.link es all.0 all.1 all.2, all.1)
+
+fills-read : (bytes : List ℕ) (reads : Part → List Event → Type 0) → KeepsFrame bytes reads → (parts : List Part) (lists : List (List (List Event))) → EachPart (IsPart bytes) parts → EachRead reads parts lists → EachFills parts lists
+fills-read bytes reads frame [] [] are each = tt
+fills-read bytes reads frame [] (l ∷ lists) are each = absurd each
+fills-read bytes reads frame (part ∷ parts) [] are each = absurd each
+fills-read bytes reads frame (part ∷ parts) (l ∷ lists) are each = (each.0, (frame part (together l) are.0 each.1).balanced, fills-read bytes reads frame parts lists are.1 each.2)
+
+-- A list that tiles is one of brackets, whatever the layer.
+pub tiles-balanced : (bytes : List ℕ) (reads : Part → List Event → Type 0) (events : List Event) → KeepsFrame bytes reads → (tiles : Tiles reads bytes events) → Balanced events
+tiles-balanced bytes reads events frame tiles =
+    let balanced : Balanced tiles.blocks = tiles.block_list.nested.balanced in
+    let does : Does [] (filled_from false tiles.blocks (together tiles.lists)) [] tiles.blocks =
+      (does-all tiles.blocks).0 [] tiles.lists tiles.block_list.chunks (fills-read bytes reads frame (parts tiles.blocks) tiles.lists (parts-are bytes tiles.blocks tiles.block_list) tiles.each) balanced.matches in
+    subst Balanced (sym tiles.read) (record { matches = does.0; closed = does.1 ∙ balanced.closed })
