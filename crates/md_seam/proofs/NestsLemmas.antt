@@ -1,7 +1,8 @@
--- Once its text parts are read, a block list is still one of brackets.
+-- Once its text parts are read, a block list is still nested, and stands at points of its text.
 use Rattle.std.proofs.Common.{◌≡◌, ℕ, zero, suc, Bool, true, false, cond, ◌&&◌, ◌||◌, List, [], ◌∷◌, ◌++◌, length, refl, ap, sym, ◌∙◌, subst, append_assoc, arith}
-use Rattle.std.specs.Prelude.{Option, Some, None, ◌==◌, not}
-use Rattle.std.proofs.lemmas.Bool.{and_parts, eqb-true}
+use Rattle.std.specs.Prelude.{Option, Some, None, ◌==◌, not, IsTrue}
+use Rattle.std.specs.List.{list_all}
+use Rattle.std.proofs.lemmas.Bool.{and_parts, and_from, eqb-true}
 use Rattle.md_engine.specs.declared.event.Point.{Point}
 use Rattle.md_engine.specs.declared.event.Link.{Link}
 use Rattle.md_engine.specs.declared.event.Event.{Event}
@@ -11,10 +12,11 @@ use Rattle.md_engine.specs.declared.event.Name.{Name}
 use Rattle.md_engine.specs.declared.event.Name.TheVariants as n
 use Rattle.md_seam.specs.declared.inline.PartKind.{PartKind}
 use Rattle.md_seam.specs.declared.inline.Chunk.{Chunk}
-use Rattle.md_seam.specs.Nested.{open_behind, open_after, Fits, Matches, Balanced}
+use Rattle.md_seam.specs.Places.{first_point, is_placed, are_placed, at_or_before}
+use Rattle.md_seam.specs.Nested.{open_behind, open_after, Fits, Matches, Forward, last_point, Balanced, Nested}
 use Rattle.md_seam.specs.Inline.{Part, Piece, Framed, IsPart, KeepsFrame, Fills, is_linked, together, piece_of, pieces_from, pieces}
 use Rattle.md_seam.specs.Tiles.{stands_in_part, is_data, is_exit, is_part, is_chunk, depth_behind, chunks_stand, first_list, further_lists, filled_from, filled, parts, part_kind, part_of, part_at, inside_part, chunks, IsBlockList, EachRead, Tiles}
-use Rattle.md_seam.proofs.NestedLemmas.{open_after-append, matches-append, matches-front, matches-rest, matches-under, open_after-under}
+use Rattle.md_seam.proofs.NestedLemmas.{open_after-append, matches-append, matches-front, matches-rest, matches-under, open_after-under, forward-append, forward-from, at_or_before-trans}
 use Rattle.md_seam.proofs.PartsLemmas.{EachPart, parts-are}
 
 -- Chunks and parts, event by event.
@@ -52,9 +54,9 @@ EachFills (part ∷ parts) (lists ∷ rest) = Fills part.chunks lists × Balance
 EachFills [] (lists ∷ rest) = ⊥
 EachFills (part ∷ parts) [] = ⊥
 
--- From these open names, some events do what others do from those.
+-- From these open names, some events do what others do from those, and never go back where those do not.
 abbrev Does : List Name → List Event → List Name → List Event → Type 0
-Does M fs N es = Matches M fs × (open_after M fs ≡ open_after N es)
+Does M fs N es = Matches M fs × (open_after M fs ≡ open_after N es) × ((p : Point) → Forward p es → Forward p fs)
 
 abbrev Outside : List Event → Type 0
 Outside es = (N : List Name) (gs : List (List (List Event))) → chunks_stand 0 es ≡ true → EachFills (parts es) gs → Matches N es → Does N (filled_from false es (together gs)) N es
@@ -73,13 +75,13 @@ inside-end : Inside []
 inside-end D X part N G gs stands is fills m closed each k =
     let none : G ≡ [] = no_lists G fills in
     let gone : X ≡ [] = subst (λ (G : List (List Event)). open_after X (together G) ≡ []) none closed in
-    (tt, ap (λ (X : List Name). D ++ (X ++ (part ∷ N))) gone)
+    (tt, ap (λ (X : List Name). D ++ (X ++ (part ∷ N))) gone, λ p f. tt)
 
 -- an event with no link, with what follows
 does-next : (M N : List Name) (e : Event) (es : List Event) (lists : List (List Event)) → is_linked e ≡ false → Fits M e.kind e.name →
     Does (open_behind M e.kind e.name) (filled_from false es lists) (open_behind N e.kind e.name) es → Does M (filled_from false (e ∷ es) lists) N (e ∷ es)
 does-next M N e es lists unlinked fits does =
-    subst (λ (x : Bool). Does M (cond x (first_list lists ++ filled_from true es (further_lists lists)) (e ∷ filled_from false es lists)) N (e ∷ es)) (sym unlinked) ((fits, does.0), does.1)
+    subst (λ (x : Bool). Does M (cond x (first_list lists ++ filled_from true es (further_lists lists)) (e ∷ filled_from false es lists)) N (e ∷ es)) (sym unlinked) ((fits, does.0), does.1, λ p f. (f.0, does.2 e.point f.1))
 
 -- the end of a part
 inside-part_ends : (kind : Kind) (name : Name) (p : Point) (link : Option Link) (es : List Event) (D X : List Name) (part : Name) (N : List Name) (G : List (List Event)) (gs : List (List (List Event))) → Outside es →
@@ -109,6 +111,10 @@ inside-other Exit name p link es (d ∷ D) X part N G gs inside other unlinked s
     does-next ((d ∷ D) ++ (X ++ (part ∷ N))) ((d ∷ D) ++ (part ∷ N)) (record { kind = Exit; name = name; point = p; link = link }) es (G ++ together gs) unlinked k.0 (inside D X part N G gs stands is fills m closed each k.1)
 inside-other Exit name p link es [] X part N G gs inside other unlinked stands is fills m closed each k =
     let same : is_part part ≡ is_part name = ap is_part k.0 in cc
+
+last-from : (o p q : Point) (es : List Event) → IsTrue (at_or_before o q) → IsTrue (at_or_before (last_point p es) q) → IsTrue (at_or_before (last_point o es) q)
+last-from o p q [] h k = h
+last-from o p q (e ∷ es) h k = k
 
 -- a chunk
 inside-chunk : (name other : Name) (p q : Point) (link back : Option Link) (es : List Event) (X : List Name) (part : Name) (N : List Name) (G : List (List Event)) (gs : List (List (List Event))) → Inside es →
@@ -146,7 +152,9 @@ inside-chunk name other p q link back es X part N G gs inside ends linked stands
           subst (λ (M : List Name). Does M (filled_from false es (G ++ together gs)) (part ∷ N) es) (sym under) next in
         subst (λ (x : Bool). Does (X ++ (part ∷ N)) (cond x (events ++ filled_from true (f ∷ es) (G ++ together gs)) (e ∷ filled_from false (f ∷ es) ((events ∷ G) ++ together gs))) (part ∷ N) (e ∷ f ∷ es)) (sym linked)
           (matches-append (X ++ (part ∷ N)) events (filled_from false es (G ++ together gs)) (matches-under X (part ∷ N) events (matches-front X events (together G) m)) rest.0,
-           open_after-append (X ++ (part ∷ N)) events (filled_from false es (G ++ together gs)) ∙ rest.1)
+           open_after-append (X ++ (part ∷ N)) events (filled_from false es (G ++ together gs)) ∙ rest.1,
+           λ o h. forward-append o events (filled_from false es (G ++ together gs)) (forward-from o p events h.0 fills.0)
+             (forward-from (last_point o events) q (filled_from false es (G ++ together gs)) (last-from o p q events (at_or_before-trans o p q h.0 h.1.0) fills.1) (rest.2 q h.1.1)))
 
 abbrev InsideBehind : List Event → Type 0
 InsideBehind [] = Unit {0}
@@ -233,7 +241,7 @@ outside-step kind name p link es outside inside N gs stands each k =
     go Exit false is stands each k = outside (open_behind N Exit name) gs stands each k
 
 does-all : (es : List Event) → (outside : Outside es) × (inside : Inside es) × InsideBehind es
-does-all [] = ((λ N gs stands each k. (tt, refl)), inside-end, tt)
+does-all [] = ((λ N gs stands each k. (tt, refl, λ p f. tt)), inside-end, tt)
 does-all (e ∷ es) =
     let all : (outside : Outside es) × (inside : Inside es) × InsideBehind es = does-all es in
     (outside-step e.kind e.name e.point e.link es all.0 all.1, inside-step e.kind e.name e.point e.link es all.0 all.1 all.2, all.1)
@@ -244,10 +252,62 @@ fills-read bytes reads frame [] (l ∷ lists) are each = absurd each
 fills-read bytes reads frame (part ∷ parts) [] are each = absurd each
 fills-read bytes reads frame (part ∷ parts) (l ∷ lists) are each = (each.0, (frame part (together l) are.0 each.1).balanced, fills-read bytes reads frame parts lists are.1 each.2)
 
--- A list that tiles is one of brackets, whatever the layer.
-pub tiles-balanced : (bytes : List ℕ) (reads : Part → List Event → Type 0) (events : List Event) → KeepsFrame bytes reads → (tiles : Tiles reads bytes events) → Balanced events
-tiles-balanced bytes reads events frame tiles =
-    let balanced : Balanced tiles.blocks = tiles.block_list.nested.balanced in
+-- A list that tiles is nested, whatever the layer.
+pub tiles-nested : (bytes : List ℕ) (reads : Part → List Event → Type 0) (events : List Event) → KeepsFrame bytes reads → Tiles reads bytes events → Nested events
+tiles-nested bytes reads events frame tiles =
+    let nested : Nested tiles.blocks = tiles.block_list.nested in
     let does : Does [] (filled_from false tiles.blocks (together tiles.lists)) [] tiles.blocks =
-      (does-all tiles.blocks).0 [] tiles.lists tiles.block_list.chunks (fills-read bytes reads frame (parts tiles.blocks) tiles.lists (parts-are bytes tiles.blocks tiles.block_list) tiles.each) balanced.matches in
-    subst Balanced (sym tiles.read) (record { matches = does.0; closed = does.1 ∙ balanced.closed })
+      (does-all tiles.blocks).0 [] tiles.lists tiles.block_list.chunks (fills-read bytes reads frame (parts tiles.blocks) tiles.lists (parts-are bytes tiles.blocks tiles.block_list) tiles.each) nested.balanced.matches in
+    subst Nested (sym tiles.read) (record { balanced = record { matches = does.0; closed = does.1 ∙ nested.balanced.closed }; forward = does.2 first_point nested.forward })
+
+-- Points.
+
+all-append : (test : Event → Bool) (xs ys : List Event) → list_all test xs ≡ true → list_all test ys ≡ true → list_all test (xs ++ ys) ≡ true
+all-append test [] ys h k = k
+all-append test (e ∷ xs) ys h k =
+    let parts : (test e ≡ true) × (list_all test xs ≡ true) = and_parts (test e) (list_all test xs) h in
+    and_from (test e) (list_all test (xs ++ ys)) parts.0 (all-append test xs ys parts.1 k)
+
+all-parts : (test : Event → Bool) (xs ys : List Event) → list_all test (xs ++ ys) ≡ true → (list_all test xs ≡ true) × (list_all test ys ≡ true)
+all-parts test [] ys h = (refl, h)
+all-parts test (e ∷ xs) ys h =
+    let parts : (test e ≡ true) × (list_all test (xs ++ ys) ≡ true) = and_parts (test e) (list_all test (xs ++ ys)) h in
+    let rest : (list_all test xs ≡ true) × (list_all test ys ≡ true) = all-parts test xs ys parts.1 in
+    (and_from (test e) (list_all test xs) parts.0 rest.0, rest.1)
+
+first-all : (test : Event → Bool) (lists : List (List Event)) → list_all test (together lists) ≡ true → (list_all test (first_list lists) ≡ true) × (list_all test (together (further_lists lists)) ≡ true)
+first-all test [] h = (refl, refl)
+first-all test (events ∷ lists) h = all-parts test events (together lists) h
+
+-- what holds of each event of a block list and of what stands in its chunks' places
+all-filled : (test : Event → Bool) (inside : Bool) (es : List Event) (lists : List (List Event)) → list_all test es ≡ true → list_all test (together lists) ≡ true → list_all test (filled_from inside es lists) ≡ true
+all-filled test inside [] lists h k = refl
+all-filled test true (e ∷ es) lists h k = all-filled test false es lists (and_parts (test e) (list_all test es) h).1 k
+all-filled test false (e ∷ es) lists h k =
+    let parts : (test e ≡ true) × (list_all test es ≡ true) = and_parts (test e) (list_all test es) h in
+    let front : (list_all test (first_list lists) ≡ true) × (list_all test (together (further_lists lists)) ≡ true) = first-all test lists k in
+    go (is_linked e) parts.0 (all-filled test false es lists parts.1 k) front.0 (all-filled test true es (further_lists lists) parts.1 front.1)
+  where
+    go : (x : Bool) → test e ≡ true → list_all test (filled_from false es lists) ≡ true → list_all test (first_list lists) ≡ true → list_all test (filled_from true es (further_lists lists)) ≡ true →
+        list_all test (cond x (first_list lists ++ filled_from true es (further_lists lists)) (e ∷ filled_from false es lists)) ≡ true
+    go true one rest first further = all-append test (first_list lists) (filled_from true es (further_lists lists)) first further
+    go false one rest first further = and_from (test e) (list_all test (filled_from false es lists)) one rest
+
+together-append : (xs ys : List (List Event)) → together (xs ++ ys) ≡ together xs ++ together ys
+together-append [] ys = refl
+together-append (events ∷ xs) ys = ap (λ (l : List Event). events ++ l) (together-append xs ys) ∙ sym (append_assoc events (together xs) (together ys))
+
+placed-read : (bytes : List ℕ) (reads : Part → List Event → Type 0) → KeepsFrame bytes reads → (parts : List Part) (lists : List (List (List Event))) → EachPart (IsPart bytes) parts → EachRead reads parts lists → are_placed bytes (together (together lists)) ≡ true
+placed-read bytes reads frame [] [] are each = refl
+placed-read bytes reads frame [] (l ∷ lists) are each = absurd each
+placed-read bytes reads frame (part ∷ parts) [] are each = absurd each
+placed-read bytes reads frame (part ∷ parts) (l ∷ lists) are each =
+    subst (λ (es : List Event). are_placed bytes es ≡ true) (sym (together-append l (together lists)))
+      (all-append (λ (e : Event). is_placed bytes e.point) (together l) (together (together lists)) (frame part (together l) are.0 each.1).placed (placed-read bytes reads frame parts lists are.1 each.2))
+
+-- The events of a list that tiles stand at points of the text, whatever the layer.
+pub tiles-placed : (bytes : List ℕ) (reads : Part → List Event → Type 0) (events : List Event) → KeepsFrame bytes reads → Tiles reads bytes events → are_placed bytes events ≡ true
+tiles-placed bytes reads events frame tiles =
+    subst (λ (es : List Event). are_placed bytes es ≡ true) (sym tiles.read)
+      (all-filled (λ (e : Event). is_placed bytes e.point) false tiles.blocks (together tiles.lists) tiles.block_list.placed
+        (placed-read bytes reads frame (parts tiles.blocks) tiles.lists (parts-are bytes tiles.blocks tiles.block_list) tiles.each))
