@@ -52,7 +52,7 @@ data-role : (name : Name) → is_data name ≡ true → role name ≡ IsQuiet
 data-role n.Data h = refl
 data-role _ h = cc
 
-data-no_part : (name : Name) → is_data name ≡ true → is_part name ≡ false
+pub data-no_part : (name : Name) → is_data name ≡ true → is_part name ≡ false
 data-no_part n.Data h = refl
 data-no_part _ h = cc
 
@@ -128,11 +128,11 @@ same-unlinked bytes e es depth r lists same unlinked stands has each =
     ap (λ (x : Bool). read bytes r (cond x (first_list lists ++ filled_from true es (further_lists lists)) (e ∷ filled_from false es lists))) unlinked
       ∙ same depth (read_by bytes e.kind (role e.name) e.point r) lists stands has each
 
-not-true : (x : Bool) → not x ≡ true → x ≡ false
+pub not-true : (x : Bool) → not x ≡ true → x ≡ false
 not-true false h = refl
 not-true true h = cc
 
-or-false : (x y : Bool) → (not x || y) ≡ true → x ≡ true → y ≡ true
+pub or-false : (x y : Bool) → (not x || y) ≡ true → x ≡ true → y ≡ true
 or-false true y h e = h
 or-false false y h e = cc
 

@@ -16,7 +16,7 @@ use Rattle.md_seam.specs.Places.{first_point, is_placed, are_placed, same_place,
 use Rattle.md_seam.specs.Nested.{pair, Balanced, Forward, last_point}
 use Rattle.md_seam.specs.Inline.{Part, Piece, pieces, Covers, in_order, chunk_placed, chunk_text, line_end, pair_unless_empty, endings_of, plain_chunk, plain_chunks, together, plain_events, is_inline, is_line_ending, line_endings, Fills, Framed, IsPart, KeepsFrame}
 use Rattle.md_seam.proofs.TextsLemmas.{NoEnding}
-use Rattle.md_seam.proofs.PlacesLemmas.{Placed, placed-facts, placed-from, placed-text}
+use Rattle.md_seam.proofs.PlacesLemmas.{all-append, placed-facts, placed-from, placed-text}
 use Rattle.md_seam.proofs.NestedLemmas.{balanced-none, balanced-append, at_or_before-refl, at_or_before-trans, forward-from}
 
 -- Places.
@@ -107,12 +107,6 @@ balanced-pair name p q = go (same_place p q)
     go : (x : Bool) → Balanced (cond x [] (pair name p q))
     go true = balanced-none
     go false = record { matches = (tt, (refl, tt)); closed = refl }
-
-all-append : (test : Event → Bool) (xs ys : List Event) → list_all test xs ≡ true → list_all test ys ≡ true → list_all test (xs ++ ys) ≡ true
-all-append test [] ys h k = k
-all-append test (e ∷ xs) ys h k =
-    let parts : (test e ≡ true) × (list_all test xs ≡ true) = and_parts (test e) (list_all test xs) h in
-    and_from (test e) (list_all test (xs ++ ys)) parts.0 (all-append test xs ys parts.1 k)
 
 placed-pair : (bytes : List ℕ) (name : Name) (p q : Point) → is_placed bytes p ≡ true → is_placed bytes q ≡ true → are_placed bytes (pair_unless_empty name p q) ≡ true
 placed-pair bytes name p q h k = go (same_place p q)

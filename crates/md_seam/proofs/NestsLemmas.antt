@@ -9,7 +9,6 @@ use Rattle.md_engine.specs.declared.event.Event.{Event}
 use Rattle.md_engine.specs.declared.event.Kind.{Kind}
 use Rattle.md_engine.specs.declared.event.Kind.TheVariants.{Enter, Exit}
 use Rattle.md_engine.specs.declared.event.Name.{Name}
-use Rattle.md_engine.specs.declared.event.Name.TheVariants as n
 use Rattle.md_seam.specs.declared.inline.PartKind.{PartKind}
 use Rattle.md_seam.specs.declared.inline.Chunk.{Chunk}
 use Rattle.md_seam.specs.Places.{first_point, is_placed, are_placed, at_or_before}
@@ -17,6 +16,8 @@ use Rattle.md_seam.specs.Nested.{open_behind, open_after, Fits, Matches, Forward
 use Rattle.md_seam.specs.Inline.{Part, Piece, Framed, IsPart, KeepsFrame, Fills, is_linked, together, piece_of, pieces_from, pieces}
 use Rattle.md_seam.specs.Tiles.{stands_in_part, is_data, is_exit, is_part, is_chunk, depth_behind, chunks_stand, first_list, further_lists, filled_from, filled, parts, part_kind, part_of, part_at, inside_part, chunks, IsBlockList, EachRead, Tiles}
 use Rattle.md_seam.proofs.NestedLemmas.{open_after-append, matches-append, matches-front, matches-rest, matches-under, open_after-under, forward-append, forward-from, at_or_before-trans}
+use Rattle.md_seam.proofs.PlacesLemmas.{all-append}
+use Rattle.md_seam.proofs.FilledLemmas.{data-no_part, not-true, or-false}
 use Rattle.md_seam.proofs.PartsLemmas.{EachPart, parts-are}
 
 -- Chunks and parts, event by event.
@@ -42,10 +43,6 @@ part-none kind name es h = go kind (part_kind name) h
     go Enter None h = refl
     go Exit None h = refl
     go kind (Some k) h = cc
-
-data-no_part : (name : Name) → is_data name ≡ true → is_part name ≡ false
-data-no_part n.Data h = refl
-data-no_part _ h = cc
 
 -- The lists for the parts that are to come.
 abbrev EachFills : List Part → List (List (List Event)) → Type 0
@@ -160,14 +157,6 @@ abbrev InsideBehind : List Event → Type 0
 InsideBehind [] = Unit {0}
 InsideBehind (f ∷ es) = Inside es
 
-not-true : (x : Bool) → not x ≡ true → x ≡ false
-not-true false h = refl
-not-true true h = cc
-
-or-false : (x y : Bool) → (not x || y) ≡ true → x ≡ true → y ≡ true
-or-false true y h e = h
-or-false false y h e = cc
-
 inside-linked : (kind : Kind) (name : Name) (p : Point) (link : Option Link) (es : List Event) (D X : List Name) (part : Name) (N : List Name) (G : List (List Event)) (gs : List (List (List Event))) → InsideBehind es →
     let e : Event = record { kind = kind; name = name; point = p; link = link } in
     length D ≡ 0 → is_chunk e es ≡ true → is_linked e ≡ true → chunks_stand (depth_behind kind (suc (length D))) es ≡ true → is_part part ≡ true →
@@ -261,12 +250,6 @@ tiles-nested bytes reads events frame tiles =
     subst Nested (sym tiles.read) (record { balanced = record { matches = does.0; closed = does.1 ∙ nested.balanced.closed }; forward = does.2 first_point nested.forward })
 
 -- Points.
-
-all-append : (test : Event → Bool) (xs ys : List Event) → list_all test xs ≡ true → list_all test ys ≡ true → list_all test (xs ++ ys) ≡ true
-all-append test [] ys h k = k
-all-append test (e ∷ xs) ys h k =
-    let parts : (test e ≡ true) × (list_all test xs ≡ true) = and_parts (test e) (list_all test xs) h in
-    and_from (test e) (list_all test (xs ++ ys)) parts.0 (all-append test xs ys parts.1 k)
 
 all-parts : (test : Event → Bool) (xs ys : List Event) → list_all test (xs ++ ys) ≡ true → (list_all test xs ≡ true) × (list_all test ys ≡ true)
 all-parts test [] ys h = (refl, h)

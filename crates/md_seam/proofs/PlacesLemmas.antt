@@ -1,11 +1,12 @@
 -- Points of a text, and the points behind pieces of its lines.
 use Rattle.std.proofs.Common.{◌≡◌, ℕ, zero, suc, ◌+◌, ◌-◌, ◌%◌, ◌<◌, ◌≤◌, Bool, true, false, cond, ◌&&◌, ◌||◌, List, [], ◌∷◌, ◌++◌, length, take, drop, refl, ap, sym, ◌∙◌, subst, add-one, arith}
 use Rattle.std.specs.Prelude.{◌==◌, IsTrue, not, nat_lt, nat_le}
-use Rattle.std.specs.List.{onto_first}
+use Rattle.std.specs.List.{list_all, onto_first}
 use Rattle.std.proofs.lemmas.Bool.{and_parts, and_from, leb-true, eqb-true, eq-eqb}
 use Rattle.std.proofs.lemmas.Bool.Decides.{nat_tests}
 use Rattle.std.proofs.lemmas.Grind.{common_steps}
 use Rattle.md_engine.specs.declared.event.Point.{Point}
+use Rattle.md_engine.specs.declared.event.Event.{Event}
 use Rattle.md_seam.specs.Lines.{is_ending, begins_with, ends_line}
 use Rattle.md_seam.specs.Rest.{tab_columns}
 use Rattle.md_seam.specs.Texts.{split_lines, first_byte}
@@ -189,3 +190,10 @@ placed-text bytes p [] rest placed next line = placed
 placed-text bytes p (b ∷ text) rest placed next line =
     placed-text bytes (past_byte b p) text rest (placed-byte bytes p b (text ++ rest) placed next line.0)
       (ap (λ (i : ℕ). drop i bytes) (add-one p.index) ∙ drop-next p.index bytes b (text ++ rest) next) line.1
+
+-- a fact of events that stand one after the other
+pub all-append : (test : Event → Bool) (xs ys : List Event) → list_all test xs ≡ true → list_all test ys ≡ true → list_all test (xs ++ ys) ≡ true
+all-append test [] ys h k = k
+all-append test (e ∷ xs) ys h k =
+    let parts : (test e ≡ true) × (list_all test xs ≡ true) = and_parts (test e) (list_all test xs) h in
+    and_from (test e) (list_all test (xs ++ ys)) parts.0 (all-append test xs ys parts.1 k)
