@@ -41,12 +41,12 @@ part-tells n.GfmFootnoteDefinitionLabelString h = (AsFootnoteLabel, refl)
 part-tells _ h = cc
 
 -- what stands inside a text part is quiet, or a container prefix
-pub stands-role : (name : Name) → stands_in_part name ≡ true → QuietOrPrefix (role name)
-stands-role n.Data h = tt
-stands-role n.SpaceOrTab h = tt
-stands-role n.BlockQuotePrefix h = tt
-stands-role n.BlockQuoteMarker h = tt
-stands-role _ h = cc
+pub stands-role : (kind : Kind) (name : Name) → stands_in_part kind name ≡ true → QuietOrPrefix (role name)
+stands-role Exit n.Data h = tt
+stands-role kind n.SpaceOrTab h = tt
+stands-role kind n.BlockQuotePrefix h = tt
+stands-role kind n.BlockQuoteMarker h = tt
+stands-role kind _ h = cc
 
 data-role : (name : Name) → is_data name ≡ true → role name ≡ IsQuiet
 data-role n.Data h = refl
@@ -132,10 +132,6 @@ pub not-true : (x : Bool) → not x ≡ true → x ≡ false
 not-true false h = refl
 not-true true h = cc
 
-pub or-false : (x y : Bool) → (not x || y) ≡ true → x ≡ true → y ≡ true
-or-false true y h e = h
-or-false false y h e = cc
-
 exit-kind : (kind : Kind) → is_exit kind ≡ true → kind ≡ Exit
 exit-kind Exit h = refl
 exit-kind Enter h = cc
@@ -155,11 +151,11 @@ same-linked bytes e (f ∷ es) depth r lists same linked chunk stands has each =
     let starts : read_by bytes e.kind (role e.name) e.point r ≡ r = quiet-kept bytes e.kind (role e.name) e.point r (data-role e.name inner.1) in
     let ends : read_by bytes f.kind (role f.name) f.point r ≡ r = quiet-kept bytes f.kind (role f.name) f.point r (data-role f.name outer.1) in
     let within : chunks_stand (suc (suc depth)) (f ∷ es) ≡ true = subst (λ (k : Kind). chunks_stand (depth_behind k (suc depth)) (f ∷ es) ≡ true) (enter-kind e.kind inner.0) stands in
-    let behind : (stands_in_part f.name && (not (is_linked f) || ((suc depth == 0) && is_chunk f es)) && chunks_stand (depth_behind f.kind (suc (suc depth))) es) ≡ true =
-      subst (λ (x : Bool). cond x (is_exit f.kind && (suc depth == 0) && not (is_linked f) && chunks_stand 0 es) (stands_in_part f.name && (not (is_linked f) || ((suc depth == 0) && is_chunk f es)) && chunks_stand (depth_behind f.kind (suc (suc depth))) es) ≡ true) (data-no_part f.name outer.1) within in
+    let behind : (cond (is_linked f) ((suc depth == 0) && is_chunk f es) (stands_in_part f.kind f.name) && chunks_stand (depth_behind f.kind (suc (suc depth))) es) ≡ true =
+      subst (λ (x : Bool). cond x (is_exit f.kind && (suc depth == 0) && not (is_linked f) && chunks_stand 0 es) (cond (is_linked f) ((suc depth == 0) && is_chunk f es) (stands_in_part f.kind f.name) && chunks_stand (depth_behind f.kind (suc (suc depth))) es) ≡ true) (data-no_part f.name outer.1) within in
     let on : chunks_stand (suc depth) es ≡ true =
       subst (λ (k : Kind). chunks_stand (depth_behind k (suc (suc depth))) es ≡ true) (exit-kind f.kind middle.1)
-        (and_parts (stands_in_part f.name && (not (is_linked f) || ((suc depth == 0) && is_chunk f es))) (chunks_stand (depth_behind f.kind (suc (suc depth))) es) behind).1 in
+        (and_parts (cond (is_linked f) ((suc depth == 0) && is_chunk f es) (stands_in_part f.kind f.name)) (chunks_stand (depth_behind f.kind (suc (suc depth))) es) behind).1 in
     ap (λ (x : Bool). read bytes r (cond x (first_list lists ++ filled_from true (f ∷ es) (further_lists lists)) (e ∷ filled_from false (f ∷ es) lists))) linked
       ∙ read-append bytes r (first_list lists) (filled_from false es (further_lists lists))
       ∙ ap (λ (x : Reading). read bytes x (filled_from false es (further_lists lists))) (read-inline bytes r has.0 (first_list lists) has.1 (first-inline lists each))
@@ -174,21 +170,20 @@ same-step bytes e es same behind zero r lists stands has each =
 same-step bytes e es same behind (suc depth) r lists stands has each = go (is_part e.name) (is_linked e) refl stands
   where
     go : (x y : Bool) → is_linked e ≡ y →
-        cond x (is_exit e.kind && (depth == 0) && not (is_linked e) && chunks_stand 0 es) (stands_in_part e.name && (not (is_linked e) || ((depth == 0) && is_chunk e es)) && chunks_stand (depth_behind e.kind (suc depth)) es) ≡ true →
+        cond x (is_exit e.kind && (depth == 0) && not (is_linked e) && chunks_stand 0 es) (cond (is_linked e) ((depth == 0) && is_chunk e es) (stands_in_part e.kind e.name) && chunks_stand (depth_behind e.kind (suc depth)) es) ≡ true →
         read bytes r (filled_from false (e ∷ es) lists) ≡ read bytes r (e ∷ es)
     go true y linked h =
         let outer : (is_exit e.kind && (depth == 0) && not (is_linked e) ≡ true) × (chunks_stand 0 es ≡ true) = and_parts (is_exit e.kind && (depth == 0) && not (is_linked e)) (chunks_stand 0 es) h in
         same-unlinked bytes e es 0 r lists same (not-true (is_linked e) (and_parts (is_exit e.kind && (depth == 0)) (not (is_linked e)) outer.0).1) outer.1 tt each
     go false y linked h =
-        let outer : (stands_in_part e.name && (not (is_linked e) || ((depth == 0) && is_chunk e es)) ≡ true) × (chunks_stand (depth_behind e.kind (suc depth)) es ≡ true) =
-          and_parts (stands_in_part e.name && (not (is_linked e) || ((depth == 0) && is_chunk e es))) (chunks_stand (depth_behind e.kind (suc depth)) es) h in
-        let inner : (stands_in_part e.name ≡ true) × ((not (is_linked e) || ((depth == 0) && is_chunk e es)) ≡ true) = and_parts (stands_in_part e.name) (not (is_linked e) || ((depth == 0) && is_chunk e es)) outer.0 in
-        by y linked inner.0 inner.1 outer.1
+        let outer : (cond (is_linked e) ((depth == 0) && is_chunk e es) (stands_in_part e.kind e.name) ≡ true) × (chunks_stand (depth_behind e.kind (suc depth)) es ≡ true) =
+          and_parts (cond (is_linked e) ((depth == 0) && is_chunk e es) (stands_in_part e.kind e.name)) (chunks_stand (depth_behind e.kind (suc depth)) es) h in
+        by y linked (subst (λ (x : Bool). cond x ((depth == 0) && is_chunk e es) (stands_in_part e.kind e.name) ≡ true) linked outer.0) outer.1
       where
-        by : (y : Bool) → is_linked e ≡ y → stands_in_part e.name ≡ true → (not (is_linked e) || ((depth == 0) && is_chunk e es)) ≡ true → chunks_stand (depth_behind e.kind (suc depth)) es ≡ true →
+        by : (y : Bool) → is_linked e ≡ y → cond y ((depth == 0) && is_chunk e es) (stands_in_part e.kind e.name) ≡ true → chunks_stand (depth_behind e.kind (suc depth)) es ≡ true →
             read bytes r (filled_from false (e ∷ es) lists) ≡ read bytes r (e ∷ es)
-        by false linked inside chunk on = same-unlinked bytes e es (depth_behind e.kind (suc depth)) r lists same linked on (has-at (depth_behind e.kind (suc depth)) (read_by bytes e.kind (role e.name) e.point r) (keep-has bytes e.kind (role e.name) e.point r (stands-role e.name inside) has)) each
-        by true linked inside chunk on = same-linked bytes e es depth r lists behind linked (and_parts (depth == 0) (is_chunk e es) (or-false (is_linked e) ((depth == 0) && is_chunk e es) chunk linked)).1 on has each
+        by false linked stands on = same-unlinked bytes e es (depth_behind e.kind (suc depth)) r lists same linked on (has-at (depth_behind e.kind (suc depth)) (read_by bytes e.kind (role e.name) e.point r) (keep-has bytes e.kind (role e.name) e.point r (stands-role e.kind e.name stands) has)) each
+        by true linked chunk on = same-linked bytes e es depth r lists behind linked (and_parts (depth == 0) (is_chunk e es) chunk).1 on has each
 
 same-both : (bytes : List ℕ) (es : List Event) → (inner : Same bytes es) × SameBehind bytes es
 same-both bytes [] = ((λ depth r lists stands has each. refl), tt)

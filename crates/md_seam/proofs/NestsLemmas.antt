@@ -17,7 +17,7 @@ use Rattle.md_seam.specs.Inline.{Part, Piece, Framed, IsPart, KeepsFrame, Fills,
 use Rattle.md_seam.specs.Tiles.{stands_in_part, is_data, is_exit, is_part, is_chunk, depth_behind, chunks_stand, first_list, further_lists, filled_from, filled, parts, part_kind, part_of, part_at, inside_part, chunks, IsBlockList, EachRead, Tiles}
 use Rattle.md_seam.proofs.NestedLemmas.{open_after-append, matches-append, matches-front, matches-rest, matches-under, open_after-under, forward-append, forward-from, at_or_before-trans}
 use Rattle.md_seam.proofs.PlacesLemmas.{all-append}
-use Rattle.md_seam.proofs.FilledLemmas.{data-no_part, not-true, or-false}
+use Rattle.md_seam.proofs.FilledLemmas.{data-no_part, not-true}
 use Rattle.md_seam.proofs.PartsLemmas.{EachPart, parts-are}
 
 -- Chunks and parts, event by event.
@@ -133,8 +133,8 @@ inside-chunk name other p q link back es X part N G gs inside ends linked stands
     outside : is_part other ≡ false
     outside = data-no_part other ends
     on : chunks_stand 1 es ≡ true
-    on = (and_parts (stands_in_part other && (not (is_linked f) || ((1 == 0) && is_chunk f es))) (chunks_stand 1 es)
-        (subst (λ (x : Bool). cond x (true && (1 == 0) && not (is_linked f) && chunks_stand 0 es) (stands_in_part other && (not (is_linked f) || ((1 == 0) && is_chunk f es)) && chunks_stand 1 es) ≡ true) outside stands)).1
+    on = (and_parts (cond (is_linked f) ((1 == 0) && is_chunk f es) (stands_in_part Exit other)) (chunks_stand 1 es)
+        (subst (λ (x : Bool). cond x (true && (1 == 0) && not (is_linked f) && chunks_stand 0 es) (cond (is_linked f) ((1 == 0) && is_chunk f es) (stands_in_part Exit other) && chunks_stand 1 es) ≡ true) outside stands)).1
     go : (G : List (List Event)) → Fills ((record { first = p; after = q }) ∷ chunks (pieces_from f (inside_part es))) G → Matches X (together G) → open_after X (together G) ≡ [] →
         Does (X ++ (part ∷ N)) (filled_from false (e ∷ f ∷ es) (G ++ together gs)) (part ∷ N) (e ∷ f ∷ es)
     go [] fills m closed = absurd fills
@@ -181,7 +181,7 @@ inside-step kind name p link es outside inside behind D X part N G gs stands is 
     e : Event
     e = record { kind = kind; name = name; point = p; link = link }
     go : (x : Bool) → is_part name ≡ x →
-        cond x (is_exit kind && (length D == 0) && not (is_linked e) && chunks_stand 0 es) (stands_in_part name && (not (is_linked e) || ((length D == 0) && is_chunk e es)) && chunks_stand (depth_behind kind (suc (length D))) es) ≡ true →
+        cond x (is_exit kind && (length D == 0) && not (is_linked e) && chunks_stand 0 es) (cond (is_linked e) ((length D == 0) && is_chunk e es) (stands_in_part kind name) && chunks_stand (depth_behind kind (suc (length D))) es) ≡ true →
         Does (D ++ (X ++ (part ∷ N))) (filled_from false (e ∷ es) (G ++ together gs)) (D ++ (part ∷ N)) (e ∷ es)
     go true at h =
         let outer : (is_exit kind && (length D == 0) && not (is_linked e) ≡ true) × (chunks_stand 0 es ≡ true) = and_parts (is_exit kind && (length D == 0) && not (is_linked e)) (chunks_stand 0 es) h in
@@ -189,18 +189,17 @@ inside-step kind name p link es outside inside behind D X part N G gs stands is 
         let inner : (is_exit kind ≡ true) × ((length D == 0) ≡ true) = and_parts (is_exit kind) (length D == 0) middle.0 in
         inside-part_ends kind name p link es D X part N G gs outside at inner.0 (eqb-true (length D) 0 inner.1) (not-true (is_linked e) middle.1) outer.1 fills closed each k
     go false at h =
-        let outer : (stands_in_part name && (not (is_linked e) || ((length D == 0) && is_chunk e es)) ≡ true) × (chunks_stand (depth_behind kind (suc (length D))) es ≡ true) =
-          and_parts (stands_in_part name && (not (is_linked e) || ((length D == 0) && is_chunk e es))) (chunks_stand (depth_behind kind (suc (length D))) es) h in
-        let chunk : (not (is_linked e) || ((length D == 0) && is_chunk e es)) ≡ true = (and_parts (stands_in_part name) (not (is_linked e) || ((length D == 0) && is_chunk e es)) outer.0).1 in
-        by (is_linked e) refl chunk outer.1
+        let outer : (cond (is_linked e) ((length D == 0) && is_chunk e es) (stands_in_part kind name) ≡ true) × (chunks_stand (depth_behind kind (suc (length D))) es ≡ true) =
+          and_parts (cond (is_linked e) ((length D == 0) && is_chunk e es) (stands_in_part kind name)) (chunks_stand (depth_behind kind (suc (length D))) es) h in
+        by (is_linked e) refl outer.0 outer.1
           (subst (λ (x : Bool). Fills (chunks (pieces (cond (x && is_exit kind) [] (e ∷ inside_part es)))) G) at fills)
           (subst (λ (l : List Part). EachFills (l ++ parts es) gs) (part-none kind name es at) each)
       where
-        by : (y : Bool) → is_linked e ≡ y → (not (is_linked e) || ((length D == 0) && is_chunk e es)) ≡ true → chunks_stand (depth_behind kind (suc (length D))) es ≡ true → Fills (chunks (pieces (e ∷ inside_part es))) G → EachFills (parts es) gs →
+        by : (y : Bool) → is_linked e ≡ y → cond y ((length D == 0) && is_chunk e es) (stands_in_part kind name) ≡ true → chunks_stand (depth_behind kind (suc (length D))) es ≡ true → Fills (chunks (pieces (e ∷ inside_part es))) G → EachFills (parts es) gs →
             Does (D ++ (X ++ (part ∷ N))) (filled_from false (e ∷ es) (G ++ together gs)) (D ++ (part ∷ N)) (e ∷ es)
-        by false unlinked chunk on fills each = inside-other kind name p link es D X part N G gs inside at unlinked on is (subst (λ (l : List Chunk). Fills l G) (chunks-unlinked e (inside_part es) unlinked) fills) m closed each k
+        by false unlinked stands on fills each = inside-other kind name p link es D X part N G gs inside at unlinked on is (subst (λ (l : List Chunk). Fills l G) (chunks-unlinked e (inside_part es) unlinked) fills) m closed each k
         by true linked chunk on fills each =
-            let parts : ((length D == 0) ≡ true) × (is_chunk e es ≡ true) = and_parts (length D == 0) (is_chunk e es) (or-false (is_linked e) ((length D == 0) && is_chunk e es) chunk linked) in
+            let parts : ((length D == 0) ≡ true) × (is_chunk e es ≡ true) = and_parts (length D == 0) (is_chunk e es) chunk in
             inside-linked kind name p link es D X part N G gs behind (eqb-true (length D) 0 parts.0) parts.1 linked on is fills m closed each k
 
 -- a part begins

@@ -13,7 +13,7 @@ use Rattle.md_seam.specs.Places.{first_point, is_placed, are_placed, at_or_befor
 use Rattle.md_seam.specs.Nested.{Forward}
 use Rattle.md_seam.specs.Spelled.{Role, role, spelled}
 use Rattle.md_seam.specs.Inline.{Part, Piece, Framed, IsPart, KeepsFrame, is_linked, is_inline, together, piece_of, pieces_from, pieces, in_order, chunk_placed, are_lines}
-use Rattle.md_seam.specs.Tiles.{is_part, is_exit, parts, part_kind, part_of, part_at, part_end, part_stands, parts_stand, inside_part, chunks, IsBlockList, EachRead, Tiles}
+use Rattle.md_seam.specs.Tiles.{is_part, is_exit, parts, part_kind, part_of, part_at, part_end, is_white_piece, part_stands, parts_stand, inside_part, chunks, IsBlockList, EachRead, Tiles}
 use Rattle.md_seam.proofs.NestedLemmas.{at_or_before-refl, at_or_before-trans}
 use Rattle.md_seam.proofs.SpelledLemmas.{Roles, QuietOrEnding}
 use Rattle.md_seam.proofs.FilledLemmas.{EachInline, inline-role, spelled-filled}
@@ -99,7 +99,7 @@ part-is bytes kind end (chunk ∷ list) lines order placed = (record { end = end
 
 parts-at : (bytes : List ℕ) (p : Point) (kind : Kind) (part : Option PartKind) (es : List Event) → part_stands bytes kind part es ≡ true → Forward p es → are_placed bytes es ≡ true → IsTrue (at_or_before first_point p) → EachPart (IsPart bytes) (part_at kind part es)
 parts-at bytes p Enter (Some kind) es stands forward placed h =
-    part-is bytes kind (part_end es) (chunks (pieces (inside_part es))) stands
+    part-is bytes kind (part_end es) (chunks (pieces (inside_part es))) (and_parts (list_all (is_white_piece bytes) (pieces (inside_part es))) (are_lines bytes (part_end es) (chunks (pieces (inside_part es)))) stands).1
       (order-from first_point p (chunks (pieces (inside_part es))) h (order-chunks p (inside_part es) (inside-forward p es forward)))
       (placed-chunks bytes (inside_part es) (inside-placed bytes es placed))
 parts-at bytes p Enter None es stands forward placed h = tt

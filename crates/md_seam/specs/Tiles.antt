@@ -1,5 +1,6 @@
 -- Every byte of a text is accounted for: the innermost pairs of its events lie side by side.
-use Rattle.std.specs.Prelude.{◌≡◌, ℕ, zero, suc, Bool, true, false, ◌&&◌, ◌||◌, ◌==◌, not, if◌then◌else◌, IsTrue, List, [], ◌∷◌, ◌++◌, length, Option, Some, None}
+use Rattle.std.specs.Prelude.{◌≡◌, ℕ, zero, suc, Bool, true, false, ◌&&◌, ◌||◌, ◌==◌, not, if◌then◌else◌, IsTrue, List, [], ◌∷◌, ◌++◌, length, slice_range, Option, Some, None}
+use Rattle.std.specs.List.{list_all}
 use Rattle.md_engine.specs.declared.event.Point.{Point}
 use Rattle.md_engine.specs.declared.event.Event.{Event}
 use Rattle.md_engine.specs.declared.event.Kind.{Kind}
@@ -9,6 +10,7 @@ use Rattle.md_engine.specs.declared.event.Name.TheVariants as n
 use Rattle.md_seam.specs.declared.inline.PartKind.{PartKind}
 use Rattle.md_seam.specs.declared.inline.PartKind.TheVariants as k
 use Rattle.md_seam.specs.declared.inline.Chunk.{Chunk}
+use Rattle.md_seam.specs.Rest.{is_blank}
 use Rattle.md_seam.specs.Places.{first_point, are_placed}
 use Rattle.md_seam.specs.Nested.{Nested}
 use Rattle.md_seam.specs.Inline.{Part, Piece, pieces, Covers, Fills, are_lines, is_linked, together}
@@ -34,13 +36,13 @@ part_kind n.DefinitionTitleString = Some k.String
 part_kind n.GfmFootnoteDefinitionLabelString = Some k.String
 part_kind _ = None
 
--- What may stand inside a text part before it is read: its chunks, and between them container prefixes.
-abbrev pub stands_in_part : Name → Bool
-stands_in_part n.Data = true
-stands_in_part n.SpaceOrTab = true
-stands_in_part n.BlockQuotePrefix = true
-stands_in_part n.BlockQuoteMarker = true
-stands_in_part _ = false
+-- What may stand inside a text part beside the enters of its chunks: their exits, container prefixes, and spaces and tabs.
+abbrev pub stands_in_part : Kind → Name → Bool
+stands_in_part Exit n.Data = true
+stands_in_part kind n.SpaceOrTab = true
+stands_in_part kind n.BlockQuotePrefix = true
+stands_in_part kind n.BlockQuoteMarker = true
+stands_in_part kind _ = false
 
 abbrev pub is_data : Name → Bool
 is_data n.Data = true
@@ -84,12 +86,21 @@ parts (e ∷ es) = part_at e.kind (part_kind e.name) es ++ parts es
 
 -- Block lists.
 
+abbrev pub is_space_or_tab : Name → Bool
+is_space_or_tab n.SpaceOrTab = true
+is_space_or_tab _ = false
+
+-- whether a piece that is called spaces and tabs holds nothing else
+abbrev pub is_white_piece : List ℕ → Piece → Bool
+is_white_piece bytes piece = not (is_space_or_tab piece.name) || is_blank (slice_range bytes piece.first.index piece.after.index)
+
 abbrev pub part_stands : List ℕ → Kind → Option PartKind → List Event → Bool
-part_stands bytes Enter (Some kind) es = are_lines bytes (part_end es) (chunks (pieces (inside_part es)))
+part_stands bytes Enter (Some kind) es = list_all (is_white_piece bytes) (pieces (inside_part es)) && are_lines bytes (part_end es) (chunks (pieces (inside_part es)))
 part_stands bytes Enter None es = true
 part_stands bytes Exit kind es = true
 
--- whether each text part stands as one chunk a line, which reaches over the line's ending where the part goes on behind it
+-- Whether each text part stands as one chunk a line, which reaches over the line's ending where the part goes on behind it,
+-- and nothing else is left out of the chunks but spaces, tabs and container prefixes.
 abbrev pub parts_stand : List ℕ → List Event → Bool
 parts_stand bytes [] = true
 parts_stand bytes (e ∷ es) = part_stands bytes e.kind (part_kind e.name) es && parts_stand bytes es
@@ -112,7 +123,7 @@ chunks_stand depth [] = true
 chunks_stand zero (e ∷ es) = not (is_linked e) && chunks_stand (if is_part e.name && not (is_exit e.kind) then 1 else 0) es
 chunks_stand (suc depth) (e ∷ es) =
     if is_part e.name then is_exit e.kind && (depth == 0) && not (is_linked e) && chunks_stand 0 es
-    else stands_in_part e.name && (not (is_linked e) || ((depth == 0) && is_chunk e es)) && chunks_stand (depth_behind e.kind (suc depth)) es
+    else (if is_linked e then (depth == 0) && is_chunk e es else stands_in_part e.kind e.name) && chunks_stand (depth_behind e.kind (suc depth)) es
 
 -- A list of events, at points of the text, whose text parts are not read yet.
 pub record IsBlockList (bytes : List ℕ) (events : List Event) : Type 0 where
