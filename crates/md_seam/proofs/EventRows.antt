@@ -92,7 +92,7 @@ abbrev mark_events : List Event
 mark_events =
     pair n.ByteOrderMark (at 1 1 0) (at 1 4 3)
     ++ around n.Paragraph (at 1 4 3) (at 1 5 4)
-      (chunk (at 1 4 3) (at 1 5 4))
+    (chunk (at 1 4 3) (at 1 5 4))
 
 abbrev pub mark_tree : t.Blocks
 mark_tree = t.More (t.Paragraph (codes "a" ∷ [])) t.End
@@ -109,8 +109,8 @@ abbrev paragraph_events : List Event
 paragraph_events =
     pair n.SpaceOrTab (at 1 1 0) (at 1 3 2)
     ++ around n.Paragraph (at 1 3 2) (at 2 4 7)
-      (chunk (at 1 3 2) (at 2 1 4)
-      ++ chunk (at 2 1 4) (at 2 4 7))
+    (chunk (at 1 3 2) (at 2 1 4)
+    ++ chunk (at 2 1 4) (at 2 4 7))
     ++ pair n.LineEnding (at 2 4 7) (at 3 1 8)
 
 abbrev pub paragraph_tree : t.Blocks
@@ -127,9 +127,9 @@ break_text = codes "* **"
 abbrev break_events : List Event
 break_events =
     around n.ThematicBreak (at 1 1 0) (at 1 5 4)
-      (pair n.ThematicBreakSequence (at 1 1 0) (at 1 2 1)
-      ++ pair n.SpaceOrTab (at 1 2 1) (at 1 3 2)
-      ++ pair n.ThematicBreakSequence (at 1 3 2) (at 1 5 4))
+    (pair n.ThematicBreakSequence (at 1 1 0) (at 1 2 1)
+    ++ pair n.SpaceOrTab (at 1 2 1) (at 1 3 2)
+    ++ pair n.ThematicBreakSequence (at 1 3 2) (at 1 5 4))
 
 abbrev pub break_tree : t.Blocks
 break_tree = t.More (t.Break) t.End
@@ -145,12 +145,12 @@ heading_text = codes "# a b ##"
 abbrev heading_events : List Event
 heading_events =
     around n.HeadingAtx (at 1 1 0) (at 1 9 8)
-      (pair n.HeadingAtxSequence (at 1 1 0) (at 1 2 1)
-      ++ pair n.SpaceOrTab (at 1 2 1) (at 1 3 2)
-      ++ around n.HeadingAtxText (at 1 3 2) (at 1 6 5)
-        (chunk (at 1 3 2) (at 1 6 5))
-      ++ pair n.SpaceOrTab (at 1 6 5) (at 1 7 6)
-      ++ pair n.HeadingAtxSequence (at 1 7 6) (at 1 9 8))
+    (pair n.HeadingAtxSequence (at 1 1 0) (at 1 2 1)
+    ++ pair n.SpaceOrTab (at 1 2 1) (at 1 3 2)
+    ++ around n.HeadingAtxText (at 1 3 2) (at 1 6 5)
+    (chunk (at 1 3 2) (at 1 6 5))
+    ++ pair n.SpaceOrTab (at 1 6 5) (at 1 7 6)
+    ++ pair n.HeadingAtxSequence (at 1 7 6) (at 1 9 8))
 
 abbrev pub heading_tree : t.Blocks
 heading_tree = t.More (t.Heading 1 (codes "a b" ∷ [])) t.End
@@ -166,7 +166,7 @@ empty_heading_text = codes "##"
 abbrev empty_heading_events : List Event
 empty_heading_events =
     around n.HeadingAtx (at 1 1 0) (at 1 3 2)
-      (pair n.HeadingAtxSequence (at 1 1 0) (at 1 3 2))
+    (pair n.HeadingAtxSequence (at 1 1 0) (at 1 3 2))
 
 abbrev pub empty_heading_tree : t.Blocks
 empty_heading_tree = t.More (t.Heading 2 []) t.End
@@ -182,12 +182,12 @@ underlined_text = codes "a" ++ 13 ∷ 10 ∷ codes "b" ++ 10 ∷ codes "---" ++ 
 abbrev underlined_events : List Event
 underlined_events =
     around n.HeadingSetext (at 1 1 0) (at 3 4 8)
-      (around n.HeadingSetextText (at 1 1 0) (at 2 2 4)
-        (chunk (at 1 1 0) (at 2 1 3)
-        ++ chunk (at 2 1 3) (at 2 2 4))
-      ++ pair n.LineEnding (at 2 2 4) (at 3 1 5)
-      ++ around n.HeadingSetextUnderline (at 3 1 5) (at 3 4 8)
-        (pair n.HeadingSetextUnderlineSequence (at 3 1 5) (at 3 4 8)))
+    (around n.HeadingSetextText (at 1 1 0) (at 2 2 4)
+    (chunk (at 1 1 0) (at 2 1 3)
+    ++ chunk (at 2 1 3) (at 2 2 4))
+    ++ pair n.LineEnding (at 2 2 4) (at 3 1 5)
+    ++ around n.HeadingSetextUnderline (at 3 1 5) (at 3 4 8)
+    (pair n.HeadingSetextUnderlineSequence (at 3 1 5) (at 3 4 8)))
     ++ pair n.LineEnding (at 3 4 8) (at 4 1 9)
 
 abbrev pub underlined_tree : t.Blocks
@@ -204,12 +204,12 @@ lazy_text = codes "> a" ++ 10 ∷ codes "b"
 abbrev lazy_events : List Event
 lazy_events =
     around n.BlockQuote (at 1 1 0) (at 2 2 5)
-      (around n.BlockQuotePrefix (at 1 1 0) (at 1 3 2)
-        (pair n.BlockQuoteMarker (at 1 1 0) (at 1 2 1)
-        ++ pair n.SpaceOrTab (at 1 2 1) (at 1 3 2))
-      ++ around n.Paragraph (at 1 3 2) (at 2 2 5)
-        (chunk (at 1 3 2) (at 2 1 4)
-        ++ chunk (at 2 1 4) (at 2 2 5)))
+    (around n.BlockQuotePrefix (at 1 1 0) (at 1 3 2)
+    (pair n.BlockQuoteMarker (at 1 1 0) (at 1 2 1)
+    ++ pair n.SpaceOrTab (at 1 2 1) (at 1 3 2))
+    ++ around n.Paragraph (at 1 3 2) (at 2 2 5)
+    (chunk (at 1 3 2) (at 2 1 4)
+    ++ chunk (at 2 1 4) (at 2 2 5)))
 
 abbrev pub lazy_tree : t.Blocks
 lazy_tree = t.More (t.Quote (t.More (t.Paragraph (codes "a" ∷ codes "b" ∷ [])) t.End)) t.End
@@ -225,16 +225,16 @@ prefix_text = codes "> a" ++ 10 ∷ codes " > b"
 abbrev prefix_events : List Event
 prefix_events =
     around n.BlockQuote (at 1 1 0) (at 2 5 8)
-      (around n.BlockQuotePrefix (at 1 1 0) (at 1 3 2)
-        (pair n.BlockQuoteMarker (at 1 1 0) (at 1 2 1)
-        ++ pair n.SpaceOrTab (at 1 2 1) (at 1 3 2))
-      ++ around n.Paragraph (at 1 3 2) (at 2 5 8)
-        (chunk (at 1 3 2) (at 2 1 4)
-        ++ pair n.SpaceOrTab (at 2 1 4) (at 2 2 5)
-        ++ around n.BlockQuotePrefix (at 2 2 5) (at 2 4 7)
-          (pair n.BlockQuoteMarker (at 2 2 5) (at 2 3 6)
-          ++ pair n.SpaceOrTab (at 2 3 6) (at 2 4 7))
-        ++ chunk (at 2 4 7) (at 2 5 8)))
+    (around n.BlockQuotePrefix (at 1 1 0) (at 1 3 2)
+    (pair n.BlockQuoteMarker (at 1 1 0) (at 1 2 1)
+    ++ pair n.SpaceOrTab (at 1 2 1) (at 1 3 2))
+    ++ around n.Paragraph (at 1 3 2) (at 2 5 8)
+    (chunk (at 1 3 2) (at 2 1 4)
+    ++ pair n.SpaceOrTab (at 2 1 4) (at 2 2 5)
+    ++ around n.BlockQuotePrefix (at 2 2 5) (at 2 4 7)
+    (pair n.BlockQuoteMarker (at 2 2 5) (at 2 3 6)
+    ++ pair n.SpaceOrTab (at 2 3 6) (at 2 4 7))
+    ++ chunk (at 2 4 7) (at 2 5 8)))
 
 abbrev pub prefix_tree : t.Blocks
 prefix_tree = t.More (t.Quote (t.More (t.Paragraph (codes "a" ∷ codes "b" ∷ [])) t.End)) t.End
@@ -250,21 +250,21 @@ ordered_text = codes "01) a" ++ 10 ∷ codes "7) b"
 abbrev ordered_events : List Event
 ordered_events =
     around n.ListOrdered (at 1 1 0) (at 2 5 10)
-      (around n.ListItem (at 1 1 0) (at 1 6 5)
-        (around n.ListItemPrefix (at 1 1 0) (at 1 5 4)
-          (pair n.ListItemValue (at 1 1 0) (at 1 3 2)
-          ++ pair n.ListItemMarker (at 1 3 2) (at 1 4 3)
-          ++ pair n.SpaceOrTab (at 1 4 3) (at 1 5 4))
-        ++ around n.Paragraph (at 1 5 4) (at 1 6 5)
-          (chunk (at 1 5 4) (at 1 6 5)))
-      ++ pair n.LineEnding (at 1 6 5) (at 2 1 6)
-      ++ around n.ListItem (at 2 1 6) (at 2 5 10)
-        (around n.ListItemPrefix (at 2 1 6) (at 2 4 9)
-          (pair n.ListItemValue (at 2 1 6) (at 2 2 7)
-          ++ pair n.ListItemMarker (at 2 2 7) (at 2 3 8)
-          ++ pair n.SpaceOrTab (at 2 3 8) (at 2 4 9))
-        ++ around n.Paragraph (at 2 4 9) (at 2 5 10)
-          (chunk (at 2 4 9) (at 2 5 10))))
+    (around n.ListItem (at 1 1 0) (at 1 6 5)
+    (around n.ListItemPrefix (at 1 1 0) (at 1 5 4)
+    (pair n.ListItemValue (at 1 1 0) (at 1 3 2)
+    ++ pair n.ListItemMarker (at 1 3 2) (at 1 4 3)
+    ++ pair n.SpaceOrTab (at 1 4 3) (at 1 5 4))
+    ++ around n.Paragraph (at 1 5 4) (at 1 6 5)
+    (chunk (at 1 5 4) (at 1 6 5)))
+    ++ pair n.LineEnding (at 1 6 5) (at 2 1 6)
+    ++ around n.ListItem (at 2 1 6) (at 2 5 10)
+    (around n.ListItemPrefix (at 2 1 6) (at 2 4 9)
+    (pair n.ListItemValue (at 2 1 6) (at 2 2 7)
+    ++ pair n.ListItemMarker (at 2 2 7) (at 2 3 8)
+    ++ pair n.SpaceOrTab (at 2 3 8) (at 2 4 9))
+    ++ around n.Paragraph (at 2 4 9) (at 2 5 10)
+    (chunk (at 2 4 9) (at 2 5 10))))
 
 abbrev pub ordered_tree : t.Blocks
 ordered_tree = t.More (t.ListOf 41 (t.More (t.Item 41 (codes "01") (t.More (t.Paragraph (codes "a" ∷ [])) t.End)) (t.More (t.Item 41 (codes "7") (t.More (t.Paragraph (codes "b" ∷ [])) t.End)) t.End))) t.End
@@ -280,18 +280,18 @@ items_text = codes "- a" ++ 10 ∷ codes "+ b"
 abbrev items_events : List Event
 items_events =
     around n.ListItem (at 1 1 0) (at 1 4 3)
-      (around n.ListItemPrefix (at 1 1 0) (at 1 3 2)
-        (pair n.ListItemMarker (at 1 1 0) (at 1 2 1)
-        ++ pair n.SpaceOrTab (at 1 2 1) (at 1 3 2))
-      ++ around n.Paragraph (at 1 3 2) (at 1 4 3)
-        (chunk (at 1 3 2) (at 1 4 3)))
+    (around n.ListItemPrefix (at 1 1 0) (at 1 3 2)
+    (pair n.ListItemMarker (at 1 1 0) (at 1 2 1)
+    ++ pair n.SpaceOrTab (at 1 2 1) (at 1 3 2))
+    ++ around n.Paragraph (at 1 3 2) (at 1 4 3)
+    (chunk (at 1 3 2) (at 1 4 3)))
     ++ pair n.LineEnding (at 1 4 3) (at 2 1 4)
     ++ around n.ListItem (at 2 1 4) (at 2 4 7)
-      (around n.ListItemPrefix (at 2 1 4) (at 2 3 6)
-        (pair n.ListItemMarker (at 2 1 4) (at 2 2 5)
-        ++ pair n.SpaceOrTab (at 2 2 5) (at 2 3 6))
-      ++ around n.Paragraph (at 2 3 6) (at 2 4 7)
-        (chunk (at 2 3 6) (at 2 4 7)))
+    (around n.ListItemPrefix (at 2 1 4) (at 2 3 6)
+    (pair n.ListItemMarker (at 2 1 4) (at 2 2 5)
+    ++ pair n.SpaceOrTab (at 2 2 5) (at 2 3 6))
+    ++ around n.Paragraph (at 2 3 6) (at 2 4 7)
+    (chunk (at 2 3 6) (at 2 4 7)))
 
 abbrev pub items_tree : t.Blocks
 items_tree = t.More (t.Item 45 [] (t.More (t.Paragraph (codes "a" ∷ [])) t.End)) (t.More (t.Item 43 [] (t.More (t.Paragraph (codes "b" ∷ [])) t.End)) t.End)
@@ -307,33 +307,33 @@ nested_text = codes "> - a" ++ 10 ∷ codes ">" ++ 10 ∷ codes ">   b" ++ 10 �
 abbrev nested_events : List Event
 nested_events =
     around n.BlockQuote (at 1 1 0) (at 4 4 17)
-      (around n.BlockQuotePrefix (at 1 1 0) (at 1 3 2)
-        (pair n.BlockQuoteMarker (at 1 1 0) (at 1 2 1)
-        ++ pair n.SpaceOrTab (at 1 2 1) (at 1 3 2))
-      ++ around n.ListUnordered (at 1 3 2) (at 4 4 17)
-        (around n.ListItem (at 1 3 2) (at 3 6 13)
-          (around n.ListItemPrefix (at 1 3 2) (at 1 5 4)
-            (pair n.ListItemMarker (at 1 3 2) (at 1 4 3)
-            ++ pair n.SpaceOrTab (at 1 4 3) (at 1 5 4))
-          ++ around n.Paragraph (at 1 5 4) (at 1 6 5)
-            (chunk (at 1 5 4) (at 1 6 5))
-          ++ pair n.LineEnding (at 1 6 5) (at 2 1 6)
-          ++ around n.BlockQuotePrefix (at 2 1 6) (at 2 2 7)
-            (pair n.BlockQuoteMarker (at 2 1 6) (at 2 2 7))
-          ++ pair n.BlankLineEnding (at 2 2 7) (at 3 1 8)
-          ++ around n.BlockQuotePrefix (at 3 1 8) (at 3 3 10)
-            (pair n.BlockQuoteMarker (at 3 1 8) (at 3 2 9)
-            ++ pair n.SpaceOrTab (at 3 2 9) (at 3 3 10))
-          ++ pair n.SpaceOrTab (at 3 3 10) (at 3 5 12)
-          ++ around n.Paragraph (at 3 5 12) (at 3 6 13)
-            (chunk (at 3 5 12) (at 3 6 13)))
-        ++ pair n.LineEnding (at 3 6 13) (at 4 1 14)
-        ++ around n.BlockQuotePrefix (at 4 1 14) (at 4 3 16)
-          (pair n.BlockQuoteMarker (at 4 1 14) (at 4 2 15)
-          ++ pair n.SpaceOrTab (at 4 2 15) (at 4 3 16))
-        ++ around n.ListItem (at 4 3 16) (at 4 4 17)
-          (around n.ListItemPrefix (at 4 3 16) (at 4 4 17)
-            (pair n.ListItemMarker (at 4 3 16) (at 4 4 17)))))
+    (around n.BlockQuotePrefix (at 1 1 0) (at 1 3 2)
+    (pair n.BlockQuoteMarker (at 1 1 0) (at 1 2 1)
+    ++ pair n.SpaceOrTab (at 1 2 1) (at 1 3 2))
+    ++ around n.ListUnordered (at 1 3 2) (at 4 4 17)
+    (around n.ListItem (at 1 3 2) (at 3 6 13)
+    (around n.ListItemPrefix (at 1 3 2) (at 1 5 4)
+    (pair n.ListItemMarker (at 1 3 2) (at 1 4 3)
+    ++ pair n.SpaceOrTab (at 1 4 3) (at 1 5 4))
+    ++ around n.Paragraph (at 1 5 4) (at 1 6 5)
+    (chunk (at 1 5 4) (at 1 6 5))
+    ++ pair n.LineEnding (at 1 6 5) (at 2 1 6)
+    ++ around n.BlockQuotePrefix (at 2 1 6) (at 2 2 7)
+    (pair n.BlockQuoteMarker (at 2 1 6) (at 2 2 7))
+    ++ pair n.BlankLineEnding (at 2 2 7) (at 3 1 8)
+    ++ around n.BlockQuotePrefix (at 3 1 8) (at 3 3 10)
+    (pair n.BlockQuoteMarker (at 3 1 8) (at 3 2 9)
+    ++ pair n.SpaceOrTab (at 3 2 9) (at 3 3 10))
+    ++ pair n.SpaceOrTab (at 3 3 10) (at 3 5 12)
+    ++ around n.Paragraph (at 3 5 12) (at 3 6 13)
+    (chunk (at 3 5 12) (at 3 6 13)))
+    ++ pair n.LineEnding (at 3 6 13) (at 4 1 14)
+    ++ around n.BlockQuotePrefix (at 4 1 14) (at 4 3 16)
+    (pair n.BlockQuoteMarker (at 4 1 14) (at 4 2 15)
+    ++ pair n.SpaceOrTab (at 4 2 15) (at 4 3 16))
+    ++ around n.ListItem (at 4 3 16) (at 4 4 17)
+    (around n.ListItemPrefix (at 4 3 16) (at 4 4 17)
+    (pair n.ListItemMarker (at 4 3 16) (at 4 4 17)))))
 
 abbrev pub nested_tree : t.Blocks
 nested_tree = t.More (t.Quote (t.More (t.ListOf 45 (t.More (t.Item 45 [] (t.More (t.Paragraph (codes "a" ∷ [])) (t.More (t.Paragraph (codes "b" ∷ [])) t.End))) (t.More (t.Item 45 [] t.End) t.End))) t.End)) t.End
@@ -349,21 +349,21 @@ fence_text = codes "```r x y" ++ 10 ∷ codes "a" ++ 10 ∷ 10 ∷ codes " b" ++
 abbrev fence_events : List Event
 fence_events =
     around n.CodeFenced (at 1 1 0) (at 5 4 18)
-      (around n.CodeFencedFence (at 1 1 0) (at 1 9 8)
-        (pair n.CodeFencedFenceSequence (at 1 1 0) (at 1 4 3)
-        ++ around n.CodeFencedFenceInfo (at 1 4 3) (at 1 5 4)
-          (chunk (at 1 4 3) (at 1 5 4))
-        ++ pair n.SpaceOrTab (at 1 5 4) (at 1 6 5)
-        ++ around n.CodeFencedFenceMeta (at 1 6 5) (at 1 9 8)
-          (chunk (at 1 6 5) (at 1 9 8)))
-      ++ pair n.LineEnding (at 1 9 8) (at 2 1 9)
-      ++ pair n.CodeFlowChunk (at 2 1 9) (at 2 2 10)
-      ++ pair n.LineEnding (at 2 2 10) (at 3 1 11)
-      ++ pair n.LineEnding (at 3 1 11) (at 4 1 12)
-      ++ pair n.CodeFlowChunk (at 4 1 12) (at 4 3 14)
-      ++ pair n.LineEnding (at 4 3 14) (at 5 1 15)
-      ++ around n.CodeFencedFence (at 5 1 15) (at 5 4 18)
-        (pair n.CodeFencedFenceSequence (at 5 1 15) (at 5 4 18)))
+    (around n.CodeFencedFence (at 1 1 0) (at 1 9 8)
+    (pair n.CodeFencedFenceSequence (at 1 1 0) (at 1 4 3)
+    ++ around n.CodeFencedFenceInfo (at 1 4 3) (at 1 5 4)
+    (chunk (at 1 4 3) (at 1 5 4))
+    ++ pair n.SpaceOrTab (at 1 5 4) (at 1 6 5)
+    ++ around n.CodeFencedFenceMeta (at 1 6 5) (at 1 9 8)
+    (chunk (at 1 6 5) (at 1 9 8)))
+    ++ pair n.LineEnding (at 1 9 8) (at 2 1 9)
+    ++ pair n.CodeFlowChunk (at 2 1 9) (at 2 2 10)
+    ++ pair n.LineEnding (at 2 2 10) (at 3 1 11)
+    ++ pair n.LineEnding (at 3 1 11) (at 4 1 12)
+    ++ pair n.CodeFlowChunk (at 4 1 12) (at 4 3 14)
+    ++ pair n.LineEnding (at 4 3 14) (at 5 1 15)
+    ++ around n.CodeFencedFence (at 5 1 15) (at 5 4 18)
+    (pair n.CodeFencedFenceSequence (at 5 1 15) (at 5 4 18)))
     ++ pair n.LineEnding (at 5 4 18) (at 6 1 19)
 
 abbrev pub fence_tree : t.Blocks
@@ -380,11 +380,11 @@ open_fence_text = codes "~~~" ++ 10 ∷ codes "a" ++ 10 ∷ []
 abbrev open_fence_events : List Event
 open_fence_events =
     around n.CodeFenced (at 1 1 0) (at 3 1 6)
-      (around n.CodeFencedFence (at 1 1 0) (at 1 4 3)
-        (pair n.CodeFencedFenceSequence (at 1 1 0) (at 1 4 3))
-      ++ pair n.LineEnding (at 1 4 3) (at 2 1 4)
-      ++ pair n.CodeFlowChunk (at 2 1 4) (at 2 2 5)
-      ++ pair n.LineEnding (at 2 2 5) (at 3 1 6))
+    (around n.CodeFencedFence (at 1 1 0) (at 1 4 3)
+    (pair n.CodeFencedFenceSequence (at 1 1 0) (at 1 4 3))
+    ++ pair n.LineEnding (at 1 4 3) (at 2 1 4)
+    ++ pair n.CodeFlowChunk (at 2 1 4) (at 2 2 5)
+    ++ pair n.LineEnding (at 2 2 5) (at 3 1 6))
 
 abbrev pub open_fence_tree : t.Blocks
 open_fence_tree = t.More (t.Fence 126 None None (line 0 (codes "a") ∷ []) false) t.End
@@ -400,17 +400,17 @@ left_fence_text = codes "- ```" ++ 10 ∷ 10 ∷ codes "b"
 abbrev left_fence_events : List Event
 left_fence_events =
     around n.ListUnordered (at 1 1 0) (at 2 1 6)
-      (around n.ListItem (at 1 1 0) (at 2 1 6)
-        (around n.ListItemPrefix (at 1 1 0) (at 1 3 2)
-          (pair n.ListItemMarker (at 1 1 0) (at 1 2 1)
-          ++ pair n.SpaceOrTab (at 1 2 1) (at 1 3 2))
-        ++ around n.CodeFenced (at 1 3 2) (at 2 1 6)
-          (around n.CodeFencedFence (at 1 3 2) (at 1 6 5)
-            (pair n.CodeFencedFenceSequence (at 1 3 2) (at 1 6 5))
-          ++ pair n.LineEnding (at 1 6 5) (at 2 1 6))))
+    (around n.ListItem (at 1 1 0) (at 2 1 6)
+    (around n.ListItemPrefix (at 1 1 0) (at 1 3 2)
+    (pair n.ListItemMarker (at 1 1 0) (at 1 2 1)
+    ++ pair n.SpaceOrTab (at 1 2 1) (at 1 3 2))
+    ++ around n.CodeFenced (at 1 3 2) (at 2 1 6)
+    (around n.CodeFencedFence (at 1 3 2) (at 1 6 5)
+    (pair n.CodeFencedFenceSequence (at 1 3 2) (at 1 6 5))
+    ++ pair n.LineEnding (at 1 6 5) (at 2 1 6))))
     ++ pair n.BlankLineEnding (at 2 1 6) (at 3 1 7)
     ++ around n.Paragraph (at 3 1 7) (at 3 2 8)
-      (chunk (at 3 1 7) (at 3 2 8))
+    (chunk (at 3 1 7) (at 3 2 8))
 
 abbrev pub left_fence_tree : t.Blocks
 left_fence_tree = t.More (t.ListOf 45 (t.More (t.Item 45 [] (t.More (t.Fence 96 None None (line 0 ([]) ∷ []) false) t.End)) t.End)) (t.More (t.Paragraph (codes "b" ∷ [])) t.End)
@@ -426,19 +426,19 @@ shared_tab_text = codes ">  ~~~" ++ 10 ∷ codes ">" ++ 9 ∷ codes "a"
 abbrev shared_tab_events : List Event
 shared_tab_events =
     around n.BlockQuote (at 1 1 0) (at 2 6 10)
-      (around n.BlockQuotePrefix (at 1 1 0) (at 1 3 2)
-        (pair n.BlockQuoteMarker (at 1 1 0) (at 1 2 1)
-        ++ pair n.SpaceOrTab (at 1 2 1) (at 1 3 2))
-      ++ pair n.SpaceOrTab (at 1 3 2) (at 1 4 3)
-      ++ around n.CodeFenced (at 1 4 3) (at 2 6 10)
-        (around n.CodeFencedFence (at 1 4 3) (at 1 7 6)
-          (pair n.CodeFencedFenceSequence (at 1 4 3) (at 1 7 6))
-        ++ pair n.LineEnding (at 1 7 6) (at 2 1 7)
-        ++ around n.BlockQuotePrefix (at 2 1 7) (within_tab 2 3 8 1)
-          (pair n.BlockQuoteMarker (at 2 1 7) (at 2 2 8)
-          ++ pair n.SpaceOrTab (at 2 2 8) (within_tab 2 3 8 1))
-        ++ pair n.SpaceOrTab (within_tab 2 3 8 1) (within_tab 2 4 8 2)
-        ++ pair n.CodeFlowChunk (within_tab 2 4 8 2) (at 2 6 10)))
+    (around n.BlockQuotePrefix (at 1 1 0) (at 1 3 2)
+    (pair n.BlockQuoteMarker (at 1 1 0) (at 1 2 1)
+    ++ pair n.SpaceOrTab (at 1 2 1) (at 1 3 2))
+    ++ pair n.SpaceOrTab (at 1 3 2) (at 1 4 3)
+    ++ around n.CodeFenced (at 1 4 3) (at 2 6 10)
+    (around n.CodeFencedFence (at 1 4 3) (at 1 7 6)
+    (pair n.CodeFencedFenceSequence (at 1 4 3) (at 1 7 6))
+    ++ pair n.LineEnding (at 1 7 6) (at 2 1 7)
+    ++ around n.BlockQuotePrefix (at 2 1 7) (within_tab 2 3 8 1)
+    (pair n.BlockQuoteMarker (at 2 1 7) (at 2 2 8)
+    ++ pair n.SpaceOrTab (at 2 2 8) (within_tab 2 3 8 1))
+    ++ pair n.SpaceOrTab (within_tab 2 3 8 1) (within_tab 2 4 8 2)
+    ++ pair n.CodeFlowChunk (within_tab 2 4 8 2) (at 2 6 10)))
 
 abbrev pub shared_tab_tree : t.Blocks
 shared_tab_tree = t.More (t.Quote (t.More (t.Fence 126 None None (line 1 (codes "a") ∷ []) false) t.End)) t.End
@@ -454,13 +454,13 @@ code_text = codes "    a" ++ 10 ∷ codes "  " ++ 10 ∷ codes "      b" ++ 10 �
 abbrev code_events : List Event
 code_events =
     around n.CodeIndented (at 1 1 0) (at 3 8 16)
-      (pair n.SpaceOrTab (at 1 1 0) (at 1 5 4)
-      ++ pair n.CodeFlowChunk (at 1 5 4) (at 1 6 5)
-      ++ pair n.LineEnding (at 1 6 5) (at 2 1 6)
-      ++ pair n.SpaceOrTab (at 2 1 6) (at 2 3 8)
-      ++ pair n.LineEnding (at 2 3 8) (at 3 1 9)
-      ++ pair n.SpaceOrTab (at 3 1 9) (at 3 5 13)
-      ++ pair n.CodeFlowChunk (at 3 5 13) (at 3 8 16))
+    (pair n.SpaceOrTab (at 1 1 0) (at 1 5 4)
+    ++ pair n.CodeFlowChunk (at 1 5 4) (at 1 6 5)
+    ++ pair n.LineEnding (at 1 6 5) (at 2 1 6)
+    ++ pair n.SpaceOrTab (at 2 1 6) (at 2 3 8)
+    ++ pair n.LineEnding (at 2 3 8) (at 3 1 9)
+    ++ pair n.SpaceOrTab (at 3 1 9) (at 3 5 13)
+    ++ pair n.CodeFlowChunk (at 3 5 13) (at 3 8 16))
     ++ pair n.LineEnding (at 3 8 16) (at 4 1 17)
 
 abbrev pub code_tree : t.Blocks
@@ -477,12 +477,12 @@ tabs_text = codes ">" ++ 9 ∷ 9 ∷ codes "a"
 abbrev tabs_events : List Event
 tabs_events =
     around n.BlockQuote (at 1 1 0) (at 1 10 4)
-      (around n.BlockQuotePrefix (at 1 1 0) (within_tab 1 3 1 1)
-        (pair n.BlockQuoteMarker (at 1 1 0) (at 1 2 1)
-        ++ pair n.SpaceOrTab (at 1 2 1) (within_tab 1 3 1 1))
-      ++ around n.CodeIndented (within_tab 1 3 1 1) (at 1 10 4)
-        (pair n.SpaceOrTab (within_tab 1 3 1 1) (within_tab 1 7 2 2)
-        ++ pair n.CodeFlowChunk (within_tab 1 7 2 2) (at 1 10 4)))
+    (around n.BlockQuotePrefix (at 1 1 0) (within_tab 1 3 1 1)
+    (pair n.BlockQuoteMarker (at 1 1 0) (at 1 2 1)
+    ++ pair n.SpaceOrTab (at 1 2 1) (within_tab 1 3 1 1))
+    ++ around n.CodeIndented (within_tab 1 3 1 1) (at 1 10 4)
+    (pair n.SpaceOrTab (within_tab 1 3 1 1) (within_tab 1 7 2 2)
+    ++ pair n.CodeFlowChunk (within_tab 1 7 2 2) (at 1 10 4)))
 
 abbrev pub tabs_tree : t.Blocks
 tabs_tree = t.More (t.Quote (t.More (t.Code (line 2 (codes "a") ∷ [])) t.End)) t.End
@@ -498,12 +498,12 @@ html_text = codes " <?" ++ 10 ∷ 10 ∷ codes " x" ++ 10 ∷ []
 abbrev html_events : List Event
 html_events =
     around n.HtmlFlow (at 1 1 0) (at 4 1 8)
-      (pair n.HtmlFlowData (at 1 1 0) (at 1 2 1)
-      ++ pair n.HtmlFlowData (at 1 2 1) (at 1 4 3)
-      ++ pair n.LineEnding (at 1 4 3) (at 2 1 4)
-      ++ pair n.LineEnding (at 2 1 4) (at 3 1 5)
-      ++ pair n.HtmlFlowData (at 3 1 5) (at 3 3 7)
-      ++ pair n.LineEnding (at 3 3 7) (at 4 1 8))
+    (pair n.HtmlFlowData (at 1 1 0) (at 1 2 1)
+    ++ pair n.HtmlFlowData (at 1 2 1) (at 1 4 3)
+    ++ pair n.LineEnding (at 1 4 3) (at 2 1 4)
+    ++ pair n.LineEnding (at 2 1 4) (at 3 1 5)
+    ++ pair n.HtmlFlowData (at 3 1 5) (at 3 3 7)
+    ++ pair n.LineEnding (at 3 3 7) (at 4 1 8))
 
 abbrev pub html_tree : t.Blocks
 html_tree = t.More (t.Html (line 0 (codes " <?") ∷ line 0 ([]) ∷ line 0 (codes " x") ∷ [])) t.End
@@ -519,16 +519,16 @@ math_text = codes "$$ m" ++ 10 ∷ codes "a" ++ 10 ∷ codes "$$"
 abbrev math_events : List Event
 math_events =
     around n.MathFlow (at 1 1 0) (at 3 3 9)
-      (around n.MathFlowFence (at 1 1 0) (at 1 5 4)
-        (pair n.MathFlowFenceSequence (at 1 1 0) (at 1 3 2)
-        ++ pair n.SpaceOrTab (at 1 3 2) (at 1 4 3)
-        ++ around n.MathFlowFenceMeta (at 1 4 3) (at 1 5 4)
-          (chunk (at 1 4 3) (at 1 5 4)))
-      ++ pair n.LineEnding (at 1 5 4) (at 2 1 5)
-      ++ pair n.MathFlowChunk (at 2 1 5) (at 2 2 6)
-      ++ pair n.LineEnding (at 2 2 6) (at 3 1 7)
-      ++ around n.MathFlowFence (at 3 1 7) (at 3 3 9)
-        (pair n.MathFlowFenceSequence (at 3 1 7) (at 3 3 9)))
+    (around n.MathFlowFence (at 1 1 0) (at 1 5 4)
+    (pair n.MathFlowFenceSequence (at 1 1 0) (at 1 3 2)
+    ++ pair n.SpaceOrTab (at 1 3 2) (at 1 4 3)
+    ++ around n.MathFlowFenceMeta (at 1 4 3) (at 1 5 4)
+    (chunk (at 1 4 3) (at 1 5 4)))
+    ++ pair n.LineEnding (at 1 5 4) (at 2 1 5)
+    ++ pair n.MathFlowChunk (at 2 1 5) (at 2 2 6)
+    ++ pair n.LineEnding (at 2 2 6) (at 3 1 7)
+    ++ around n.MathFlowFence (at 3 1 7) (at 3 3 9)
+    (pair n.MathFlowFenceSequence (at 3 1 7) (at 3 3 9)))
 
 abbrev pub math_tree : t.Blocks
 math_tree = t.More (t.Math (Some (codes "m")) (line 0 (codes "a") ∷ []) true) t.End
@@ -544,18 +544,18 @@ frontmatter_text = codes "+++" ++ 10 ∷ codes "x" ++ 10 ∷ 10 ∷ codes "+++ "
 abbrev frontmatter_events : List Event
 frontmatter_events =
     around n.Frontmatter (at 1 1 0) (at 4 5 11)
-      (around n.FrontmatterFence (at 1 1 0) (at 1 4 3)
-        (pair n.FrontmatterSequence (at 1 1 0) (at 1 4 3))
-      ++ pair n.LineEnding (at 1 4 3) (at 2 1 4)
-      ++ pair n.FrontmatterChunk (at 2 1 4) (at 2 2 5)
-      ++ pair n.LineEnding (at 2 2 5) (at 3 1 6)
-      ++ pair n.LineEnding (at 3 1 6) (at 4 1 7)
-      ++ around n.FrontmatterFence (at 4 1 7) (at 4 5 11)
-        (pair n.FrontmatterSequence (at 4 1 7) (at 4 4 10)
-        ++ pair n.SpaceOrTab (at 4 4 10) (at 4 5 11)))
+    (around n.FrontmatterFence (at 1 1 0) (at 1 4 3)
+    (pair n.FrontmatterSequence (at 1 1 0) (at 1 4 3))
+    ++ pair n.LineEnding (at 1 4 3) (at 2 1 4)
+    ++ pair n.FrontmatterChunk (at 2 1 4) (at 2 2 5)
+    ++ pair n.LineEnding (at 2 2 5) (at 3 1 6)
+    ++ pair n.LineEnding (at 3 1 6) (at 4 1 7)
+    ++ around n.FrontmatterFence (at 4 1 7) (at 4 5 11)
+    (pair n.FrontmatterSequence (at 4 1 7) (at 4 4 10)
+    ++ pair n.SpaceOrTab (at 4 4 10) (at 4 5 11)))
     ++ pair n.LineEnding (at 4 5 11) (at 5 1 12)
     ++ around n.Paragraph (at 5 1 12) (at 5 2 13)
-      (chunk (at 5 1 12) (at 5 2 13))
+    (chunk (at 5 1 12) (at 5 2 13))
 
 abbrev pub frontmatter_tree : t.Blocks
 frontmatter_tree = t.More (t.Frontmatter 43 (codes "x" ∷ [] ∷ [])) (t.More (t.Paragraph (codes "a" ∷ [])) t.End)
@@ -571,37 +571,37 @@ definition_text = codes "> [a" ++ 10 ∷ codes "> b]: c" ++ 10 ∷ codes "> 'd" 
 abbrev definition_events : List Event
 definition_events =
     around n.BlockQuote (at 1 1 0) (at 4 4 21)
-      (around n.BlockQuotePrefix (at 1 1 0) (at 1 3 2)
-        (pair n.BlockQuoteMarker (at 1 1 0) (at 1 2 1)
-        ++ pair n.SpaceOrTab (at 1 2 1) (at 1 3 2))
-      ++ around n.Definition (at 1 3 2) (at 4 4 21)
-        (around n.DefinitionLabel (at 1 3 2) (at 2 5 9)
-          (pair n.DefinitionLabelMarker (at 1 3 2) (at 1 4 3)
-          ++ around n.DefinitionLabelString (at 1 4 3) (at 2 4 8)
-            (chunk (at 1 4 3) (at 2 1 5)
-            ++ around n.BlockQuotePrefix (at 2 1 5) (at 2 3 7)
-              (pair n.BlockQuoteMarker (at 2 1 5) (at 2 2 6)
-              ++ pair n.SpaceOrTab (at 2 2 6) (at 2 3 7))
-            ++ chunk (at 2 3 7) (at 2 4 8))
-          ++ pair n.DefinitionLabelMarker (at 2 4 8) (at 2 5 9))
-        ++ pair n.DefinitionMarker (at 2 5 9) (at 2 6 10)
-        ++ pair n.SpaceOrTab (at 2 6 10) (at 2 7 11)
-        ++ around n.DefinitionDestination (at 2 7 11) (at 2 8 12)
-          (around n.DefinitionDestinationRaw (at 2 7 11) (at 2 8 12)
-            (around n.DefinitionDestinationString (at 2 7 11) (at 2 8 12)
-              (chunk (at 2 7 11) (at 2 8 12))))
-        ++ pair n.LineEnding (at 2 8 12) (at 3 1 13)
-        ++ around n.BlockQuotePrefix (at 3 1 13) (at 3 3 15)
-          (pair n.BlockQuoteMarker (at 3 1 13) (at 3 2 14)
-          ++ pair n.SpaceOrTab (at 3 2 14) (at 3 3 15))
-        ++ around n.DefinitionTitle (at 3 3 15) (at 4 4 21)
-          (pair n.DefinitionTitleMarker (at 3 3 15) (at 3 4 16)
-          ++ around n.DefinitionTitleString (at 3 4 16) (at 4 3 20)
-            (chunk (at 3 4 16) (at 4 1 18)
-            ++ around n.BlockQuotePrefix (at 4 1 18) (at 4 2 19)
-              (pair n.BlockQuoteMarker (at 4 1 18) (at 4 2 19))
-            ++ chunk (at 4 2 19) (at 4 3 20))
-          ++ pair n.DefinitionTitleMarker (at 4 3 20) (at 4 4 21))))
+    (around n.BlockQuotePrefix (at 1 1 0) (at 1 3 2)
+    (pair n.BlockQuoteMarker (at 1 1 0) (at 1 2 1)
+    ++ pair n.SpaceOrTab (at 1 2 1) (at 1 3 2))
+    ++ around n.Definition (at 1 3 2) (at 4 4 21)
+    (around n.DefinitionLabel (at 1 3 2) (at 2 5 9)
+    (pair n.DefinitionLabelMarker (at 1 3 2) (at 1 4 3)
+    ++ around n.DefinitionLabelString (at 1 4 3) (at 2 4 8)
+    (chunk (at 1 4 3) (at 2 1 5)
+    ++ around n.BlockQuotePrefix (at 2 1 5) (at 2 3 7)
+    (pair n.BlockQuoteMarker (at 2 1 5) (at 2 2 6)
+    ++ pair n.SpaceOrTab (at 2 2 6) (at 2 3 7))
+    ++ chunk (at 2 3 7) (at 2 4 8))
+    ++ pair n.DefinitionLabelMarker (at 2 4 8) (at 2 5 9))
+    ++ pair n.DefinitionMarker (at 2 5 9) (at 2 6 10)
+    ++ pair n.SpaceOrTab (at 2 6 10) (at 2 7 11)
+    ++ around n.DefinitionDestination (at 2 7 11) (at 2 8 12)
+    (around n.DefinitionDestinationRaw (at 2 7 11) (at 2 8 12)
+    (around n.DefinitionDestinationString (at 2 7 11) (at 2 8 12)
+    (chunk (at 2 7 11) (at 2 8 12))))
+    ++ pair n.LineEnding (at 2 8 12) (at 3 1 13)
+    ++ around n.BlockQuotePrefix (at 3 1 13) (at 3 3 15)
+    (pair n.BlockQuoteMarker (at 3 1 13) (at 3 2 14)
+    ++ pair n.SpaceOrTab (at 3 2 14) (at 3 3 15))
+    ++ around n.DefinitionTitle (at 3 3 15) (at 4 4 21)
+    (pair n.DefinitionTitleMarker (at 3 3 15) (at 3 4 16)
+    ++ around n.DefinitionTitleString (at 3 4 16) (at 4 3 20)
+    (chunk (at 3 4 16) (at 4 1 18)
+    ++ around n.BlockQuotePrefix (at 4 1 18) (at 4 2 19)
+    (pair n.BlockQuoteMarker (at 4 1 18) (at 4 2 19))
+    ++ chunk (at 4 2 19) (at 4 3 20))
+    ++ pair n.DefinitionTitleMarker (at 4 3 20) (at 4 4 21))))
 
 abbrev pub definition_tree : t.Blocks
 definition_tree = t.More (t.Quote (t.More (t.Definition (codes "a" ∷ codes "b" ∷ []) (codes "c") (Some (codes "d" ∷ codes "e" ∷ []))) t.End)) t.End
@@ -617,21 +617,21 @@ empty_parts_text = codes "[a" ++ 10 ∷ codes "]: <> ''"
 abbrev empty_parts_events : List Event
 empty_parts_events =
     around n.Definition (at 1 1 0) (at 2 9 11)
-      (around n.DefinitionLabel (at 1 1 0) (at 2 2 4)
-        (pair n.DefinitionLabelMarker (at 1 1 0) (at 1 2 1)
-        ++ around n.DefinitionLabelString (at 1 2 1) (at 2 1 3)
-          (chunk (at 1 2 1) (at 2 1 3))
-        ++ pair n.DefinitionLabelMarker (at 2 1 3) (at 2 2 4))
-      ++ pair n.DefinitionMarker (at 2 2 4) (at 2 3 5)
-      ++ pair n.SpaceOrTab (at 2 3 5) (at 2 4 6)
-      ++ around n.DefinitionDestination (at 2 4 6) (at 2 6 8)
-        (around n.DefinitionDestinationLiteral (at 2 4 6) (at 2 6 8)
-          (pair n.DefinitionDestinationLiteralMarker (at 2 4 6) (at 2 5 7)
-          ++ pair n.DefinitionDestinationLiteralMarker (at 2 5 7) (at 2 6 8)))
-      ++ pair n.SpaceOrTab (at 2 6 8) (at 2 7 9)
-      ++ around n.DefinitionTitle (at 2 7 9) (at 2 9 11)
-        (pair n.DefinitionTitleMarker (at 2 7 9) (at 2 8 10)
-        ++ pair n.DefinitionTitleMarker (at 2 8 10) (at 2 9 11)))
+    (around n.DefinitionLabel (at 1 1 0) (at 2 2 4)
+    (pair n.DefinitionLabelMarker (at 1 1 0) (at 1 2 1)
+    ++ around n.DefinitionLabelString (at 1 2 1) (at 2 1 3)
+    (chunk (at 1 2 1) (at 2 1 3))
+    ++ pair n.DefinitionLabelMarker (at 2 1 3) (at 2 2 4))
+    ++ pair n.DefinitionMarker (at 2 2 4) (at 2 3 5)
+    ++ pair n.SpaceOrTab (at 2 3 5) (at 2 4 6)
+    ++ around n.DefinitionDestination (at 2 4 6) (at 2 6 8)
+    (around n.DefinitionDestinationLiteral (at 2 4 6) (at 2 6 8)
+    (pair n.DefinitionDestinationLiteralMarker (at 2 4 6) (at 2 5 7)
+    ++ pair n.DefinitionDestinationLiteralMarker (at 2 5 7) (at 2 6 8)))
+    ++ pair n.SpaceOrTab (at 2 6 8) (at 2 7 9)
+    ++ around n.DefinitionTitle (at 2 7 9) (at 2 9 11)
+    (pair n.DefinitionTitleMarker (at 2 7 9) (at 2 8 10)
+    ++ pair n.DefinitionTitleMarker (at 2 8 10) (at 2 9 11)))
 
 abbrev pub empty_parts_tree : t.Blocks
 empty_parts_tree = t.More (t.Definition (codes "a" ∷ [] ∷ []) [] (Some ([] ∷ []))) t.End
@@ -647,26 +647,26 @@ empty_lines_text = codes "[" ++ 10 ∷ codes " a]: b '" ++ 10 ∷ codes " c'"
 abbrev empty_lines_events : List Event
 empty_lines_events =
     around n.Definition (at 1 1 0) (at 3 4 14)
-      (around n.DefinitionLabel (at 1 1 0) (at 2 4 5)
-        (pair n.DefinitionLabelMarker (at 1 1 0) (at 1 2 1)
-        ++ around n.DefinitionLabelString (at 1 2 1) (at 2 3 4)
-          (chunk (at 1 2 1) (at 2 1 2)
-          ++ chunk (at 2 1 2) (at 2 3 4))
-        ++ pair n.DefinitionLabelMarker (at 2 3 4) (at 2 4 5))
-      ++ pair n.DefinitionMarker (at 2 4 5) (at 2 5 6)
-      ++ pair n.SpaceOrTab (at 2 5 6) (at 2 6 7)
-      ++ around n.DefinitionDestination (at 2 6 7) (at 2 7 8)
-        (around n.DefinitionDestinationRaw (at 2 6 7) (at 2 7 8)
-          (around n.DefinitionDestinationString (at 2 6 7) (at 2 7 8)
-            (chunk (at 2 6 7) (at 2 7 8))))
-      ++ pair n.SpaceOrTab (at 2 7 8) (at 2 8 9)
-      ++ around n.DefinitionTitle (at 2 8 9) (at 3 4 14)
-        (pair n.DefinitionTitleMarker (at 2 8 9) (at 2 9 10)
-        ++ around n.DefinitionTitleString (at 2 9 10) (at 3 3 13)
-          (chunk (at 2 9 10) (at 3 1 11)
-          ++ pair n.SpaceOrTab (at 3 1 11) (at 3 2 12)
-          ++ chunk (at 3 2 12) (at 3 3 13))
-        ++ pair n.DefinitionTitleMarker (at 3 3 13) (at 3 4 14)))
+    (around n.DefinitionLabel (at 1 1 0) (at 2 4 5)
+    (pair n.DefinitionLabelMarker (at 1 1 0) (at 1 2 1)
+    ++ around n.DefinitionLabelString (at 1 2 1) (at 2 3 4)
+    (chunk (at 1 2 1) (at 2 1 2)
+    ++ chunk (at 2 1 2) (at 2 3 4))
+    ++ pair n.DefinitionLabelMarker (at 2 3 4) (at 2 4 5))
+    ++ pair n.DefinitionMarker (at 2 4 5) (at 2 5 6)
+    ++ pair n.SpaceOrTab (at 2 5 6) (at 2 6 7)
+    ++ around n.DefinitionDestination (at 2 6 7) (at 2 7 8)
+    (around n.DefinitionDestinationRaw (at 2 6 7) (at 2 7 8)
+    (around n.DefinitionDestinationString (at 2 6 7) (at 2 7 8)
+    (chunk (at 2 6 7) (at 2 7 8))))
+    ++ pair n.SpaceOrTab (at 2 7 8) (at 2 8 9)
+    ++ around n.DefinitionTitle (at 2 8 9) (at 3 4 14)
+    (pair n.DefinitionTitleMarker (at 2 8 9) (at 2 9 10)
+    ++ around n.DefinitionTitleString (at 2 9 10) (at 3 3 13)
+    (chunk (at 2 9 10) (at 3 1 11)
+    ++ pair n.SpaceOrTab (at 3 1 11) (at 3 2 12)
+    ++ chunk (at 3 2 12) (at 3 3 13))
+    ++ pair n.DefinitionTitleMarker (at 3 3 13) (at 3 4 14)))
 
 abbrev pub empty_lines_tree : t.Blocks
 empty_lines_tree = t.More (t.Definition ([] ∷ codes "a" ∷ []) (codes "b") (Some ([] ∷ codes "c" ∷ []))) t.End
@@ -682,34 +682,34 @@ table_text = codes "| a | b" ++ 10 ∷ codes ":-|-" ++ 10 ∷ codes "|" ++ 10 �
 abbrev table_events : List Event
 table_events =
     around n.GfmTable (at 1 1 0) (at 3 2 14)
-      (around n.GfmTableHead (at 1 1 0) (at 2 5 12)
-        (around n.GfmTableRow (at 1 1 0) (at 1 8 7)
-          (around n.GfmTableCell (at 1 1 0) (at 1 5 4)
-            (pair n.GfmTableCellDivider (at 1 1 0) (at 1 2 1)
-            ++ pair n.SpaceOrTab (at 1 2 1) (at 1 3 2)
-            ++ around n.GfmTableCellText (at 1 3 2) (at 1 4 3)
-              (chunk (at 1 3 2) (at 1 4 3))
-            ++ pair n.SpaceOrTab (at 1 4 3) (at 1 5 4))
-          ++ around n.GfmTableCell (at 1 5 4) (at 1 8 7)
-            (pair n.GfmTableCellDivider (at 1 5 4) (at 1 6 5)
-            ++ pair n.SpaceOrTab (at 1 6 5) (at 1 7 6)
-            ++ around n.GfmTableCellText (at 1 7 6) (at 1 8 7)
-              (chunk (at 1 7 6) (at 1 8 7))))
-        ++ pair n.LineEnding (at 1 8 7) (at 2 1 8)
-        ++ around n.GfmTableDelimiterRow (at 2 1 8) (at 2 5 12)
-          (around n.GfmTableDelimiterCell (at 2 1 8) (at 2 3 10)
-            (around n.GfmTableDelimiterCellValue (at 2 1 8) (at 2 3 10)
-              (pair n.GfmTableDelimiterMarker (at 2 1 8) (at 2 2 9)
-              ++ pair n.GfmTableDelimiterFiller (at 2 2 9) (at 2 3 10)))
-          ++ around n.GfmTableDelimiterCell (at 2 3 10) (at 2 5 12)
-            (pair n.GfmTableCellDivider (at 2 3 10) (at 2 4 11)
-            ++ around n.GfmTableDelimiterCellValue (at 2 4 11) (at 2 5 12)
-              (pair n.GfmTableDelimiterFiller (at 2 4 11) (at 2 5 12)))))
-      ++ pair n.LineEnding (at 2 5 12) (at 3 1 13)
-      ++ around n.GfmTableBody (at 3 1 13) (at 3 2 14)
-        (around n.GfmTableRow (at 3 1 13) (at 3 2 14)
-          (around n.GfmTableCell (at 3 1 13) (at 3 2 14)
-            (pair n.GfmTableCellDivider (at 3 1 13) (at 3 2 14)))))
+    (around n.GfmTableHead (at 1 1 0) (at 2 5 12)
+    (around n.GfmTableRow (at 1 1 0) (at 1 8 7)
+    (around n.GfmTableCell (at 1 1 0) (at 1 5 4)
+    (pair n.GfmTableCellDivider (at 1 1 0) (at 1 2 1)
+    ++ pair n.SpaceOrTab (at 1 2 1) (at 1 3 2)
+    ++ around n.GfmTableCellText (at 1 3 2) (at 1 4 3)
+    (chunk (at 1 3 2) (at 1 4 3))
+    ++ pair n.SpaceOrTab (at 1 4 3) (at 1 5 4))
+    ++ around n.GfmTableCell (at 1 5 4) (at 1 8 7)
+    (pair n.GfmTableCellDivider (at 1 5 4) (at 1 6 5)
+    ++ pair n.SpaceOrTab (at 1 6 5) (at 1 7 6)
+    ++ around n.GfmTableCellText (at 1 7 6) (at 1 8 7)
+    (chunk (at 1 7 6) (at 1 8 7))))
+    ++ pair n.LineEnding (at 1 8 7) (at 2 1 8)
+    ++ around n.GfmTableDelimiterRow (at 2 1 8) (at 2 5 12)
+    (around n.GfmTableDelimiterCell (at 2 1 8) (at 2 3 10)
+    (around n.GfmTableDelimiterCellValue (at 2 1 8) (at 2 3 10)
+    (pair n.GfmTableDelimiterMarker (at 2 1 8) (at 2 2 9)
+    ++ pair n.GfmTableDelimiterFiller (at 2 2 9) (at 2 3 10)))
+    ++ around n.GfmTableDelimiterCell (at 2 3 10) (at 2 5 12)
+    (pair n.GfmTableCellDivider (at 2 3 10) (at 2 4 11)
+    ++ around n.GfmTableDelimiterCellValue (at 2 4 11) (at 2 5 12)
+    (pair n.GfmTableDelimiterFiller (at 2 4 11) (at 2 5 12)))))
+    ++ pair n.LineEnding (at 2 5 12) (at 3 1 13)
+    ++ around n.GfmTableBody (at 3 1 13) (at 3 2 14)
+    (around n.GfmTableRow (at 3 1 13) (at 3 2 14)
+    (around n.GfmTableCell (at 3 1 13) (at 3 2 14)
+    (pair n.GfmTableCellDivider (at 3 1 13) (at 3 2 14)))))
     ++ pair n.LineEnding (at 3 2 14) (at 4 1 15)
 
 abbrev pub table_tree : t.Blocks
@@ -726,22 +726,22 @@ footnote_text = codes "[^a]: b" ++ 10 ∷ 10 ∷ codes "    c"
 abbrev footnote_events : List Event
 footnote_events =
     around n.GfmFootnoteDefinition (at 1 1 0) (at 3 6 14)
-      (around n.GfmFootnoteDefinitionPrefix (at 1 1 0) (at 1 7 6)
-        (around n.GfmFootnoteDefinitionLabel (at 1 1 0) (at 1 5 4)
-          (pair n.GfmFootnoteDefinitionLabelMarker (at 1 1 0) (at 1 2 1)
-          ++ pair n.GfmFootnoteDefinitionMarker (at 1 2 1) (at 1 3 2)
-          ++ around n.GfmFootnoteDefinitionLabelString (at 1 3 2) (at 1 4 3)
-            (chunk (at 1 3 2) (at 1 4 3))
-          ++ pair n.GfmFootnoteDefinitionLabelMarker (at 1 4 3) (at 1 5 4))
-        ++ pair n.DefinitionMarker (at 1 5 4) (at 1 6 5)
-        ++ pair n.SpaceOrTab (at 1 6 5) (at 1 7 6))
-      ++ around n.Paragraph (at 1 7 6) (at 1 8 7)
-        (chunk (at 1 7 6) (at 1 8 7))
-      ++ pair n.LineEnding (at 1 8 7) (at 2 1 8)
-      ++ pair n.BlankLineEnding (at 2 1 8) (at 3 1 9)
-      ++ pair n.SpaceOrTab (at 3 1 9) (at 3 5 13)
-      ++ around n.Paragraph (at 3 5 13) (at 3 6 14)
-        (chunk (at 3 5 13) (at 3 6 14)))
+    (around n.GfmFootnoteDefinitionPrefix (at 1 1 0) (at 1 7 6)
+    (around n.GfmFootnoteDefinitionLabel (at 1 1 0) (at 1 5 4)
+    (pair n.GfmFootnoteDefinitionLabelMarker (at 1 1 0) (at 1 2 1)
+    ++ pair n.GfmFootnoteDefinitionMarker (at 1 2 1) (at 1 3 2)
+    ++ around n.GfmFootnoteDefinitionLabelString (at 1 3 2) (at 1 4 3)
+    (chunk (at 1 3 2) (at 1 4 3))
+    ++ pair n.GfmFootnoteDefinitionLabelMarker (at 1 4 3) (at 1 5 4))
+    ++ pair n.DefinitionMarker (at 1 5 4) (at 1 6 5)
+    ++ pair n.SpaceOrTab (at 1 6 5) (at 1 7 6))
+    ++ around n.Paragraph (at 1 7 6) (at 1 8 7)
+    (chunk (at 1 7 6) (at 1 8 7))
+    ++ pair n.LineEnding (at 1 8 7) (at 2 1 8)
+    ++ pair n.BlankLineEnding (at 2 1 8) (at 3 1 9)
+    ++ pair n.SpaceOrTab (at 3 1 9) (at 3 5 13)
+    ++ around n.Paragraph (at 3 5 13) (at 3 6 14)
+    (chunk (at 3 5 13) (at 3 6 14)))
 
 abbrev pub footnote_tree : t.Blocks
 footnote_tree = t.More (t.Footnote (codes "a") (t.More (t.Paragraph (codes "b" ∷ [])) (t.More (t.Paragraph (codes "c" ∷ [])) t.End))) t.End
@@ -749,3 +749,25 @@ footnote_tree = t.More (t.Footnote (codes "a") (t.More (t.Paragraph (codes "b" �
 row-footnote : Row footnote_text footnote_events footnote_tree
 unfolding spelled
 row-footnote = record { placed = refl; before = refl; after = refl; nested = search rules; lines = refl; chunks = refl; covers = search rules; each = search rules; empty = search rules }
+
+-- What is no block list.
+
+-- text that no layer is asked for
+refused-unlinked : chunks_stand 0 (around n.Paragraph (at 1 1 0) (at 1 2 1) (pair n.Data (at 1 1 0) (at 1 2 1))) ≡ false
+refused-unlinked = refl
+
+-- text that is called spaces and tabs
+refused-white : parts_stand (codes "a") (around n.Paragraph (at 1 1 0) (at 1 2 1) (pair n.SpaceOrTab (at 1 1 0) (at 1 2 1))) ≡ false
+refused-white = refl
+
+-- a chunk over two lines
+refused-lines : parts_stand (codes "a" ++ 10 ∷ codes "b") (around n.Paragraph (at 1 1 0) (at 2 2 3) (chunk (at 1 1 0) (at 2 2 3))) ≡ false
+refused-lines = refl
+
+-- a chunk that does not reach over the ending of its line
+refused-short : parts_stand (codes "a" ++ 10 ∷ codes "b") (around n.Paragraph (at 1 1 0) (at 2 2 3) (chunk (at 1 1 0) (at 1 2 1) ++ pair n.LineEnding (at 1 2 1) (at 2 1 2) ++ chunk (at 2 1 2) (at 2 2 3))) ≡ false
+refused-short = refl
+
+-- a chunk inside a container prefix
+refused-inner : chunks_stand 0 (around n.Paragraph (at 1 1 0) (at 1 2 1) (around n.BlockQuotePrefix (at 1 1 0) (at 1 2 1) (chunk (at 1 1 0) (at 1 2 1)))) ≡ false
+refused-inner = refl

@@ -126,7 +126,7 @@ same-unlinked : (bytes : List ℕ) (e : Event) (es : List Event) (depth : ℕ) (
     HasTextAt depth (read_by bytes e.kind (role e.name) e.point r) → EachInline lists → read bytes r (filled_from false (e ∷ es) lists) ≡ read bytes r (e ∷ es)
 same-unlinked bytes e es depth r lists same unlinked stands has each =
     ap (λ (x : Bool). read bytes r (cond x (first_list lists ++ filled_from true es (further_lists lists)) (e ∷ filled_from false es lists))) unlinked
-      ∙ same depth (read_by bytes e.kind (role e.name) e.point r) lists stands has each
+    ∙ same depth (read_by bytes e.kind (role e.name) e.point r) lists stands has each
 
 pub not-true : (x : Bool) → not x ≡ true → x ≡ false
 not-true false h = refl
@@ -152,16 +152,16 @@ same-linked bytes e (f ∷ es) depth r lists same linked chunk stands has each =
     let ends : read_by bytes f.kind (role f.name) f.point r ≡ r = quiet-kept bytes f.kind (role f.name) f.point r (data-role f.name outer.1) in
     let within : chunks_stand (suc (suc depth)) (f ∷ es) ≡ true = subst (λ (k : Kind). chunks_stand (depth_behind k (suc depth)) (f ∷ es) ≡ true) (enter-kind e.kind inner.0) stands in
     let behind : (cond (is_linked f) ((suc depth == 0) && is_chunk f es) (stands_in_part f.kind f.name) && chunks_stand (depth_behind f.kind (suc (suc depth))) es) ≡ true =
-      subst (λ (x : Bool). cond x (is_exit f.kind && (suc depth == 0) && not (is_linked f) && chunks_stand 0 es) (cond (is_linked f) ((suc depth == 0) && is_chunk f es) (stands_in_part f.kind f.name) && chunks_stand (depth_behind f.kind (suc (suc depth))) es) ≡ true) (data-no_part f.name outer.1) within in
+    subst (λ (x : Bool). cond x (is_exit f.kind && (suc depth == 0) && not (is_linked f) && chunks_stand 0 es) (cond (is_linked f) ((suc depth == 0) && is_chunk f es) (stands_in_part f.kind f.name) && chunks_stand (depth_behind f.kind (suc (suc depth))) es) ≡ true) (data-no_part f.name outer.1) within in
     let on : chunks_stand (suc depth) es ≡ true =
-      subst (λ (k : Kind). chunks_stand (depth_behind k (suc (suc depth))) es ≡ true) (exit-kind f.kind middle.1)
-        (and_parts (cond (is_linked f) ((suc depth == 0) && is_chunk f es) (stands_in_part f.kind f.name)) (chunks_stand (depth_behind f.kind (suc (suc depth))) es) behind).1 in
+    subst (λ (k : Kind). chunks_stand (depth_behind k (suc (suc depth))) es ≡ true) (exit-kind f.kind middle.1)
+    (and_parts (cond (is_linked f) ((suc depth == 0) && is_chunk f es) (stands_in_part f.kind f.name)) (chunks_stand (depth_behind f.kind (suc (suc depth))) es) behind).1 in
     ap (λ (x : Bool). read bytes r (cond x (first_list lists ++ filled_from true (f ∷ es) (further_lists lists)) (e ∷ filled_from false (f ∷ es) lists))) linked
-      ∙ read-append bytes r (first_list lists) (filled_from false es (further_lists lists))
-      ∙ ap (λ (x : Reading). read bytes x (filled_from false es (further_lists lists))) (read-inline bytes r has.0 (first_list lists) has.1 (first-inline lists each))
-      ∙ same (suc depth) r (further_lists lists) on has (further-inline lists each)
-      ∙ ap (λ (x : Reading). read bytes x es) (sym ends)
-      ∙ ap (λ (x : Reading). read bytes (read_by bytes f.kind (role f.name) f.point x) es) (sym starts)
+    ∙ read-append bytes r (first_list lists) (filled_from false es (further_lists lists))
+    ∙ ap (λ (x : Reading). read bytes x (filled_from false es (further_lists lists))) (read-inline bytes r has.0 (first_list lists) has.1 (first-inline lists each))
+    ∙ same (suc depth) r (further_lists lists) on has (further-inline lists each)
+    ∙ ap (λ (x : Reading). read bytes x es) (sym ends)
+    ∙ ap (λ (x : Reading). read bytes (read_by bytes f.kind (role f.name) f.point x) es) (sym starts)
 
 same-step : (bytes : List ℕ) (e : Event) (es : List Event) → Same bytes es → SameBehind bytes es → Same bytes (e ∷ es)
 same-step bytes e es same behind zero r lists stands has each =
@@ -177,7 +177,7 @@ same-step bytes e es same behind (suc depth) r lists stands has each = go (is_pa
         same-unlinked bytes e es 0 r lists same (not-true (is_linked e) (and_parts (is_exit e.kind && (depth == 0)) (not (is_linked e)) outer.0).1) outer.1 tt each
     go false y linked h =
         let outer : (cond (is_linked e) ((depth == 0) && is_chunk e es) (stands_in_part e.kind e.name) ≡ true) × (chunks_stand (depth_behind e.kind (suc depth)) es ≡ true) =
-          and_parts (cond (is_linked e) ((depth == 0) && is_chunk e es) (stands_in_part e.kind e.name)) (chunks_stand (depth_behind e.kind (suc depth)) es) h in
+        and_parts (cond (is_linked e) ((depth == 0) && is_chunk e es) (stands_in_part e.kind e.name)) (chunks_stand (depth_behind e.kind (suc depth)) es) h in
         by y linked (subst (λ (x : Bool). cond x ((depth == 0) && is_chunk e es) (stands_in_part e.kind e.name) ≡ true) linked outer.0) outer.1
       where
         by : (y : Bool) → is_linked e ≡ y → cond y ((depth == 0) && is_chunk e es) (stands_in_part e.kind e.name) ≡ true → chunks_stand (depth_behind e.kind (suc depth)) es ≡ true →

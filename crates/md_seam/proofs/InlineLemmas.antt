@@ -53,11 +53,12 @@ line-next : (bytes : List ℕ) (chunk : Chunk) → (rest : List ℕ) × (drop ch
 line-next bytes chunk =
     let size : ℕ = chunk.after.index - chunk.first.index in
     let behind : List ℕ = drop chunk.first.index bytes in
-    let long : ℕ = prefix_len (λ (b : ℕ). not (is_ending b)) (take size behind) in
-    (drop long (take size behind) ++ drop size behind,
-     sym (sym (append_assoc (take long (take size behind)) (drop long (take size behind)) (drop size behind))
-       ∙ ap (λ (l : List ℕ). l ++ drop size behind) (take-append-drop long (take size behind))
-       ∙ take-append-drop size behind))
+    let long : ℕ = prefix_len (λ (b : ℕ). not (is_ending b)) (take size behind) in (
+      drop long (take size behind) ++ drop size behind,
+      sym (sym (append_assoc (take long (take size behind)) (drop long (take size behind)) (drop size behind))
+          ∙ ap (λ (l : List ℕ). l ++ drop size behind) (take-append-drop long (take size behind))
+          ∙ take-append-drop size behind),
+    )
 
 -- it is no longer than the chunk
 line-length : (bytes : List ℕ) (chunk : Chunk) → length (without_ending (chunk_text bytes chunk)) ≤ chunk.after.index - chunk.first.index
@@ -84,8 +85,10 @@ end-before bytes chunk h = go (without_ending (chunk_text bytes chunk)) (line-le
   where
     index : (p q : Point) → IsTrue (at_or_before p q) → p.index ≤ q.index
     index p q h = grind (arith, nat_tests)
+
     before : (p q : Point) → p.index ≤ q.index → p.vs ≡ 0 → IsTrue (at_or_before p q)
     before p q h e = grind (arith, nat_tests)
+
     go : (line : List ℕ) → length line ≤ chunk.after.index - chunk.first.index → IsTrue (at_or_before (past_text line chunk.first) chunk.after)
     go [] small = h
     go (b ∷ line) small =
@@ -161,8 +164,8 @@ plain-balanced : (bytes : List ℕ) (chunks : List Chunk) → Balanced (together
 plain-balanced bytes [] = balanced-none
 plain-balanced bytes (chunk ∷ chunks) =
     balanced-append (plain_chunk bytes chunk) (together (plain_chunks bytes chunks))
-      (balanced-append (pair_unless_empty n.Data chunk.first (line_end bytes chunk)) (pair_unless_empty n.LineEnding (line_end bytes chunk) chunk.after) (balanced-pair n.Data chunk.first (line_end bytes chunk)) (balanced-pair n.LineEnding (line_end bytes chunk) chunk.after))
-      (plain-balanced bytes chunks)
+    (balanced-append (pair_unless_empty n.Data chunk.first (line_end bytes chunk)) (pair_unless_empty n.LineEnding (line_end bytes chunk) chunk.after) (balanced-pair n.Data chunk.first (line_end bytes chunk)) (balanced-pair n.LineEnding (line_end bytes chunk) chunk.after))
+    (plain-balanced bytes chunks)
 
 last-pair : (o : Point) (name : Name) (p q : Point) → IsTrue (at_or_before o p) → IsTrue (at_or_before p q) → (es : List Event) (r : Point) → ((o : Point) → IsTrue (at_or_before o q) → IsTrue (at_or_before (last_point o es) r)) → IsTrue (at_or_before (last_point o (pair_unless_empty name p q ++ es)) r)
 last-pair o name p q h k es r rest = go (same_place p q)
@@ -175,14 +178,14 @@ plain-forward : (bytes : List ℕ) (chunk : Chunk) → IsTrue (at_or_before chun
 plain-forward bytes chunk h =
     let end : Point = line_end bytes chunk in
     forward-pair chunk.first n.Data chunk.first end (pair_unless_empty n.LineEnding end chunk.after) (at_or_before-refl chunk.first) (end-behind bytes chunk)
-      (subst (Forward end) (append-none (pair_unless_empty n.LineEnding end chunk.after)) (forward-pair end n.LineEnding end chunk.after [] (at_or_before-refl end) (end-before bytes chunk h) tt))
+    (subst (Forward end) (append-none (pair_unless_empty n.LineEnding end chunk.after)) (forward-pair end n.LineEnding end chunk.after [] (at_or_before-refl end) (end-before bytes chunk h) tt))
 
 plain-last : (bytes : List ℕ) (chunk : Chunk) → IsTrue (at_or_before chunk.first chunk.after) → IsTrue (at_or_before (last_point chunk.first (plain_chunk bytes chunk)) chunk.after)
 plain-last bytes chunk h =
     let end : Point = line_end bytes chunk in
     last-pair chunk.first n.Data chunk.first end (at_or_before-refl chunk.first) (end-behind bytes chunk) (pair_unless_empty n.LineEnding end chunk.after) chunk.after
-      (λ o before. subst (λ (l : List Event). IsTrue (at_or_before (last_point o l) chunk.after)) (append-none (pair_unless_empty n.LineEnding end chunk.after))
-        (last-pair o n.LineEnding end chunk.after before (end-before bytes chunk h) [] chunk.after (λ o h. h)))
+    (λ o before. subst (λ (l : List Event). IsTrue (at_or_before (last_point o l) chunk.after)) (append-none (pair_unless_empty n.LineEnding end chunk.after))
+    (last-pair o n.LineEnding end chunk.after before (end-before bytes chunk h) [] chunk.after (λ o h. h)))
 
 plain-placed : (bytes : List ℕ) (chunks : List Chunk) → list_all (chunk_placed bytes) chunks ≡ true → are_placed bytes (together (plain_chunks bytes chunks)) ≡ true
 plain-placed bytes [] h = refl
@@ -191,19 +194,19 @@ plain-placed bytes (chunk ∷ chunks) h =
     let inner : (is_placed bytes chunk.first ≡ true) × (is_placed bytes chunk.after ≡ true) = and_parts (is_placed bytes chunk.first) (is_placed bytes chunk.after) outer.0 in
     let ends : is_placed bytes (line_end bytes chunk) ≡ true = end-placed bytes chunk inner.0 in
     all-append (λ (e : Event). is_placed bytes e.point) (plain_chunk bytes chunk) (together (plain_chunks bytes chunks))
-      (all-append (λ (e : Event). is_placed bytes e.point) (pair_unless_empty n.Data chunk.first (line_end bytes chunk)) (pair_unless_empty n.LineEnding (line_end bytes chunk) chunk.after)
-        (placed-pair bytes n.Data chunk.first (line_end bytes chunk) inner.0 ends)
-        (placed-pair bytes n.LineEnding (line_end bytes chunk) chunk.after ends inner.1))
-      (plain-placed bytes chunks outer.1)
+    (all-append (λ (e : Event). is_placed bytes e.point) (pair_unless_empty n.Data chunk.first (line_end bytes chunk)) (pair_unless_empty n.LineEnding (line_end bytes chunk) chunk.after)
+    (placed-pair bytes n.Data chunk.first (line_end bytes chunk) inner.0 ends)
+    (placed-pair bytes n.LineEnding (line_end bytes chunk) chunk.after ends inner.1))
+    (plain-placed bytes chunks outer.1)
 
 plain-inline : (bytes : List ℕ) (chunks : List Chunk) → list_all (λ (e : Event). is_inline e.name) (together (plain_chunks bytes chunks)) ≡ true
 plain-inline bytes [] = refl
 plain-inline bytes (chunk ∷ chunks) =
     all-append (λ (e : Event). is_inline e.name) (plain_chunk bytes chunk) (together (plain_chunks bytes chunks))
-      (all-append (λ (e : Event). is_inline e.name) (pair_unless_empty n.Data chunk.first (line_end bytes chunk)) (pair_unless_empty n.LineEnding (line_end bytes chunk) chunk.after)
-        (inline-pair n.Data chunk.first (line_end bytes chunk) refl)
-        (inline-pair n.LineEnding (line_end bytes chunk) chunk.after refl))
-      (plain-inline bytes chunks)
+    (all-append (λ (e : Event). is_inline e.name) (pair_unless_empty n.Data chunk.first (line_end bytes chunk)) (pair_unless_empty n.LineEnding (line_end bytes chunk) chunk.after)
+    (inline-pair n.Data chunk.first (line_end bytes chunk) refl)
+    (inline-pair n.LineEnding (line_end bytes chunk) chunk.after refl))
+    (plain-inline bytes chunks)
 
 plain-endings : (bytes : List ℕ) (chunks : List Chunk) → line_endings (together (plain_chunks bytes chunks)) ≡ endings_of bytes chunks
 plain-endings bytes [] = refl
@@ -211,9 +214,9 @@ plain-endings bytes (chunk ∷ chunks) =
     let content : List Event = pair_unless_empty n.Data chunk.first (line_end bytes chunk) in
     let ending : List Event = pair_unless_empty n.LineEnding (line_end bytes chunk) chunk.after in
     endings-append (content ++ ending) (together (plain_chunks bytes chunks))
-      ∙ ap (λ (l : List Event). l ++ line_endings (together (plain_chunks bytes chunks)))
-          (endings-append content ending ∙ ap (λ (l : List Event). l ++ line_endings ending) (endings-data chunk.first (line_end bytes chunk)) ∙ endings-ending (line_end bytes chunk) chunk.after)
-      ∙ ap (λ (l : List Event). ending ++ l) (plain-endings bytes chunks)
+    ∙ ap (λ (l : List Event). l ++ line_endings (together (plain_chunks bytes chunks)))
+    (endings-append content ending ∙ ap (λ (l : List Event). l ++ line_endings ending) (endings-data chunk.first (line_end bytes chunk)) ∙ endings-ending (line_end bytes chunk) chunk.after)
+    ∙ ap (λ (l : List Event). ending ++ l) (plain-endings bytes chunks)
 
 plain-covers : (bytes : List ℕ) (chunk : Chunk) → Covers chunk.first (pieces (plain_chunk bytes chunk)) chunk.after
 plain-covers bytes chunk = go (line_end bytes chunk) (same_place chunk.first (line_end bytes chunk)) refl (same_place (line_end bytes chunk) chunk.after) refl

@@ -93,8 +93,8 @@ inside-part_ends Exit name p link es [] X part N G gs outside is ends flat unlin
     let none : G ≡ [] = no_lists G (subst (λ (x : Bool). Fills (chunks (pieces (cond (x && true) [] (e ∷ inside_part es)))) G) is fills) in
     let gone : X ≡ [] = subst (λ (G : List (List Event)). open_after X (together G) ≡ []) none closed in
     subst (λ (X : List Name). Does (X ++ (part ∷ N)) (filled_from false (e ∷ es) (G ++ together gs)) (part ∷ N) (e ∷ es)) (sym gone)
-      (subst (λ (G : List (List Event)). Does (part ∷ N) (filled_from false (e ∷ es) (G ++ together gs)) (part ∷ N) (e ∷ es)) (sym none)
-        (does-next (part ∷ N) (part ∷ N) e es (together gs) unlinked m.0 (outside N gs stands each m.1)))
+    (subst (λ (G : List (List Event)). Does (part ∷ N) (filled_from false (e ∷ es) (G ++ together gs)) (part ∷ N) (e ∷ es)) (sym none)
+    (does-next (part ∷ N) (part ∷ N) e es (together gs) unlinked m.0 (outside N gs stands each m.1)))
 
 -- a prefix, or an event inside of one
 inside-other : (kind : Kind) (name : Name) (p : Point) (link : Option Link) (es : List Event) (D X : List Name) (part : Name) (N : List Name) (G : List (List Event)) (gs : List (List (List Event))) → Inside es →
@@ -122,36 +122,41 @@ inside-chunk : (name other : Name) (p q : Point) (link back : Option Link) (es :
     Does (X ++ (part ∷ N)) (filled_from false (e ∷ f ∷ es) (G ++ together gs)) (part ∷ N) (e ∷ f ∷ es)
 inside-chunk name other p q link back es X part N G gs inside ends linked stands is fills m closed each k =
     go G
-      (subst (λ (x : Bool). Fills (cond x ((record { first = p; after = q }) ∷ chunks (pieces_from f (inside_part es))) (chunks (pieces_from f (inside_part es)))) G) linked
-        (subst (λ (x : Bool). Fills (chunks (pieces (e ∷ cond (x && true) [] (f ∷ inside_part es)))) G) outside fills))
-      m closed
+    (subst (λ (x : Bool). Fills (cond x ((record { first = p; after = q }) ∷ chunks (pieces_from f (inside_part es))) (chunks (pieces_from f (inside_part es)))) G) linked
+    (subst (λ (x : Bool). Fills (chunks (pieces (e ∷ cond (x && true) [] (f ∷ inside_part es)))) G) outside fills))
+    m closed
   where
     e : Event
     e = record { kind = Enter; name = name; point = p; link = link }
+
     f : Event
     f = record { kind = Exit; name = other; point = q; link = back }
+
     outside : is_part other ≡ false
     outside = data-no_part other ends
+
     on : chunks_stand 1 es ≡ true
     on = (and_parts (cond (is_linked f) ((1 == 0) && is_chunk f es) (stands_in_part Exit other)) (chunks_stand 1 es)
         (subst (λ (x : Bool). cond x (true && (1 == 0) && not (is_linked f) && chunks_stand 0 es) (cond (is_linked f) ((1 == 0) && is_chunk f es) (stands_in_part Exit other) && chunks_stand 1 es) ≡ true) outside stands)).1
+
     go : (G : List (List Event)) → Fills ((record { first = p; after = q }) ∷ chunks (pieces_from f (inside_part es))) G → Matches X (together G) → open_after X (together G) ≡ [] →
         Does (X ++ (part ∷ N)) (filled_from false (e ∷ f ∷ es) (G ++ together gs)) (part ∷ N) (e ∷ f ∷ es)
     go [] fills m closed = absurd fills
     go (events ∷ G) fills m closed =
         let next : Does (open_after X events ++ (part ∷ N)) (filled_from false es (G ++ together gs)) (part ∷ N) es =
-          inside [] (open_after X events) part N G gs on is
-            (subst (λ (l : List Chunk). Fills l G) (chunks-exit other q back (inside_part es)) fills.3)
-            (matches-rest X events (together G) m)
-            (sym (open_after-append X events (together G)) ∙ closed) each k.1.1 in
+        inside [] (open_after X events) part N G gs on is
+        (subst (λ (l : List Chunk). Fills l G) (chunks-exit other q back (inside_part es)) fills.3)
+        (matches-rest X events (together G) m)
+        (sym (open_after-append X events (together G)) ∙ closed) each k.1.1 in
         let under : open_after (X ++ (part ∷ N)) events ≡ open_after X events ++ (part ∷ N) = open_after-under X (part ∷ N) events (matches-front X events (together G) m) in
         let rest : Does (open_after (X ++ (part ∷ N)) events) (filled_from false es (G ++ together gs)) (part ∷ N) es =
-          subst (λ (M : List Name). Does M (filled_from false es (G ++ together gs)) (part ∷ N) es) (sym under) next in
-        subst (λ (x : Bool). Does (X ++ (part ∷ N)) (cond x (events ++ filled_from true (f ∷ es) (G ++ together gs)) (e ∷ filled_from false (f ∷ es) ((events ∷ G) ++ together gs))) (part ∷ N) (e ∷ f ∷ es)) (sym linked)
-          (matches-append (X ++ (part ∷ N)) events (filled_from false es (G ++ together gs)) (matches-under X (part ∷ N) events (matches-front X events (together G) m)) rest.0,
-           open_after-append (X ++ (part ∷ N)) events (filled_from false es (G ++ together gs)) ∙ rest.1,
-           λ o h. forward-append o events (filled_from false es (G ++ together gs)) (forward-from o p events h.0 fills.0)
-             (forward-from (last_point o events) q (filled_from false es (G ++ together gs)) (last-from o p q events (at_or_before-trans o p q h.0 h.1.0) fills.1) (rest.2 q h.1.1)))
+        subst (λ (M : List Name). Does M (filled_from false es (G ++ together gs)) (part ∷ N) es) (sym under) next in
+        subst (λ (x : Bool). Does (X ++ (part ∷ N)) (cond x (events ++ filled_from true (f ∷ es) (G ++ together gs)) (e ∷ filled_from false (f ∷ es) ((events ∷ G) ++ together gs))) (part ∷ N) (e ∷ f ∷ es)) (sym linked) (
+          matches-append (X ++ (part ∷ N)) events (filled_from false es (G ++ together gs)) (matches-under X (part ∷ N) events (matches-front X events (together G) m)) rest.0,
+          open_after-append (X ++ (part ∷ N)) events (filled_from false es (G ++ together gs)) ∙ rest.1,
+          λ o h. forward-append o events (filled_from false es (G ++ together gs)) (forward-from o p events h.0 fills.0)
+              (forward-from (last_point o events) q (filled_from false es (G ++ together gs)) (last-from o p q events (at_or_before-trans o p q h.0 h.1.0) fills.1) (rest.2 q h.1.1)),
+        )
 
 abbrev InsideBehind : List Event → Type 0
 InsideBehind [] = Unit {0}
@@ -180,6 +185,7 @@ inside-step kind name p link es outside inside behind D X part N G gs stands is 
   where
     e : Event
     e = record { kind = kind; name = name; point = p; link = link }
+
     go : (x : Bool) → is_part name ≡ x →
         cond x (is_exit kind && (length D == 0) && not (is_linked e) && chunks_stand 0 es) (cond (is_linked e) ((length D == 0) && is_chunk e es) (stands_in_part kind name) && chunks_stand (depth_behind kind (suc (length D))) es) ≡ true →
         Does (D ++ (X ++ (part ∷ N))) (filled_from false (e ∷ es) (G ++ together gs)) (D ++ (part ∷ N)) (e ∷ es)
@@ -190,10 +196,10 @@ inside-step kind name p link es outside inside behind D X part N G gs stands is 
         inside-part_ends kind name p link es D X part N G gs outside at inner.0 (eqb-true (length D) 0 inner.1) (not-true (is_linked e) middle.1) outer.1 fills closed each k
     go false at h =
         let outer : (cond (is_linked e) ((length D == 0) && is_chunk e es) (stands_in_part kind name) ≡ true) × (chunks_stand (depth_behind kind (suc (length D))) es ≡ true) =
-          and_parts (cond (is_linked e) ((length D == 0) && is_chunk e es) (stands_in_part kind name)) (chunks_stand (depth_behind kind (suc (length D))) es) h in
+        and_parts (cond (is_linked e) ((length D == 0) && is_chunk e es) (stands_in_part kind name)) (chunks_stand (depth_behind kind (suc (length D))) es) h in
         by (is_linked e) refl outer.0 outer.1
-          (subst (λ (x : Bool). Fills (chunks (pieces (cond (x && is_exit kind) [] (e ∷ inside_part es)))) G) at fills)
-          (subst (λ (l : List Part). EachFills (l ++ parts es) gs) (part-none kind name es at) each)
+        (subst (λ (x : Bool). Fills (chunks (pieces (cond (x && is_exit kind) [] (e ∷ inside_part es)))) G) at fills)
+        (subst (λ (l : List Part). EachFills (l ++ parts es) gs) (part-none kind name es at) each)
       where
         by : (y : Bool) → is_linked e ≡ y → cond y ((length D == 0) && is_chunk e es) (stands_in_part kind name) ≡ true → chunks_stand (depth_behind kind (suc (length D))) es ≡ true → Fills (chunks (pieces (e ∷ inside_part es))) G → EachFills (parts es) gs →
             Does (D ++ (X ++ (part ∷ N))) (filled_from false (e ∷ es) (G ++ together gs)) (D ++ (part ∷ N)) (e ∷ es)
@@ -218,9 +224,11 @@ outside-step kind name p link es outside inside N gs stands each k =
   where
     e : Event
     e = record { kind = kind; name = name; point = p; link = link }
+
     at : (x : Option PartKind) → (elim x [ None ↦ false | Some k ↦ true ]) ≡ true → chunks_stand 1 es ≡ true → EachFills (part_at Enter x es ++ parts es) gs → is_part name ≡ true → Matches (name ∷ N) es → Does (name ∷ N) (filled_from false es (together gs)) (name ∷ N) es
     at None h stands each is k = cc
     at (Some kind) h stands each is k = outside-part name p link es N gs inside is kind (chunks (pieces (inside_part es))) refl stands each k
+
     go : (kind : Kind) (x : Bool) → is_part name ≡ x → chunks_stand (cond (x && not (is_exit kind)) 1 0) es ≡ true → EachFills (part_at kind (part_kind name) es ++ parts es) gs → Matches (open_behind N kind name) es →
         Does (open_behind N kind name) (filled_from false es (together gs)) (open_behind N kind name) es
     go Enter true is stands each k = at (part_kind name) is stands each is k
@@ -245,7 +253,7 @@ pub tiles-nested : (bytes : List ℕ) (reads : Part → List Event → Type 0) (
 tiles-nested bytes reads events frame tiles =
     let nested : Nested tiles.blocks = tiles.block_list.nested in
     let does : Does [] (filled_from false tiles.blocks (together tiles.lists)) [] tiles.blocks =
-      (does-all tiles.blocks).0 [] tiles.lists tiles.block_list.chunks (fills-read bytes reads frame (parts tiles.blocks) tiles.lists (parts-are bytes tiles.blocks tiles.block_list) tiles.each) nested.balanced.matches in
+    (does-all tiles.blocks).0 [] tiles.lists tiles.block_list.chunks (fills-read bytes reads frame (parts tiles.blocks) tiles.lists (parts-are bytes tiles.blocks tiles.block_list) tiles.each) nested.balanced.matches in
     subst Nested (sym tiles.read) (record { balanced = record { matches = does.0; closed = does.1 ∙ nested.balanced.closed }; forward = does.2 first_point nested.forward })
 
 -- Points.
@@ -285,11 +293,11 @@ placed-read bytes reads frame [] (l ∷ lists) are each = absurd each
 placed-read bytes reads frame (part ∷ parts) [] are each = absurd each
 placed-read bytes reads frame (part ∷ parts) (l ∷ lists) are each =
     subst (λ (es : List Event). are_placed bytes es ≡ true) (sym (together-append l (together lists)))
-      (all-append (λ (e : Event). is_placed bytes e.point) (together l) (together (together lists)) (frame part (together l) are.0 each.1).placed (placed-read bytes reads frame parts lists are.1 each.2))
+    (all-append (λ (e : Event). is_placed bytes e.point) (together l) (together (together lists)) (frame part (together l) are.0 each.1).placed (placed-read bytes reads frame parts lists are.1 each.2))
 
 -- The events of a list that tiles stand at points of the text, whatever the layer.
 pub tiles-placed : (bytes : List ℕ) (reads : Part → List Event → Type 0) (events : List Event) → KeepsFrame bytes reads → Tiles reads bytes events → are_placed bytes events ≡ true
 tiles-placed bytes reads events frame tiles =
     subst (λ (es : List Event). are_placed bytes es ≡ true) (sym tiles.read)
-      (all-filled (λ (e : Event). is_placed bytes e.point) false tiles.blocks (together tiles.lists) tiles.block_list.placed
-        (placed-read bytes reads frame (parts tiles.blocks) tiles.lists (parts-are bytes tiles.blocks tiles.block_list) tiles.each))
+    (all-filled (λ (e : Event). is_placed bytes e.point) false tiles.blocks (together tiles.lists) tiles.block_list.placed
+    (placed-read bytes reads frame (parts tiles.blocks) tiles.lists (parts-are bytes tiles.blocks tiles.block_list) tiles.each))

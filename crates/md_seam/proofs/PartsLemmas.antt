@@ -26,7 +26,7 @@ order-from p q (chunk ∷ list) h k =
     let outer : (at_or_before q chunk.first && at_or_before chunk.first chunk.after ≡ true) × (in_order chunk.after list ≡ true) = and_parts (at_or_before q chunk.first && at_or_before chunk.first chunk.after) (in_order chunk.after list) k in
     let inner : (at_or_before q chunk.first ≡ true) × (at_or_before chunk.first chunk.after ≡ true) = and_parts (at_or_before q chunk.first) (at_or_before chunk.first chunk.after) outer.0 in
     and_from (at_or_before p chunk.first && at_or_before chunk.first chunk.after) (in_order chunk.after list)
-      (and_from (at_or_before p chunk.first) (at_or_before chunk.first chunk.after) (at_or_before-trans p q chunk.first h inner.0) inner.1) outer.1
+    (and_from (at_or_before p chunk.first) (at_or_before chunk.first chunk.after) (at_or_before-trans p q chunk.first h inner.0) inner.1) outer.1
 
 order-piece : (e f : Event) (k l : Kind) (rest : List Piece) → IsTrue (at_or_before e.point f.point) → in_order f.point (chunks rest) ≡ true → in_order e.point (chunks (piece_of e f k l ++ rest)) ≡ true
 order-piece e f Enter Exit rest h order = go (is_linked e)
@@ -100,8 +100,8 @@ part-is bytes kind end (chunk ∷ list) lines order placed = (record { end = end
 parts-at : (bytes : List ℕ) (p : Point) (kind : Kind) (part : Option PartKind) (es : List Event) → part_stands bytes kind part es ≡ true → Forward p es → are_placed bytes es ≡ true → IsTrue (at_or_before first_point p) → EachPart (IsPart bytes) (part_at kind part es)
 parts-at bytes p Enter (Some kind) es stands forward placed h =
     part-is bytes kind (part_end es) (chunks (pieces (inside_part es))) (and_parts (list_all (is_white_piece bytes) (pieces (inside_part es))) (are_lines bytes (part_end es) (chunks (pieces (inside_part es)))) stands).1
-      (order-from first_point p (chunks (pieces (inside_part es))) h (order-chunks p (inside_part es) (inside-forward p es forward)))
-      (placed-chunks bytes (inside_part es) (inside-placed bytes es placed))
+    (order-from first_point p (chunks (pieces (inside_part es))) h (order-chunks p (inside_part es) (inside-forward p es forward)))
+    (placed-chunks bytes (inside_part es) (inside-placed bytes es placed))
 parts-at bytes p Enter None es stands forward placed h = tt
 parts-at bytes p Exit part es stands forward placed h = tt
 
@@ -112,8 +112,8 @@ parts-from bytes p (e ∷ es) stands forward placed h =
     let points : (is_placed bytes e.point ≡ true) × (are_placed bytes es ≡ true) = and_parts (is_placed bytes e.point) (are_placed bytes es) placed in
     let behind : IsTrue (at_or_before first_point e.point) = at_or_before-trans first_point p e.point h forward.0 in
     each-part-append (IsPart bytes) (part_at e.kind (part_kind e.name) es) (parts es)
-      (parts-at bytes e.point e.kind (part_kind e.name) es lines.0 forward.1 points.1 behind)
-      (parts-from bytes e.point es lines.1 forward.1 points.1 behind)
+    (parts-at bytes e.point e.kind (part_kind e.name) es lines.0 forward.1 points.1 behind)
+    (parts-from bytes e.point es lines.1 forward.1 points.1 behind)
 
 -- The text parts of a block list may be read.
 pub parts-are : (bytes : List ℕ) (events : List Event) → IsBlockList bytes events → EachPart (IsPart bytes) (parts events)
@@ -152,4 +152,4 @@ read-inline_lists bytes reads frame (part ∷ parts) (l ∷ lists) are each =
 pub tiles-spelled : (bytes : List ℕ) (reads : Part → List Event → Type 0) (events : List Event) → KeepsFrame bytes reads → (tiles : Tiles reads bytes events) → spelled events bytes ≡ spelled tiles.blocks bytes
 tiles-spelled bytes reads events frame tiles =
     ap (λ (es : List Event). spelled es bytes) tiles.read
-      ∙ spelled-filled bytes tiles.blocks (together tiles.lists) tiles.block_list.chunks (read-inline_lists bytes reads frame (parts tiles.blocks) tiles.lists (parts-are bytes tiles.blocks tiles.block_list) tiles.each)
+    ∙ spelled-filled bytes tiles.blocks (together tiles.lists) tiles.block_list.chunks (read-inline_lists bytes reads frame (parts tiles.blocks) tiles.lists (parts-are bytes tiles.blocks tiles.block_list) tiles.each)

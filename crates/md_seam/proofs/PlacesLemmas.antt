@@ -63,12 +63,12 @@ pub split-snoc : (text : List ℕ) (b : ℕ) → is_ending b ≡ false → split
 split-snoc [] b h = split-line (b ∷ []) (h, tt)
 split-snoc (c ∷ text) b h =
     ap (λ (x : Bool). cond ((c == 10) || ((c == 13) && not x)) ([] ∷ split_lines (text ++ b ∷ [])) (cond (is_ending c) (split_lines (text ++ b ∷ [])) (onto_first c (split_lines (text ++ b ∷ []))))) (begins-snoc b text h)
-      ∙ ap (λ (r : List (List ℕ)). cond (ends_line c text) ([] ∷ r) (cond (is_ending c) r (onto_first c r))) (split-snoc text b h)
-      ∙ go (ends_line c text) (is_ending c)
+    ∙ ap (λ (r : List (List ℕ)). cond (ends_line c text) ([] ∷ r) (cond (is_ending c) r (onto_first c r))) (split-snoc text b h)
+    ∙ go (ends_line c text) (is_ending c)
   where
     go : (x y : Bool) →
         cond x ([] ∷ onto_last b (split_lines text)) (cond y (onto_last b (split_lines text)) (onto_first c (onto_last b (split_lines text))))
-          ≡ onto_last b (cond x ([] ∷ split_lines text) (cond y (split_lines text) (onto_first c (split_lines text))))
+        ≡ onto_last b (cond x ([] ∷ split_lines text) (cond y (split_lines text) (onto_first c (split_lines text))))
     go true y = sym (onto_last-next b [] (split_lines text) (some-split text))
     go false true = refl
     go false false = sym (onto_last-first b c (split_lines text) (some-split text))
@@ -130,9 +130,9 @@ pub record Placed (bytes : List ℕ) (p : Point) : Type 0 where
 pub placed-facts : (bytes : List ℕ) (p : Point) → is_placed bytes p ≡ true → Placed bytes p
 placed-facts bytes p h =
     let outer : (nat_le p.index (length bytes) && within_tab bytes p && (p.line == length (split_lines (take p.index bytes))) ≡ true) × ((p.column == columns_before bytes p.index + p.vs + 1) ≡ true) =
-      and_parts (nat_le p.index (length bytes) && within_tab bytes p && (p.line == length (split_lines (take p.index bytes)))) (p.column == columns_before bytes p.index + p.vs + 1) h in
+    and_parts (nat_le p.index (length bytes) && within_tab bytes p && (p.line == length (split_lines (take p.index bytes)))) (p.column == columns_before bytes p.index + p.vs + 1) h in
     let middle : (nat_le p.index (length bytes) && within_tab bytes p ≡ true) × ((p.line == length (split_lines (take p.index bytes))) ≡ true) =
-      and_parts (nat_le p.index (length bytes) && within_tab bytes p) (p.line == length (split_lines (take p.index bytes))) outer.0 in
+    and_parts (nat_le p.index (length bytes) && within_tab bytes p) (p.line == length (split_lines (take p.index bytes))) outer.0 in
     let inner : (nat_le p.index (length bytes) ≡ true) × (within_tab bytes p ≡ true) = and_parts (nat_le p.index (length bytes)) (within_tab bytes p) middle.0 in
     record { index = leb-true _ _ inner.0; within = inner.1; line = eqb-true _ _ middle.1; column = eqb-true _ _ outer.1 }
 
@@ -142,10 +142,10 @@ le-test a b h = grind (arith, nat_tests)
 pub placed-from : (bytes : List ℕ) (p : Point) → Placed bytes p → is_placed bytes p ≡ true
 placed-from bytes p h =
     and_from (nat_le p.index (length bytes) && within_tab bytes p && (p.line == length (split_lines (take p.index bytes)))) (p.column == columns_before bytes p.index + p.vs + 1)
-      (and_from (nat_le p.index (length bytes) && within_tab bytes p) (p.line == length (split_lines (take p.index bytes)))
-        (and_from (nat_le p.index (length bytes)) (within_tab bytes p) (le-test p.index (length bytes) h.index) h.within)
-        (eq-eqb p.line (length (split_lines (take p.index bytes))) h.line))
-      (eq-eqb p.column (columns_before bytes p.index + p.vs + 1) h.column)
+    (and_from (nat_le p.index (length bytes) && within_tab bytes p) (p.line == length (split_lines (take p.index bytes)))
+    (and_from (nat_le p.index (length bytes)) (within_tab bytes p) (le-test p.index (length bytes) h.index) h.within)
+    (eq-eqb p.line (length (split_lines (take p.index bytes))) h.line))
+    (eq-eqb p.column (columns_before bytes p.index + p.vs + 1) h.column)
 
 -- the column behind a byte, from the columns before its point
 column-behind : (b before vs column : ℕ) → column ≡ before + vs + 1 → ((vs == 0) || ((b == 9) && nat_lt vs (tab_columns before))) ≡ true → column_past b (column - 1) ≡ column_past b before
@@ -161,6 +161,7 @@ column-behind b before vs column e h = go (b == 9) h
       where
         less : column - 1 ≡ before + vs
         less = omega arith
+
         small : vs < 4 - before % 4
         small = grind (arith, nat_tests)
 
@@ -170,11 +171,11 @@ placed-byte bytes p b rest placed next line =
     let taken : take (p.index + 1) bytes ≡ take p.index bytes ++ b ∷ [] = ap (λ (i : ℕ). take i bytes) (add-one p.index) ∙ take-next p.index bytes b rest next in
     let lines : split_lines (take (p.index + 1) bytes) ≡ onto_last b (split_lines (take p.index bytes)) = ap split_lines taken ∙ split-snoc (take p.index bytes) b line in
     let columns : columns_before bytes (p.index + 1) ≡ column_past b (columns_before bytes p.index) =
-      ap (λ (ls : List (List ℕ)). columns_from 0 (last_line ls)) lines
-        ∙ ap (columns_from 0) (last-onto_last b (split_lines (take p.index bytes)) (some-split (take p.index bytes)))
-        ∙ columns-snoc 0 b (last_line (split_lines (take p.index bytes))) in
+    ap (λ (ls : List (List ℕ)). columns_from 0 (last_line ls)) lines
+    ∙ ap (columns_from 0) (last-onto_last b (split_lines (take p.index bytes)) (some-split (take p.index bytes)))
+    ∙ columns-snoc 0 b (last_line (split_lines (take p.index bytes))) in
     let within : ((p.vs == 0) || ((b == 9) && nat_lt p.vs (tab_columns (columns_before bytes p.index)))) ≡ true =
-      subst (λ (l : List ℕ). ((p.vs == 0) || ((first_byte l == 9) && nat_lt p.vs (tab_columns (columns_before bytes p.index)))) ≡ true) next placed.within in
+    subst (λ (l : List ℕ). ((p.vs == 0) || ((first_byte l == 9) && nat_lt p.vs (tab_columns (columns_before bytes p.index)))) ≡ true) next placed.within in
     let column : column_past b (p.column - 1) ≡ columns_before bytes (p.index + 1) = column-behind b (columns_before bytes p.index) p.vs p.column placed.column within ∙ sym columns in
     let index : suc p.index ≤ length bytes = index-next p.index bytes b rest next in
     record {
@@ -189,7 +190,7 @@ pub placed-text : (bytes : List ℕ) (p : Point) (text rest : List ℕ) → Plac
 placed-text bytes p [] rest placed next line = placed
 placed-text bytes p (b ∷ text) rest placed next line =
     placed-text bytes (past_byte b p) text rest (placed-byte bytes p b (text ++ rest) placed next line.0)
-      (ap (λ (i : ℕ). drop i bytes) (add-one p.index) ∙ drop-next p.index bytes b (text ++ rest) next) line.1
+    (ap (λ (i : ℕ). drop i bytes) (add-one p.index) ∙ drop-next p.index bytes b (text ++ rest) next) line.1
 
 -- a fact of events that stand one after the other
 pub all-append : (test : Event → Bool) (xs ys : List Event) → list_all test xs ≡ true → list_all test ys ≡ true → list_all test (xs ++ ys) ≡ true
