@@ -1,16 +1,16 @@
 -- The events of a block are read as that block.
-use Rattle.std.proofs.Common.{◌≡◌, ℕ, List, [], ◌∷◌, ◌++◌, refl, ap, sym, ◌∙◌}
-use Rattle.std.specs.Prelude.{Option, Some, None, slice_range}
+use Rattle.std.proofs.Common.{◌≡◌, ℕ, Bool, true, cond, List, [], ◌∷◌, length, refl, ap, sym, ◌∙◌}
+use Rattle.std.specs.Prelude.{Option, Some, None, option_map, nat_lt, slice_range}
 use Rattle.md_engine.specs.declared.event.Point.{Point}
 use Rattle.md_engine.specs.declared.event.Event.{Event}
 use Rattle.md_engine.specs.declared.event.Name.{Name}
 use Rattle.md_engine.specs.declared.event.Name.TheVariants as n
 use Rattle.md_seam.specs.Tree as t
-use Rattle.md_seam.specs.Texts.{split_lines, trim_each}
-use Rattle.md_seam.specs.Nested.{enter, exit, around, pair}
-use Rattle.md_seam.specs.Spelled.{Reading, Text, OpenLeaf, LeafKind, OfBreak, Shape, Around, Role, Holds, Opens, Tells, Purpose, AsParagraph, role, add_block, block_of, block_around, finished, left, fresh, begun, byte_at, text_to, told, told_at, read_enter, read_exit, read}
+use Rattle.md_seam.specs.Texts.{trim_each}
+use Rattle.md_seam.specs.Nested.{exit, around, pair}
+use Rattle.md_seam.specs.Spelled.{Reading, Text, OpenLeaf, LeafKind, OfBreak, Shape, Role, Holds, Opens, Tells, Purpose, AsParagraph, AsLine, role, add_block, block_of, block_around, finished, left, fresh, begun, byte_at, columns_left, text_to, noted, next_line, on_leaf, at_ending, told, told_at, read_enter, read_exit, read}
 use Rattle.md_seam.proofs.TextsLemmas.{IsOfLines, split-lines}
-use Rattle.md_seam.proofs.SpelledLemmas.{Roles, Quiet, QuietOrEnding, Between, read-append, read-quiet, read-text, text_after}
+use Rattle.md_seam.proofs.SpelledLemmas.{Roles, Quiet, Between, read-append, read-quiet, read-text, text_after}
 
 -- events between an enter and its exit
 pub read-around : (bytes : List ℕ) (r : Reading) (name : Name) (p q : Point) (inside : List Event) →
@@ -61,3 +61,17 @@ pub read-paragraph : (bytes : List ℕ) (r : Reading) (p q : Point) (inside : Li
 read-paragraph bytes r p q inside lines none between is =
     read-told bytes r n.Paragraph AsParagraph p q inside refl none between
     ∙ ap (λ (x : List (List ℕ)). add_block (t.Paragraph (trim_each x)) r) (split-lines lines (text_to bytes q.index (text_after bytes (begun p) inside)) is)
+
+-- A line ending in a leaf block opens its next line, where the text goes on.
+pub read-ending : (bytes : List ℕ) (r : Reading) (p q : Point) (leaf : OpenLeaf) → r.text ≡ None → r.leaf ≡ Some leaf → nat_lt q.index (length bytes) ≡ true → read bytes r (pair n.LineEnding p q) ≡ record r { leaf = Some (next_line leaf) }
+read-ending bytes r p q leaf none opened goes_on =
+    ap (λ (x : Option Text). at_ending bytes q x r) none
+    ∙ ap (λ (x : Bool). cond x (on_leaf next_line r) r) goes_on
+    ∙ ap (λ (x : Option OpenLeaf). record r { leaf = option_map next_line x }) opened
+
+-- A chunk belongs to the last line of the leaf block.
+pub read-chunk : (bytes : List ℕ) (r : Reading) (name : Name) (p q : Point) (leaf : OpenLeaf) → role name ≡ Tells AsLine → r.text ≡ None → r.leaf ≡ Some leaf →
+    read bytes r (pair name p q) ≡ record r { leaf = Some (noted AsLine (record { spaces = columns_left p; text = slice_range bytes (byte_at p) q.index }) leaf) }
+read-chunk bytes r name p q leaf tells none opened =
+    read-told bytes r name AsLine p q [] tells none tt
+    ∙ ap (λ (x : Option OpenLeaf). record r { leaf = option_map (noted AsLine (record { spaces = columns_left p; text = slice_range bytes (byte_at p) q.index })) x }) opened

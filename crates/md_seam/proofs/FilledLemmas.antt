@@ -1,6 +1,6 @@
 -- A document is read as the same tree before its text parts are read and after.
-use Rattle.std.proofs.Common.{◌≡◌, ℕ, zero, suc, Bool, true, false, cond, ◌&&◌, ◌||◌, List, [], ◌∷◌, ◌++◌, refl, ap, sym, ◌∙◌, subst}
-use Rattle.std.specs.Prelude.{Option, Some, None, option_map, ◌==◌, not}
+use Rattle.std.proofs.Common.{◌≡◌, ℕ, zero, suc, Bool, true, false, cond, ◌&&◌, List, [], ◌∷◌, ◌++◌, refl, ap, sym, ◌∙◌, subst}
+use Rattle.std.specs.Prelude.{Option, Some, option_map, ◌==◌, not}
 use Rattle.std.proofs.lemmas.Bool.{and_parts}
 use Rattle.md_engine.specs.declared.event.Point.{Point}
 use Rattle.md_engine.specs.declared.event.Event.{Event}
@@ -8,8 +8,7 @@ use Rattle.md_engine.specs.declared.event.Kind.{Kind}
 use Rattle.md_engine.specs.declared.event.Kind.TheVariants.{Enter, Exit}
 use Rattle.md_engine.specs.declared.event.Name.{Name}
 use Rattle.md_engine.specs.declared.event.Name.TheVariants as n
-use Rattle.md_seam.specs.Tree as t
-use Rattle.md_seam.specs.Spelled.{Reading, Text, Purpose, AsParagraph, AsHeading, AsInfo, AsMeta, AsLabel, AsDestination, AsTitle, AsCell, AsFootnoteLabel, Role, Tells, IsQuiet, IsPrefix, IsEnding, role, begun, before_prefix, after_prefix, read_by, read, unread, spelled}
+use Rattle.md_seam.specs.Spelled.{Reading, Text, Purpose, AsParagraph, AsHeading, AsInfo, AsMeta, AsLabel, AsDestination, AsTitle, AsCell, AsFootnoteLabel, Role, Tells, IsQuiet, IsPrefix, role, begun, before_prefix, after_prefix, read_by, read, unread, spelled}
 use Rattle.md_seam.specs.Inline.{is_linked, is_inline}
 use Rattle.md_seam.specs.Tiles.{stands_in_part, is_data, is_exit, is_part, is_chunk, depth_behind, chunks_stand, first_list, further_lists, filled_from, filled}
 use Rattle.md_seam.proofs.SpelledLemmas.{Roles, QuietOrPrefix, QuietOrEnding, read-append, read-inline}

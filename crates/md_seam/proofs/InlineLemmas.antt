@@ -1,5 +1,5 @@
 -- The plain layer keeps the promise of all inline layers.
-use Rattle.std.proofs.Common.{◌≡◌, ℕ, zero, suc, ◌+◌, ◌-◌, ◌≤◌, Bool, true, false, cond, ◌&&◌, ◌||◌, List, [], ◌∷◌, ◌++◌, length, take, drop, refl, ap, sym, ◌∙◌, subst, append_assoc, arith}
+use Rattle.std.proofs.Common.{◌≡◌, ℕ, suc, ◌+◌, ◌-◌, ◌≤◌, Bool, true, false, cond, ◌&&◌, List, [], ◌∷◌, ◌++◌, length, take, drop, refl, ap, sym, ◌∙◌, subst, append_assoc, arith}
 use Rattle.std.specs.Prelude.{◌==◌, IsTrue, not}
 use Rattle.std.specs.List.{list_all, prefix_len}
 use Rattle.std.proofs.lemmas.List.{take-append-drop, length-take}
@@ -14,7 +14,7 @@ use Rattle.md_seam.specs.declared.inline.Chunk.{Chunk}
 use Rattle.md_seam.specs.Lines.{is_ending, without_ending}
 use Rattle.md_seam.specs.Places.{first_point, is_placed, are_placed, same_place, at_or_before, past_byte, past_text}
 use Rattle.md_seam.specs.Nested.{pair, Balanced, Forward, last_point}
-use Rattle.md_seam.specs.Inline.{Part, Piece, pieces, Covers, in_order, chunk_placed, chunk_text, line_end, pair_unless_empty, endings_of, plain_chunk, plain_chunks, together, plain_events, is_inline, is_line_ending, line_endings, Fills, Framed, IsPart, KeepsFrame}
+use Rattle.md_seam.specs.Inline.{Part, pieces, Covers, in_order, chunk_placed, chunk_text, line_end, pair_unless_empty, endings_of, plain_chunk, plain_chunks, together, plain_events, is_inline, is_line_ending, line_endings, Fills, Framed, IsPart, KeepsFrame}
 use Rattle.md_seam.proofs.TextsLemmas.{NoEnding}
 use Rattle.md_seam.proofs.PlacesLemmas.{all-append, placed-facts, placed-from, placed-text}
 use Rattle.md_seam.proofs.NestedLemmas.{balanced-none, balanced-append, at_or_before-refl, at_or_before-trans, forward-from}

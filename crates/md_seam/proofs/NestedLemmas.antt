@@ -1,5 +1,5 @@
 -- Nested lists are put together from nested lists.
-use Rattle.std.proofs.Common.{◌≡◌, ℕ, ◌&&◌, ◌||◌, List, [], ◌∷◌, ◌++◌, refl, ap, sym, ◌∙◌, subst, append_assoc, arith}
+use Rattle.std.proofs.Common.{◌≡◌, List, [], ◌∷◌, ◌++◌, refl, ap, sym, ◌∙◌, subst, arith}
 use Rattle.std.specs.Prelude.{IsTrue}
 use Rattle.std.proofs.lemmas.Grind.{common_steps}
 use Rattle.md_engine.specs.declared.event.Point.{Point}
@@ -8,7 +8,7 @@ use Rattle.md_engine.specs.declared.event.Kind.{Kind}
 use Rattle.md_engine.specs.declared.event.Kind.TheVariants.{Enter, Exit}
 use Rattle.md_engine.specs.declared.event.Name.{Name}
 use Rattle.md_seam.specs.Places.{first_point, at_or_before}
-use Rattle.md_seam.specs.Nested.{exit, open_behind, open_after, Fits, Matches, Forward, last_point, Balanced, Nested}
+use Rattle.md_seam.specs.Nested.{open_behind, open_after, Fits, Matches, Forward, last_point, Balanced, Nested}
 
 -- Open names.
 

@@ -1,16 +1,15 @@
 -- Points of a text, and the points behind pieces of its lines.
 use Rattle.std.proofs.Common.{◌≡◌, ℕ, zero, suc, ◌+◌, ◌-◌, ◌%◌, ◌<◌, ◌≤◌, Bool, true, false, cond, ◌&&◌, ◌||◌, List, [], ◌∷◌, ◌++◌, length, take, drop, refl, ap, sym, ◌∙◌, subst, add-one, arith}
-use Rattle.std.specs.Prelude.{◌==◌, IsTrue, not, nat_lt, nat_le}
+use Rattle.std.specs.Prelude.{◌==◌, not, nat_lt, nat_le}
 use Rattle.std.specs.List.{list_all, onto_first}
 use Rattle.std.proofs.lemmas.Bool.{and_parts, and_from, leb-true, eqb-true, eq-eqb}
 use Rattle.std.proofs.lemmas.Bool.Decides.{nat_tests}
-use Rattle.std.proofs.lemmas.Grind.{common_steps}
 use Rattle.md_engine.specs.declared.event.Point.{Point}
 use Rattle.md_engine.specs.declared.event.Event.{Event}
 use Rattle.md_seam.specs.Lines.{is_ending, begins_with, ends_line}
 use Rattle.md_seam.specs.Rest.{tab_columns}
 use Rattle.md_seam.specs.Texts.{split_lines, first_byte}
-use Rattle.md_seam.specs.Places.{column_past, columns_from, last_line, columns_before, within_tab, is_placed, at_or_before, past_byte, past_text}
+use Rattle.md_seam.specs.Places.{column_past, columns_from, last_line, columns_before, within_tab, is_placed, past_byte, past_text}
 use Rattle.md_seam.proofs.TextsLemmas.{NoEnding, split-line}
 
 -- The last line grows by a byte that is no ending.

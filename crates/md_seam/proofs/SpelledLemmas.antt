@@ -1,15 +1,13 @@
 -- What events are read as.
-use Rattle.std.proofs.Common.{◌≡◌, ℕ, ◌+◌, Bool, true, false, cond, List, [], ◌∷◌, ◌++◌, length, refl, ap, sym, ◌∙◌, append_assoc}
+use Rattle.std.proofs.Common.{◌≡◌, ℕ, Bool, true, false, cond, List, [], ◌∷◌, ◌++◌, length, refl, ap, sym, ◌∙◌, append_assoc}
 use Rattle.std.specs.Prelude.{Option, Some, None, option_map, nat_lt, slice_range}
 use Rattle.md_engine.specs.declared.event.Point.{Point}
 use Rattle.md_engine.specs.declared.event.Event.{Event}
 use Rattle.md_engine.specs.declared.event.Kind.{Kind}
 use Rattle.md_engine.specs.declared.event.Kind.TheVariants.{Enter, Exit}
-use Rattle.md_engine.specs.declared.event.Name.{Name}
 use Rattle.md_engine.specs.declared.event.Name.TheVariants as n
-use Rattle.md_seam.specs.Tree as t
-use Rattle.md_seam.specs.Nested.{enter, exit, around}
-use Rattle.md_seam.specs.Spelled.{Reading, Text, OpenLeaf, Role, Holds, Opens, Tells, IsFence, IsTitle, IsRow, IsCell, IsPrefix, IsEnding, IsQuiet, role, add_block, byte_at, text_to, before_prefix, after_prefix, at_ending, on_leaf, next_line, read_by, read, unread, spelled}
+use Rattle.md_seam.specs.Nested.{exit, around}
+use Rattle.md_seam.specs.Spelled.{Reading, Text, OpenLeaf, Role, IsPrefix, IsEnding, IsQuiet, role, byte_at, text_to, before_prefix, after_prefix, at_ending, on_leaf, next_line, read_by, read}
 
 -- a reader goes on over what is appended
 pub read-append : (bytes : List ℕ) (r : Reading) (xs ys : List Event) → read bytes r (xs ++ ys) ≡ read bytes (read bytes r xs) ys
