@@ -1,5 +1,5 @@
 // What turns a text into an outline: the part that differs from program to program.
-ghost use Rattle.std.specs.Prelude.{◌≤◌, ◌/◌, List, ℕ, length, IfOk};
+ghost use Rattle.std.specs.Prelude.{◌≡◌, ◌≤◌, List, ℕ, length, IfOk};
 ghost use Rattle.md_engine.specs.declared.configuration.ParseOptions.{ParseOptions};
 ghost use Rattle.md_program.specs.declared.body.Outlined.{Outlined};
 ghost use Rattle.md_program.specs.Sets.{IsWithoutMdx};
@@ -8,6 +8,9 @@ use md_engine::configuration::ParseOptions;
 use md_engine::message::Message;
 use md_seam::outline::OutlineLine;
 use std::alloc::Global;
+
+/// The most bytes that a text may have.
+pub const MOST: usize = usize::MAX / 8;
 
 /// An outline, and the labels of the text in their normal form, in source order, repeats kept.
 #[derive(Drop)]
@@ -28,10 +31,14 @@ pub trait Body {
     // What it may answer to a text and options.
     ghost outlines: { List ℕ → ParseOptions → Outlined → Type 0 };
 
+    // What stands for options.
+    ghost built: { ParseOptions → ParseOptions };
+
     /// The options that stand for `options`: a body that lacks a construct turns it off.
     fn built(options: ParseOptions) -> ParseOptions
         requires { IsWithoutMdx options }
-        ensures { accepts result };
+        ensures value { result ≡ built options }
+        ensures accepted { accepts result };
 
     /// The outline of `text`.
     ///
@@ -41,7 +48,7 @@ pub trait Body {
         text: &'a str,
         options: &'a ParseOptions,
     ) -> Result<Outlined<'a>, Message>
-        requires size { length text.now ≤ usize.MAX / 8 }
+        requires size { length text.now ≤ MOST }
         requires accepted { accepts options.now }
         ensures { IfOk result (λ o. outlines text.now options.now o) };
 }

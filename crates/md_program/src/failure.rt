@@ -1,6 +1,10 @@
 // Why the program ends without its output, and what it says then.
 ghost use Rattle.std.specs.Prelude.{◌≡◌};
-ghost use Rattle.md_program.specs.Ends.{message_of, status_of};
+ghost use Rattle.md_program.specs.declared.failure.Failure.TheVariants.{OutOfMemory};
+ghost use Rattle.md_program.specs.Ends.{failed_status};
+
+use md_engine::message::Message;
+use std::alloc::AllocError;
 
 /// Why the program ends without its whole output.
 #[derive(Clone, Copy, Debug, PartialEq, Eq)]
@@ -22,7 +26,7 @@ pub enum Failure {
 impl Failure {
     /// The status that the program ends with.
     pub fn status(self) -> u8
-        ensures { result ≡ status_of self }
+        ensures { result ≡ failed_status self }
     {
         match self {
             Failure::UnknownArgument | Failure::NotUtf8 | Failure::TooLong => 2,
@@ -33,7 +37,7 @@ impl Failure {
 
     /// The line on the standard error, with its line feed.
     pub fn message(self) -> &'static str
-        ensures { result.now ≡ message_of self }
+        ensures { result.now ≡ Rattle.md_program.specs.Ends.message self }
     {
         match self {
             Failure::UnknownArgument => "blocks: unknown argument\n",
@@ -43,5 +47,21 @@ impl Failure {
             Failure::ReadFailed => "blocks: read failed\n",
             Failure::WriteFailed => "blocks: write failed\n",
         }
+    }
+}
+
+impl From<AllocError> for Failure {
+    ghost from_gives = { λ _ failure. failure ≡ OutOfMemory };
+
+    fn from(_error: AllocError) -> Failure {
+        Failure::OutOfMemory
+    }
+}
+
+impl From<Message> for Failure {
+    ghost from_gives = { λ _ failure. failure ≡ OutOfMemory };
+
+    fn from(_message: Message) -> Failure {
+        Failure::OutOfMemory
     }
 }

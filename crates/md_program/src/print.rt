@@ -51,7 +51,6 @@ fn push_line(text: &mut String, line: &OutlineLine) -> Result<(), AllocError>
     text.push_str("\n")
 }
 
-#[tactic(auto, using(crate::proofs::Texts::repeat_more))]
 fn push_repeated(text: &mut String, piece: &str, count: usize) -> Result<(), AllocError>
     ensures { OnOk result (string_bytes text.new ≡ string_bytes text.old ++ repeat count piece.now) }
 {

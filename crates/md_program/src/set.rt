@@ -1,6 +1,6 @@
 // The sets of constructs that the program's argument names.
 ghost use Rattle.std.specs.Prelude.{◌≡◌, map, string_bytes};
-ghost use Rattle.md_program.specs.Sets.{IsWithoutMdx, options_of, set_named};
+ghost use Rattle.md_program.specs.Sets.{IsWithoutMdx, options_of, set_asked_for, set_named};
 
 use md_engine::configuration::{Constructs, ParseOptions};
 
@@ -17,16 +17,22 @@ pub enum Set {
 
 /// The set that the arguments after the program's name ask for, or `None` where they are unknown.
 pub fn asked_for(args: &[String]) -> Option<Set>
-    ensures { result ≡ set_named (map string_bytes args.now) }
+    ensures { result ≡ set_asked_for (map string_bytes args.now) }
 {
     match args {
         [] => Some(Set::CommonMark),
-        [name] => match name.as_str() {
-            "commonmark" => Some(Set::CommonMark),
-            "gfm" => Some(Set::Gfm),
-            "all" => Some(Set::All),
-            _ => None,
-        },
+        [name] => named(name.as_str()),
+        _ => None,
+    }
+}
+
+fn named(name: &str) -> Option<Set>
+    ensures { result ≡ set_named name.now }
+{
+    match name {
+        "commonmark" => Some(Set::CommonMark),
+        "gfm" => Some(Set::Gfm),
+        "all" => Some(Set::All),
         _ => None,
     }
 }
