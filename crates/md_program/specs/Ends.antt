@@ -1,5 +1,5 @@
 -- How the program ends.
-use Rattle.std.specs.Prelude.{◌≡◌, ℕ, ◌≤◌, ◌<◌, List, take, length, codes, ⊤, Option, Some, None, IsSome, IfSome, IsUtf8}
+use Rattle.std.specs.Prelude.{◌≡◌, ℕ, ◌≤◌, ◌<◌, List, ◌++◌, length, codes, ⊤, Option, Some, None, IsSome, IfSome, IsUtf8}
 use Rattle.std.specs.Io.KnownBytes.{Keeps, Appends}
 use Rattle.md_engine.specs.declared.configuration.ParseOptions.{ParseOptions}
 use Rattle.md_program.specs.Printed.{printed}
@@ -7,6 +7,7 @@ use Rattle.md_program.specs.declared.body.Outlined.{Outlined}
 use Rattle.md_program.specs.declared.body.TheConstants.{MOST}
 use Rattle.md_program.specs.declared.failure.Failure.{Failure}
 use Rattle.md_program.specs.declared.failure.Failure.TheVariants.{UnknownArgument, NotUtf8, TooLong, OutOfMemory, ReadFailed, WriteFailed}
+use Rattle.md_program.specs.declared.set.Set.{Set}
 
 -- the status after a failure
 abbrev pub failed_status : Failure → ℕ
@@ -28,7 +29,7 @@ message WriteFailed = codes "blocks: write failed\n"
 
 -- the known bytes of a writer have grown by a beginning of bs
 abbrev pub AppendsBeginning : Option (List ℕ) → Option (List ℕ) → List ℕ → Type 0
-AppendsBeginning old new bs = (n : ℕ) × Appends old new (take n bs)
+AppendsBeginning old new bs = (front : List ℕ) × (back : List ℕ) × (bs ≡ front ++ back) × Appends old new front
 
 -- a reader whose bytes may be known had these and no more, and they are not too many
 pub record Gives (input : Option (List ℕ)) (bytes : List ℕ) : Type 0 where
@@ -43,3 +44,43 @@ FailsRead input TooLong = IfSome input (λ known. MOST < length known)
 FailsRead input UnknownArgument = ⊥
 FailsRead input NotUtf8 = ⊥
 FailsRead input WriteFailed = ⊥
+
+-- a reader whose bytes may be known gave a text, and this is its outline
+pub record IsOutlined (outlines : List ℕ → ParseOptions → Outlined → Type 0) (options : ParseOptions) (input : Option (List ℕ)) (outlined : Outlined) : Type 0 where
+  pub text : List ℕ
+  pub read : Gives input text
+  pub utf8 : IsUtf8 text
+  pub shown : outlines text options outlined
+
+-- the arguments ask for a set, and these bytes are the printed form of an outline under it
+pub record Prints (shows : Set → Outlined → Type 0) (asked : Option Set) (bytes : List ℕ) : Type 0 where
+  pub set : Set
+  pub known : asked ≡ Some set
+  pub outlined : Outlined
+  pub shown : shows set outlined
+  pub printing : bytes ≡ printed outlined
+
+-- why the program stops before it writes; `input` is what it could read, and `left` what it has not read
+abbrev pub Stops : Option Set → Option (List ℕ) → Option (List ℕ) → Failure → Type 0
+Stops asked input left UnknownArgument = (asked ≡ None) × Keeps input left
+Stops asked input left NotUtf8 = IsSome asked × IfSome input (λ known. ¬ IsUtf8 known)
+Stops asked input left TooLong = IsSome asked × IfSome input (λ known. MOST < length known)
+Stops asked input left OutOfMemory = IsSome asked
+Stops asked input left ReadFailed = IsSome asked
+Stops asked input left WriteFailed = ⊥
+
+-- what the program has read and written, by how it ended; `old` and `new` are what the output held
+abbrev pub Ran : (Set → Outlined → Type 0) → Option Set → Option (List ℕ) → Option (List ℕ) → Option (List ℕ) → Option (List ℕ) → Option Failure → Type 0
+Ran shows asked input left old new None = (bytes : List ℕ) × Prints shows asked bytes × Appends old new bytes
+Ran shows asked input left old new (Some WriteFailed) = (bytes : List ℕ) × Prints shows asked bytes × AppendsBeginning old new bytes
+Ran shows asked input left old new (Some failure) = Stops asked input left failure × Keeps old new
+
+-- the status that the program ends with
+abbrev pub status : Option Failure → ℕ
+status None = 0
+status (Some failure) = failed_status failure
+
+-- what the program says on the standard error: a write there may fail
+abbrev pub Tells : Option (List ℕ) → Option (List ℕ) → Option Failure → Type 0
+Tells old new None = Keeps old new
+Tells old new (Some failure) = AppendsBeginning old new (message failure)

@@ -1,10 +1,12 @@
 // Why the program ends without its output, and what it says then.
 ghost use Rattle.std.specs.Prelude.{◌≡◌};
 ghost use Rattle.md_program.specs.declared.failure.Failure.TheVariants.{OutOfMemory};
-ghost use Rattle.md_program.specs.Ends.{failed_status};
+ghost use Rattle.md_program.specs.Ends.{AppendsBeginning, failed_status, message};
 
+use crate::streams::write_whole;
 use md_engine::message::Message;
 use std::alloc::AllocError;
+use std::io::Write;
 
 /// Why the program ends without its whole output.
 #[derive(Clone, Copy, Debug, PartialEq, Eq)]
@@ -37,7 +39,7 @@ impl Failure {
 
     /// The line on the standard error, with its line feed.
     pub fn message(self) -> &'static str
-        ensures { result.now ≡ Rattle.md_program.specs.Ends.message self }
+        ensures { result.now ≡ message self }
     {
         match self {
             Failure::UnknownArgument => "blocks: unknown argument\n",
@@ -47,6 +49,15 @@ impl Failure {
             Failure::ReadFailed => "blocks: read failed\n",
             Failure::WriteFailed => "blocks: write failed\n",
         }
+    }
+
+    /// Writes the line to `errors` and answers the status. A write there may fail, which changes nothing.
+    pub fn report<E: Write>(self, errors: &mut E) -> u8
+        ensures status { result ≡ failed_status self }
+        ensures told { AppendsBeginning (E.contents errors.old) (E.contents errors.new) (message self) }
+    {
+        let _ = write_whole(errors, self.message().as_bytes());
+        self.status()
     }
 }
 

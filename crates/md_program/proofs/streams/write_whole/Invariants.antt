@@ -1,11 +1,13 @@
-use Rattle.std.proofs.Common.{◌≡◌, ℕ, ◌++◌, take, drop, length}
+use Rattle.std.proofs.Common.{◌≡◌, ℕ, List, ◌++◌, length}
 use Rattle.std.specs.Io.KnownBytes.{Appends}
 use Rattle.md_program.proofs.streams.write_whole.Given as goal
 
--- what is gone from the rest was written
-abbrev pub invariant-loop : goal.invariant-loop
-invariant-loop g l =
-    (done : ℕ) × (l.rest ≡ drop done l.bytes) × Appends (g.W.Write.contents l.initial.output) (g.W.Write.contents l.output) (take done l.bytes)
+-- what stands before the rest was written
+abbrev pub invariant-loop-rest : goal.invariant-loop-rest
+invariant-loop-rest g l =
+    (front : List ℕ)
+    × (l.bytes ≡ front ++ l.rest)
+    × Appends (g.W.Write.contents l.initial.output) (g.W.Write.contents l.output) front
 
-abbrev pub decreases-loop : goal.decreases-loop
-decreases-loop g l = length l.rest
+abbrev pub decreases-loop-rest : goal.decreases-loop-rest
+decreases-loop-rest g l = length l.rest
