@@ -3,6 +3,7 @@ use Rattle.std.specs.Prelude.{◌≡◌, ℕ, ◌≤◌, ◌<◌, List, ◌++◌
 use Rattle.std.specs.Io.KnownBytes.{Keeps, Appends}
 use Rattle.md_engine.specs.declared.configuration.ParseOptions.{ParseOptions}
 use Rattle.md_program.specs.Printed.{printed}
+use Rattle.md_program.specs.Sets.{options_of, set_asked_for}
 use Rattle.md_program.specs.declared.body.Outlined.{Outlined}
 use Rattle.md_program.specs.declared.body.TheConstants.{MOST}
 use Rattle.md_program.specs.declared.failure.Failure.{Failure}
@@ -45,12 +46,12 @@ FailsRead input UnknownArgument = ⊥
 FailsRead input NotUtf8 = ⊥
 FailsRead input WriteFailed = ⊥
 
--- a reader whose bytes may be known gave a text, and this is its outline
-pub record IsOutlined (outlines : List ℕ → ParseOptions → Outlined → Type 0) (options : ParseOptions) (input : Option (List ℕ)) (outlined : Outlined) : Type 0 where
+-- the input, whose bytes may be known, was a text, and this is its outline under a set
+pub record Shows (outlines : List ℕ → ParseOptions → Outlined → Type 0) (built : ParseOptions → ParseOptions) (input : Option (List ℕ)) (set : Set) (outlined : Outlined) : Type 0 where
   pub text : List ℕ
   pub read : Gives input text
   pub utf8 : IsUtf8 text
-  pub shown : outlines text options outlined
+  pub shown : outlines text (built (options_of set)) outlined
 
 -- the arguments ask for a set, and these bytes are the printed form of an outline under it
 pub record Prints (shows : Set → Outlined → Type 0) (asked : Option Set) (bytes : List ℕ) : Type 0 where
@@ -60,7 +61,7 @@ pub record Prints (shows : Set → Outlined → Type 0) (asked : Option Set) (by
   pub shown : shows set outlined
   pub printing : bytes ≡ printed outlined
 
--- why the program stops before it writes; `input` is what it could read, and `left` what it has not read
+-- why the program stops before it writes: `input` and `left` are what it could read before and after
 abbrev pub Stops : Option Set → Option (List ℕ) → Option (List ℕ) → Failure → Type 0
 Stops asked input left UnknownArgument = (asked ≡ None) × Keeps input left
 Stops asked input left NotUtf8 = IsSome asked × IfSome input (λ known. ¬ IsUtf8 known)
@@ -69,11 +70,12 @@ Stops asked input left OutOfMemory = IsSome asked
 Stops asked input left ReadFailed = IsSome asked
 Stops asked input left WriteFailed = ⊥
 
--- what the program has read and written, by how it ended; `old` and `new` are what the output held
+-- what the program has read and written, by how it ended: `input` and `left` are what it could read before and after, `held`
+-- and `holds` what the output held before and after
 abbrev pub Ran : (Set → Outlined → Type 0) → Option Set → Option (List ℕ) → Option (List ℕ) → Option (List ℕ) → Option (List ℕ) → Option Failure → Type 0
-Ran shows asked input left old new None = (bytes : List ℕ) × Prints shows asked bytes × Appends old new bytes
-Ran shows asked input left old new (Some WriteFailed) = (bytes : List ℕ) × Prints shows asked bytes × AppendsBeginning old new bytes
-Ran shows asked input left old new (Some failure) = Stops asked input left failure × Keeps old new
+Ran shows asked input left held holds None = (bytes : List ℕ) × Prints shows asked bytes × Appends held holds bytes
+Ran shows asked input left held holds (Some WriteFailed) = (bytes : List ℕ) × Prints shows asked bytes × AppendsBeginning held holds bytes
+Ran shows asked input left held holds (Some failure) = Stops asked input left failure × Keeps held holds
 
 -- the status that the program ends with
 abbrev pub status : Option Failure → ℕ
@@ -82,5 +84,13 @@ status (Some failure) = failed_status failure
 
 -- what the program says on the standard error: a write there may fail
 abbrev pub Tells : Option (List ℕ) → Option (List ℕ) → Option Failure → Type 0
-Tells old new None = Keeps old new
-Tells old new (Some failure) = AppendsBeginning old new (message failure)
+Tells said says None = Keeps said says
+Tells said says (Some failure) = AppendsBeginning said says (message failure)
+
+-- a run of the program with these arguments: the bytes that its input, output and standard error are known to have before
+-- and after, and its status
+pub record Runs (outlines : List ℕ → ParseOptions → Outlined → Type 0) (built : ParseOptions → ParseOptions) (args : List (List ℕ)) (input left held holds said says : Option (List ℕ)) (ended : ℕ) : Type 0 where
+  pub failure : Option Failure
+  pub ending : ended ≡ status failure
+  pub telling : Tells said says failure
+  pub running : Ran (Shows outlines built input) (set_asked_for args) input left held holds failure

@@ -8,3 +8,4 @@ pub mod print;
 pub mod run;
 pub mod set;
 mod streams;
+pub mod system;

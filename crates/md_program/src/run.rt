@@ -1,8 +1,7 @@
 // A run of the program: its arguments, its input, the outline and its output.
-ghost use Rattle.std.specs.Prelude.{◌≡◌, Option, None, Some, MatchResult, map, string_bytes};
-ghost use Rattle.md_program.specs.declared.failure.Failure.{Failure};
-ghost use Rattle.md_program.specs.Ends.{IsOutlined, Prints, Ran, Stops, Tells, status};
-ghost use Rattle.md_program.specs.Sets.{options_of, set_asked_for};
+ghost use Rattle.std.specs.Prelude.{None, Some, MatchResult, map, string_bytes};
+ghost use Rattle.md_program.specs.Ends.{Prints, Ran, Runs, Shows, Stops};
+ghost use Rattle.md_program.specs.Sets.{set_asked_for};
 
 use crate::body::Body;
 use crate::failure::Failure;
@@ -26,13 +25,10 @@ pub fn run<B: Body, R: Read, W: Write, E: Write>(
     errors: &mut E,
 ) -> u8
     ensures {
-        (failure : Option Failure)
-            × (result ≡ status failure)
-            × Tells (E.contents errors.old) (E.contents errors.new) failure
-            × Ran (λ set. IsOutlined B.outlines (B.built (options_of set)) (R.remaining input.old))
-                (set_asked_for (map string_bytes args.now))
-                (R.remaining input.old) (R.remaining input.new)
-                (W.contents output.old) (W.contents output.new) failure
+        Runs B.outlines B.built (map string_bytes args.now)
+            (R.remaining input.old) (R.remaining input.new)
+            (W.contents output.old) (W.contents output.new)
+            (E.contents errors.old) (E.contents errors.new) result
     }
 {
     match attempt::<B, R, W>(alloc, args, input, output) {
@@ -48,15 +44,10 @@ fn attempt<B: Body, R: Read, W: Write>(
     output: &mut W,
 ) -> Result<(), Failure>
     ensures {
-        MatchResult result
-            (λ _. Ran (λ set. IsOutlined B.outlines (B.built (options_of set)) (R.remaining input.old))
-                (set_asked_for (map string_bytes args.now))
-                (R.remaining input.old) (R.remaining input.new)
-                (W.contents output.old) (W.contents output.new) None)
-            (λ failure. Ran (λ set. IsOutlined B.outlines (B.built (options_of set)) (R.remaining input.old))
-                (set_asked_for (map string_bytes args.now))
-                (R.remaining input.old) (R.remaining input.new)
-                (W.contents output.old) (W.contents output.new) (Some failure))
+        let ran = Ran (Shows B.outlines B.built (R.remaining input.old)) (set_asked_for (map string_bytes args.now))
+            (R.remaining input.old) (R.remaining input.new)
+            (W.contents output.old) (W.contents output.new)
+        in MatchResult result (λ _. ran None) (λ failure. ran (Some failure))
     }
 {
     let text = whole_output::<B, R>(alloc, args, input)?;
@@ -71,10 +62,9 @@ fn whole_output<B: Body, R: Read>(
 ) -> Result<String, Failure>
     ensures {
         MatchResult result
-            (λ text. Prints (λ set. IsOutlined B.outlines (B.built (options_of set)) (R.remaining input.old))
+            (λ text. Prints (Shows B.outlines B.built (R.remaining input.old))
                 (set_asked_for (map string_bytes args.now)) (string_bytes text))
-            (λ failure. Stops (set_asked_for (map string_bytes args.now))
-                (R.remaining input.old) (R.remaining input.new) failure)
+            (Stops (set_asked_for (map string_bytes args.now)) (R.remaining input.old) (R.remaining input.new))
     }
 {
     let Some(set) = asked_for(args) else {

@@ -3,4 +3,9 @@ use Rattle.md_program.proofs.run.run.Goals as goal
 
 -- src/run.rt:21:1
 pub returns-in-Err : goal.returns-in-Err
-returns-in-Err g c = (Some c.in-Err.failure, c.report.ensures.status, c.report.ensures.told, c.in-Err.ensures)
+returns-in-Err g c = record {
+  failure = Some c.in-Err.failure;
+  ending = c.report.ensures.status;
+  telling = c.report.ensures.told;
+  running = c.in-Err.ensures
+}
