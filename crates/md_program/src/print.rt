@@ -132,3 +132,6 @@ fn push_labels(text: &mut String, name: &str, labels: &[String]) -> Result<(), A
     }
     Ok(())
 }
+
+#[cfg(test)]
+mod tests;

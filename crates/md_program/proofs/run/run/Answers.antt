@@ -7,5 +7,5 @@ returns-in-Err g c = record {
   failure = Some c.in-Err.failure;
   ending = c.report.ensures.status;
   telling = c.report.ensures.told;
-  running = c.in-Err.ensures
+  running = c.in-Err.ensures;
 }

@@ -9,7 +9,7 @@ returns g c =
     let items = c.in_ok-bytes.bytes.items in
     let text : c.in-Ok.text.now ≡ items = c.in-Ok.ensures.cases.0 ∙ c.as_slice.ensures.value in
     let options : c.built-options.result ≡ g.B.Body.built (options_of c.in-Some.set) =
-        c.built-options.ensures.value ∙ ap g.B.Body.built c.options.ensures.value in
+    c.built-options.ensures.value ∙ ap g.B.Body.built c.options.ensures.value in
     let outlines = g.B.Body.outlines in
     let outlined = c.in_ok-outlined.outlined in
     record {
@@ -21,7 +21,7 @@ returns g c =
         read = c.in_ok-bytes.ensures;
         utf8 = subst IsUtf8 c.as_slice.ensures.value c.in-Ok.ensures.cases.1;
         shown = subst (λ (o : ParseOptions). outlines items o outlined) options
-            (subst (λ (t : List ℕ). outlines t c.built-options.result outlined) text c.in_ok-outlined.ensures)
+            (subst (λ (t : List ℕ). outlines t c.built-options.result outlined) text c.in_ok-outlined.ensures);
       };
-      printing = c.in_ok-print.ensures
+      printing = c.in_ok-print.ensures;
     }
