@@ -4,7 +4,6 @@ use Rattle.md_program.specs.Listing.{listing_of}
 use Rattle.md_program.specs.Sets.{options_of}
 use Rattle.md_program.proofs.run.whole_output.Goals as goal
 
--- src/run.rt:67:1
 pub returns : goal.returns
 returns g c =
     let items = c.in_ok-bytes.bytes.items in
