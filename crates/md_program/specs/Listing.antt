@@ -19,5 +19,5 @@ listing_of outlined =
     record {
       lines = map entry_of outlined.lines.items;
       definitions = map string_bytes outlined.definitions.items;
-      footnotes = map string_bytes outlined.footnotes.items
+      footnotes = map string_bytes outlined.footnotes.items;
     }

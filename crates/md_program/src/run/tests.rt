@@ -1,5 +1,5 @@
 // Runs over readers and writers that fail, and over a body that takes every line as a line of one paragraph.
-ghost use Rattle.std.specs.Prelude.{◌≤◌, ◌+◌};
+ghost use Rattle.std.specs.Prelude.{◌≤◌};
 
 use super::run;
 use crate::body::{Body, Outlined};
