@@ -1,0 +1,9 @@
+// Tries a body of the parser: on the rows of `blocks_cases`, on long texts, and on the laws of nesting.
+#![tactic(auto)]
+
+pub mod laws;
+pub mod long;
+pub mod report;
+pub mod rows;
+pub mod texts;
+pub mod wraps;

@@ -1,0 +1,42 @@
+// Makes texts: repeated, wrapped, and counted through.
+
+use std::alloc::{AllocError, Global};
+
+/// A text so many times.
+pub fn repeated(alloc: Global, part: &str, times: usize) -> Result<String, AllocError> {
+    let mut text = String::new(alloc);
+    for _ in 0..times {
+        text.push_str(part)?;
+    }
+    Ok(text)
+}
+
+/// A text with `first` before its first line and `further` before each other (CommonMark 2.1).
+pub fn prefixed(alloc: Global, text: &str, first: &str, further: &str) -> Result<String, AllocError> {
+    let mut wrapped = String::new(alloc);
+    let mut before = None;
+    for c in text.chars() {
+        match before {
+            None => wrapped.push_str(first)?,
+            Some('\n') => wrapped.push_str(further)?,
+            Some('\r') if c != '\n' => wrapped.push_str(further)?,
+            Some(_) => {}
+        }
+        wrapped.push(c)?;
+        before = Some(c);
+    }
+    Ok(wrapped)
+}
+
+/// The text of so many letters of an alphabet that a number stands for: its digits choose the letters, the last one first.
+pub fn numbered(alloc: Global, alphabet: &[&str], length: usize, number: usize) -> Result<String, AllocError> {
+    let mut text = String::new(alloc);
+    let mut rest = number;
+    for _ in 0..length {
+        if !alphabet.is_empty() {
+            text.push_str(alphabet[rest % alphabet.len()])?;
+            rest /= alphabet.len();
+        }
+    }
+    Ok(text)
+}
