@@ -267,5 +267,21 @@ CommonMark 4.8, own choice: whitespace at the end of a line stays | commonmark |
 paragraph
   | a\u{20}
   | b\t\u{20}
+
+CommonMark 4.8 | commonmark | nothing
+"a"
+paragraph
+  | a
+
+CommonMark 4.8, own choice: whitespace at the end of a line stays | commonmark | nothing
+"a "
+paragraph
+  | a\u{20}
+
+CommonMark 4.8 | commonmark | nothing
+"quote\n  | row"
+paragraph
+  | quote
+  | | row
 "#
 }

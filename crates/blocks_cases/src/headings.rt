@@ -433,5 +433,9 @@ CommonMark 4.3 | exactly heading_setext
 "[a]: b\n="
 heading 1
   | [a]: b
+
+CommonMark 4.2 | commonmark | heading_atx
+"### ###"
+heading 3
 "########
 }

@@ -477,17 +477,18 @@ paragraph
   | c'>
 
 CommonMark 4.6, own choice: letters are those of ASCII | commonmark | nothing
-"<a \u{e9}>\n\n<a\u{e9}>"
+"<a \u{e9}>"
 paragraph
   | <a \u{e9}>
+
+CommonMark 4.6, own choice: letters are those of ASCII | commonmark | nothing
+"<a\u{e9}>"
 paragraph
   | <a\u{e9}>
 
 CommonMark 4.6, kind 7 | commonmark | html_flow
-"<a b=\u{e9}>\n\n<a b='\u{e9}'>"
+"<a b=\u{e9}>"
 html
   | <a b=\u{e9}>
-html
-  | <a b='\u{e9}'>
 "##
 }

@@ -495,5 +495,11 @@ list -
       | a
 heading 1
   | b
+
+CommonMark 5.2 | commonmark | nothing
+"a\n2. b"
+paragraph
+  | a
+  | 2. b
 "#
 }

@@ -18,6 +18,7 @@ pub mod breaks;
 pub mod case;
 pub mod code;
 pub mod constructs;
+pub mod definition_parts;
 pub mod definitions;
 pub mod extensions;
 pub mod headings;
@@ -31,7 +32,7 @@ pub mod wrap;
 pub mod wraps;
 
 /// The rows of all modules.
-pub fn all() -> [&'static str; 11] {
+pub fn all() -> [&'static str; 12] {
     [
         lines::rows(),
         breaks::rows(),
@@ -39,6 +40,7 @@ pub fn all() -> [&'static str; 11] {
         code::rows(),
         html::rows(),
         definitions::rows(),
+        definition_parts::rows(),
         quotes::rows(),
         items::rows(),
         lists::rows(),

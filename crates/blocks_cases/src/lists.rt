@@ -315,5 +315,18 @@ list -
       item
         paragraph
           | e
+
+CommonMark 5.3 | commonmark | list_item
+"- a\n- b\n\n- c"
+list -
+  item
+    paragraph
+      | a
+  item
+    paragraph
+      | b
+  item
+    paragraph
+      | c
 "#
 }

@@ -653,5 +653,12 @@ own choice: a construct that is off accepts no line | commonmark | nothing
 paragraph
   | a | b
   | -|-
+
+GFM 4.10 | gfm | code_indented
+"a\n    b\n:-"
+paragraph
+  | a
+  | b
+  | :-
 "##
 }

@@ -34,7 +34,7 @@ fn below(alloc: Global, output: &str, heads: &str, indent: &str) -> Result<Strin
     Ok(deeper)
 }
 
-/// Tries both laws on a text, as far as they speak of it: not of frontmatter either.
+/// Tries both laws on a text with constructs that the body has, as far as they speak of it: not of frontmatter either.
 pub fn try_laws<B: Body>(
     alloc: Global,
     text: &str,
@@ -48,15 +48,27 @@ pub fn try_laws<B: Body>(
     if output.as_str().starts_with("frontmatter ") {
         return Ok(());
     }
-    let quoted = prefixed(alloc, text, "> ", "> ")?;
-    let got = printed::<B>(alloc, quoted.as_str(), constructs)?;
-    let wanted = below(alloc, output.as_str(), "quote\n", "  ")?;
-    report.add("the quote law", quoted.as_str(), wanted.as_str(), got.as_str())?;
-    if begins_with_text(text) {
+    if constructs.block_quote {
+        let quoted = prefixed(alloc, text, "> ", "> ")?;
+        let got = printed::<B>(alloc, quoted.as_str(), constructs)?;
+        let wanted = below(alloc, output.as_str(), "quote\n", "  ")?;
+        report.add(
+            "the quote law",
+            quoted.as_str(),
+            wanted.as_str(),
+            got.as_str(),
+        )?;
+    }
+    if constructs.list_item && begins_with_text(text) {
         let itemised = prefixed(alloc, text, "+ ", "  ")?;
         let got = printed::<B>(alloc, itemised.as_str(), constructs)?;
         let wanted = below(alloc, output.as_str(), "list +\n  item\n", "    ")?;
-        report.add("the list law", itemised.as_str(), wanted.as_str(), got.as_str())?;
+        report.add(
+            "the list law",
+            itemised.as_str(),
+            wanted.as_str(),
+            got.as_str(),
+        )?;
     }
     Ok(())
 }

@@ -5,5 +5,6 @@ pub mod laws;
 pub mod long;
 pub mod report;
 pub mod rows;
+pub mod search;
 pub mod texts;
 pub mod wraps;

@@ -18,12 +18,42 @@ struct Long {
 
 /// Labels of 999 bytes, which are labels, and of 1,000, which are not (CommonMark 4.7).
 const LABELS: [Long; 6] = [
-    Long { open: "[", times: 999, close: "]: b", begin: "definition\n  label | a" },
-    Long { open: "[", times: 1000, close: "]: b", begin: "paragraph\n  | [a" },
-    Long { open: "[", times: 998, close: " \n]: b", begin: "definition\n  label | a" },
-    Long { open: "[", times: 998, close: "  \n]: b", begin: "paragraph\n  | [a" },
-    Long { open: "[^", times: 999, close: "]: b", begin: "footnote\n  label | a" },
-    Long { open: "[^", times: 1000, close: "]: b", begin: "paragraph\n  | [^a" },
+    Long {
+        open: "[",
+        times: 999,
+        close: "]: b",
+        begin: "definition\n  label | a",
+    },
+    Long {
+        open: "[",
+        times: 1000,
+        close: "]: b",
+        begin: "paragraph\n  | [a",
+    },
+    Long {
+        open: "[",
+        times: 998,
+        close: " \n]: b",
+        begin: "definition\n  label | a",
+    },
+    Long {
+        open: "[",
+        times: 998,
+        close: "  \n]: b",
+        begin: "paragraph\n  | [a",
+    },
+    Long {
+        open: "[^",
+        times: 999,
+        close: "]: b",
+        begin: "footnote\n  label | a",
+    },
+    Long {
+        open: "[^",
+        times: 1000,
+        close: "]: b",
+        begin: "paragraph\n  | [^a",
+    },
 ];
 
 /// Tries a body that has all constructs on long labels.
@@ -33,7 +63,11 @@ pub fn try_labels<B: Body>(alloc: Global, report: &mut Report) -> Result<(), Cas
         text.insert_str(0, long.open)?;
         text.push_str(long.close)?;
         let got = printed::<B>(alloc, text.as_str(), &ALL)?;
-        let front = if got.as_str().starts_with(long.begin) { long.begin } else { got.as_str() };
+        let front = if got.as_str().starts_with(long.begin) {
+            long.begin
+        } else {
+            got.as_str()
+        };
         report.add("a long label", text.as_str(), long.begin, front)?;
     }
     Ok(())
@@ -64,7 +98,12 @@ fn try_depth<B: Body>(
             indent.push_str("  ")?;
         }
     }
-    for part in [indent.as_str(), "paragraph\n  ", indent.as_str(), "| a\n\ndefinitions 0\nfootnotes 0\n"] {
+    for part in [
+        indent.as_str(),
+        "paragraph\n  ",
+        indent.as_str(),
+        "| a\n\ndefinitions 0\nfootnotes 0\n",
+    ] {
         wanted.push_str(part)?;
     }
     let got = printed::<B>(alloc, text.as_str(), &ALL)?;

@@ -24,7 +24,13 @@ impl Report {
     }
 
     /// Counts one more, and lists it if what came is not what must come.
-    pub fn add(&mut self, title: &str, text: &str, wanted: &str, got: &str) -> Result<(), AllocError> {
+    pub fn add(
+        &mut self,
+        title: &str,
+        text: &str,
+        wanted: &str,
+        got: &str,
+    ) -> Result<(), AllocError> {
         self.tried = self.tried.wrapping_add(1);
         if wanted == got {
             return Ok(());

@@ -26,7 +26,11 @@ fn options_of(constructs: &Constructs) -> ParseOptions
 }
 
 /// What the program prints for a text with a body. A text beyond the size is refused as no row.
-pub fn printed<B: Body>(alloc: Global, text: &str, constructs: &Constructs) -> Result<String, CaseError> {
+pub fn printed<B: Body>(
+    alloc: Global,
+    text: &str,
+    constructs: &Constructs,
+) -> Result<String, CaseError> {
     if text.len() > MOST {
         return Err(CaseError::Form);
     }
@@ -37,12 +41,17 @@ pub fn printed<B: Body>(alloc: Global, text: &str, constructs: &Constructs) -> R
     }
 }
 
+/// The constructs of these that a body has.
+pub fn built_of<B: Body>(constructs: &Constructs) -> Constructs {
+    B::built(options_of(constructs)).constructs
+}
+
 /// Tries a body on a table of rows, of which it takes those whose constructs it has.
 pub fn try_rows<B: Body>(alloc: Global, rows: &str, report: &mut Report) -> Result<(), CaseError> {
-    let built = B::built(options_of(&ALL));
+    let built = built_of::<B>(&ALL);
     for row in rows.split("\n\n") {
         let case = Case::read(alloc, row)?;
-        if case.holds_with(&built.constructs) {
+        if case.holds_with(&built) {
             let text = case.text.as_str();
             let got = printed::<B>(alloc, text, &case.constructs)?;
             report.add(case.section, text, case.output.as_str(), got.as_str())?;
