@@ -122,7 +122,11 @@ fn unescaped(alloc: Global, written: &str) -> Result<String, AllocError> {
                 Escape::Outside
             }
             (Escape::Number(number), digit) => {
-                Escape::Number(number.wrapping_mul(16).wrapping_add(digit.to_digit(16).unwrap_or(0)))
+                Escape::Number(
+                    number
+                        .wrapping_mul(16)
+                        .wrapping_add(digit.to_digit(16).unwrap_or(0)),
+                )
             }
             (Escape::Begun, letter) => {
                 text.push(named_character(letter))?;

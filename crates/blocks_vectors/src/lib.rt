@@ -7,4 +7,5 @@ pub mod report;
 pub mod rows;
 pub mod search;
 pub mod texts;
+pub mod without;
 pub mod wraps;

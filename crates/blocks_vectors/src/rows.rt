@@ -10,7 +10,7 @@ use md_program::print::print;
 use std::alloc::Global;
 
 /// The options with these constructs, without those of MDX.
-fn options_of(constructs: &Constructs) -> ParseOptions
+pub fn options_of(constructs: &Constructs) -> ParseOptions
     ensures { IsWithoutMdx result }
 {
     ParseOptions {

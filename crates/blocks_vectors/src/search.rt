@@ -1,10 +1,10 @@
-// Looks for texts that break the laws of nesting: all short ones, and random longer ones.
+// Looks for texts that break the laws of nesting: begins of the rows' texts, all short texts, and random longer ones.
 
 use crate::laws::try_laws;
 use crate::report::Report;
 use crate::rows::built_of;
 use crate::texts::{numbered, random};
-use blocks_cases::case::CaseError;
+use blocks_cases::case::{Case, CaseError};
 use blocks_cases::constructs::{ALL, NAMES, switch};
 use md_engine::configuration::Constructs;
 use md_program::body::Body;
@@ -42,6 +42,24 @@ pub fn try_short<B: Body>(
     for number in 0..count {
         let text = numbered(alloc, &LETTERS, length, number)?;
         try_laws::<B>(alloc, text.as_str(), &constructs, report)?;
+    }
+    Ok(())
+}
+
+/// Tries the laws on the texts of rows, each cut behind each of its characters, with all constructs of the body.
+pub fn try_begins<B: Body>(
+    alloc: Global,
+    rows: &str,
+    report: &mut Report,
+) -> Result<(), CaseError> {
+    let constructs = built_of::<B>(&ALL);
+    for row in rows.split("\n\n") {
+        let case = Case::read(alloc, row)?;
+        let mut begin = String::new(alloc);
+        for c in case.text.as_str().chars() {
+            begin.push(c)?;
+            try_laws::<B>(alloc, begin.as_str(), &constructs, report)?;
+        }
     }
     Ok(())
 }
