@@ -1,0 +1,11 @@
+// The line definition as a plain program: slow, ordinary functions, each of which computes one definition of `md_seam`.
+#![tactic(auto)]
+
+pub mod bytes;
+pub mod definition;
+pub mod html;
+pub mod label;
+pub mod memory;
+pub mod rest;
+pub mod table;
+pub mod tree;
