@@ -2,6 +2,7 @@
 #![tactic(auto)]
 
 pub mod bytes;
+pub mod columns;
 pub mod definition;
 pub mod html;
 pub mod label;

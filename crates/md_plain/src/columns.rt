@@ -1,0 +1,30 @@
+// Columns of whitespace (CommonMark 2.2).
+
+ghost use Rattle.std.specs.Prelude.{◌≡◌, ◌+◌, ◌*◌, ◌^◌, ◌≤◌, length};
+ghost use Rattle.md_seam.specs.Rest as rest;
+
+/// The columns of a tab: it reaches to the next multiple of 4.
+pub fn tab_columns(column: usize) -> usize
+    ensures value { result ≡ rest.tab_columns column }
+    ensures low { 1 ≤ result }
+    ensures high { result ≤ 4 }
+{
+    4 - column % 4
+}
+
+/// The columns of the spaces and tabs at the front, from this column on.
+pub fn white_columns(column: usize, bytes: &[u8]) -> usize
+    requires { column + 4 * length bytes.now ≤ 2 ^ 63 }
+    ensures value { result ≡ rest.white_columns column bytes.now }
+    ensures bound { result ≤ 4 * length bytes.now }
+{
+    let mut columns = 0;
+    for byte in bytes {
+        match *byte {
+            b'\t' => columns += tab_columns(column + columns),
+            b' ' => columns += 1,
+            _ => break,
+        }
+    }
+    columns
+}
