@@ -1,8 +1,6 @@
 -- What the trees of the program mean.
 use Rattle.std.specs.Prelude.{ℕ, List, [], ◌∷◌, map, Option, Some, None}
 use Rattle.std.specs.Option.{option_copied, option_map}
-use Rattle.std_alloc.specs.declared.vec.Vec.{Vec}
-use Rattle.std.specs.declared.alloc.Global.{Global}
 use Rattle.md_seam.specs.Tree as t
 use Rattle.md_plain.specs.declared.tree.Line.{Line}
 use Rattle.md_plain.specs.declared.tree.Block.{Block}

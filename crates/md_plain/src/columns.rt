@@ -3,6 +3,8 @@
 ghost use Rattle.std.specs.Prelude.{◌≡◌, ◌+◌, ◌*◌, ◌^◌, ◌≤◌, length};
 ghost use Rattle.md_seam.specs.Rest as rest;
 
+use md_engine::configuration::ParseOptions;
+
 /// The columns of a tab: it reaches to the next multiple of 4.
 pub fn tab_columns(column: usize) -> usize
     ensures value { result ≡ rest.tab_columns column }
@@ -27,4 +29,11 @@ pub fn white_columns(column: usize, bytes: &[u8]) -> usize
         }
     }
     columns
+}
+
+/// Whether an indent of so many columns is small.
+pub fn is_small(options: &ParseOptions, columns: usize) -> bool
+    ensures { result ≡ rest.is_small options.now columns }
+{
+    !options.constructs.code_indented || columns <= 3
 }

@@ -2,12 +2,10 @@
 
 ghost use Rattle.std.specs.Prelude.{◌≡◌, ◌+◌, ◌*◌, ◌^◌, ◌≤◌, length};
 
-ghost use Rattle.md_seam.specs.Rest as small;
-
 use md_engine::configuration::ParseOptions;
 
 use crate::bytes::trim_start;
-use crate::columns::{tab_columns, white_columns};
+use crate::columns::{is_small, tab_columns, white_columns};
 use crate::tree::Line;
 
 /// What no prefix of a line has taken.
@@ -62,7 +60,7 @@ impl<'a> Rest<'a> {
         ensures { rest_meaning result ≡ rest.lose columns (rest_meaning self.now) }
     {
         let mut rest = *self;
-        for _ in 0..columns {
+        for step in 0..columns {
             let next = rest.without_column();
             if next.column == rest.column {
                 break;
@@ -100,11 +98,4 @@ impl<'a> Rest<'a> {
     {
         trim_start(self.bytes)
     }
-}
-
-/// Whether an indent of so many columns is small.
-pub fn is_small(options: &ParseOptions, columns: usize) -> bool
-    ensures { result ≡ small.is_small options.now columns }
-{
-    !options.constructs.code_indented || columns <= 3
 }
