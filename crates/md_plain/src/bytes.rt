@@ -61,3 +61,13 @@ pub fn trim(bytes: &[u8]) -> &[u8]
 {
     trim_end(trim_start(bytes))
 }
+
+/// Whether nothing is here, or a space or a tab comes first.
+pub fn is_parted(bytes: &[u8]) -> bool
+    ensures { result ≡ rest.is_parted bytes.now }
+{
+    match bytes {
+        [] => true,
+        [first, ..] => is_white(*first),
+    }
+}
