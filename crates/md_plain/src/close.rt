@@ -23,8 +23,8 @@ fn without_trailing_blank<'a>(lines: Vec<Line<'a>>) -> Vec<Line<'a>> {
 
 /// The blocks of the innermost container, with its leaf closed.
 pub fn shut<'a>(alloc: Global, options: &ParseOptions, spot: Spot<'a>) -> Result<Vec<Block<'a>>, Message> {
-    let mut here = spot.here;
-    let block = match spot.leaf {
+    let Spot { mut here, leaf } = spot;
+    let block = match leaf {
         Leaf::None => return Ok(here),
         Leaf::Paragraph(lines) => {
             shut_paragraph(alloc, options, &mut here, &lines)?;
@@ -47,16 +47,17 @@ fn container_block<'a>(container: Container<'a>, blocks: Vec<Block<'a>>) -> Bloc
     }
 }
 
-/// Closes the leaf and all containers but so many of the outermost.
+/// Closes the leaf and all containers but so many of the outermost: the containers that are left, and the blocks of the
+/// innermost of these.
 pub fn close_to<'a>(
     alloc: Global,
     options: &ParseOptions,
     path: Path<'a>,
     count: usize,
-) -> Result<Path<'a>, Message> {
+) -> Result<(Vec<Frame<'a>>, Vec<Block<'a>>), Message> {
     let Path { mut frames, spot } = path;
     let mut here = shut(alloc, options, spot)?;
-    while frames.len() > count {
+    for _ in count..frames.len() {
         let Some(Frame { before, container }) = frames.pop() else {
             break;
         };
@@ -64,5 +65,11 @@ pub fn close_to<'a>(
         here = before;
         memory::push(&mut here, container_block(container, inner))?;
     }
-    Ok(Path { frames, spot: Spot { here, leaf: Leaf::None } })
+    Ok((frames, here))
+}
+
+/// Closes everything that is open.
+pub fn closed<'a>(alloc: Global, options: &ParseOptions, path: Path<'a>) -> Result<Vec<Block<'a>>, Message> {
+    let (_, here) = close_to(alloc, options, path, 0)?;
+    Ok(here)
 }

@@ -52,7 +52,7 @@ fn opens_quote<'a>(options: &ParseOptions, rest: &Rest<'a>) -> Option<Taken<'a>>
 }
 
 /// A list marker: the digits of an ordered one, and the byte behind them.
-#[derive(Clone, Copy, Debug, PartialEq, Eq)]
+#[derive(Clone, Copy)]
 struct Marker<'a> {
     digits: &'a [u8],
     byte: u8,

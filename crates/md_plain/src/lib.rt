@@ -21,3 +21,6 @@ pub mod state;
 pub mod step;
 pub mod table;
 pub mod tree;
+
+#[cfg(test)]
+mod tests;

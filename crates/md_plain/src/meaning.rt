@@ -6,7 +6,7 @@ use md_engine::configuration::ParseOptions;
 use md_engine::message::Message;
 use std::alloc::Global;
 
-use crate::close::close_to;
+use crate::close::closed;
 use crate::grouped::grouped;
 use crate::lines::rests_of;
 use crate::memory;
@@ -38,8 +38,8 @@ pub fn tree<'a>(alloc: Global, text: &'a str, options: &ParseOptions) -> Result<
     for rest in rests.as_slice().split_at(first).1 {
         path = step(alloc, options, path, rest)?;
     }
-    let closed = close_to(alloc, options, path, 0)?;
-    for block in grouped(alloc, closed.spot.here)? {
+    let blocks = closed(alloc, options, path)?;
+    for block in grouped(alloc, blocks)? {
         memory::push(&mut lists, block)?;
     }
     Ok(lists)

@@ -78,8 +78,8 @@ fn leaf_line<'a>(
     spot: Spot<'a>,
     rest: &Rest<'a>,
 ) -> Result<Spot<'a>, Message> {
-    let here = spot.here;
-    match spot.leaf {
+    let Spot { here, leaf } = spot;
+    match leaf {
         Leaf::None => fresh_line(alloc, options, here, rest),
         Leaf::Paragraph(lines) => text_line(alloc, options, here, lines, rest),
         leaf => match goes_on(alloc, options, leaf, rest)? {
@@ -158,24 +158,25 @@ fn stopped<'a>(
     rest: &Rest<'a>,
 ) -> Result<Path<'a>, Message> {
     if let Some(taken) = opens(options, false, rest) {
-        let Path { frames, spot } = close_to(alloc, options, path, count)?;
-        return enter(alloc, options, frames, spot.here, taken);
+        let (frames, here) = close_to(alloc, options, path, count)?;
+        return enter(alloc, options, frames, here, taken);
     }
     if takes_lazy(alloc, options, &path.spot.leaf, rest)? {
         let Path { frames, spot } = path;
         let spot = with_lazy(spot, rest)?;
         return Ok(Path { frames, spot });
     }
-    let Path { frames, spot } = close_to(alloc, options, path, count)?;
-    let spot = fresh_line(alloc, options, spot.here, rest)?;
+    let (frames, here) = close_to(alloc, options, path, count)?;
+    let spot = fresh_line(alloc, options, here, rest)?;
     Ok(Path { frames, spot })
 }
 
 /// A lazy line goes on the open paragraph.
 fn with_lazy<'a>(spot: Spot<'a>, rest: &Rest<'a>) -> Result<Spot<'a>, Message> {
-    match spot.leaf {
-        Leaf::Paragraph(lines) => with_line(spot.here, lines, rest),
-        leaf => Ok(Spot { here: spot.here, leaf }),
+    let Spot { here, leaf } = spot;
+    match leaf {
+        Leaf::Paragraph(lines) => with_line(here, lines, rest),
+        leaf => Ok(Spot { here, leaf }),
     }
 }
 
