@@ -4,7 +4,7 @@ use Rattle.std.specs.Io.KnownBytes.{Keeps, Appends}
 use Rattle.md_engine.specs.declared.configuration.ParseOptions.{ParseOptions}
 use Rattle.md_program.specs.Printed.{printed}
 use Rattle.md_program.specs.Sets.{options_of, set_asked_for}
-use Rattle.md_program.specs.declared.body.Outlined.{Outlined}
+use Rattle.md_program.specs.Listing.{Listing}
 use Rattle.md_program.specs.declared.body.TheConstants.{MOST}
 use Rattle.md_program.specs.declared.failure.Failure.{Failure}
 use Rattle.md_program.specs.declared.failure.Failure.TheVariants.{UnknownArgument, NotUtf8, TooLong, OutOfMemory, ReadFailed, WriteFailed}
@@ -46,20 +46,20 @@ FailsRead input UnknownArgument = ⊥
 FailsRead input NotUtf8 = ⊥
 FailsRead input WriteFailed = ⊥
 
--- the input, whose bytes may be known, was a text, and this is its outline under a set
-pub record Shows (outlines : List ℕ → ParseOptions → Outlined → Type 0) (built : ParseOptions → ParseOptions) (input : Option (List ℕ)) (set : Set) (outlined : Outlined) : Type 0 where
+-- the input, whose bytes may be known, was a text, and this is its listing under a set
+pub record Shows (outlines : List ℕ → ParseOptions → Listing → Type 0) (built : ParseOptions → ParseOptions) (input : Option (List ℕ)) (set : Set) (listing : Listing) : Type 0 where
   pub text : List ℕ
   pub read : Gives input text
   pub utf8 : IsUtf8 text
-  pub shown : outlines text (built (options_of set)) outlined
+  pub shown : outlines text (built (options_of set)) listing
 
--- the arguments ask for a set, and these bytes are the printed form of an outline under it
-pub record Prints (shows : Set → Outlined → Type 0) (asked : Option Set) (bytes : List ℕ) : Type 0 where
+-- the arguments ask for a set, and these bytes are the printed form of a listing under it
+pub record Prints (shows : Set → Listing → Type 0) (asked : Option Set) (bytes : List ℕ) : Type 0 where
   pub set : Set
   pub known : asked ≡ Some set
-  pub outlined : Outlined
-  pub shown : shows set outlined
-  pub printing : bytes ≡ printed outlined
+  pub listing : Listing
+  pub shown : shows set listing
+  pub printing : bytes ≡ printed listing
 
 -- why the program stops before it writes: `input` and `left` are what it could read before and after
 abbrev pub Stops : Option Set → Option (List ℕ) → Option (List ℕ) → Failure → Type 0
@@ -72,7 +72,7 @@ Stops asked input left WriteFailed = ⊥
 
 -- what the program has read and written, by how it ended: `input` and `left` are what it could read before and after, `held`
 -- and `holds` what the output held before and after
-abbrev pub Ran : (Set → Outlined → Type 0) → Option Set → Option (List ℕ) → Option (List ℕ) → Option (List ℕ) → Option (List ℕ) → Option Failure → Type 0
+abbrev pub Ran : (Set → Listing → Type 0) → Option Set → Option (List ℕ) → Option (List ℕ) → Option (List ℕ) → Option (List ℕ) → Option Failure → Type 0
 Ran shows asked input left held holds None = (bytes : List ℕ) × Prints shows asked bytes × Appends held holds bytes
 Ran shows asked input left held holds (Some WriteFailed) = (bytes : List ℕ) × Prints shows asked bytes × AppendsBeginning held holds bytes
 Ran shows asked input left held holds (Some failure) = Stops asked input left failure × Keeps held holds
@@ -89,7 +89,7 @@ Tells said says (Some failure) = AppendsBeginning said says (message failure)
 
 -- a run of the program with these arguments: the bytes that its input, output and standard error are known to have before
 -- and after, and its status
-pub record Runs (outlines : List ℕ → ParseOptions → Outlined → Type 0) (built : ParseOptions → ParseOptions) (args : List (List ℕ)) (input left held holds said says : Option (List ℕ)) (ended : ℕ) : Type 0 where
+pub record Runs (outlines : List ℕ → ParseOptions → Listing → Type 0) (built : ParseOptions → ParseOptions) (args : List (List ℕ)) (input left held holds said says : Option (List ℕ)) (ended : ℕ) : Type 0 where
   pub failure : Option Failure
   pub ending : ended ≡ status failure
   pub telling : Tells said says failure

@@ -1,3 +1,4 @@
 pub mod Ends
+pub mod Listing
 pub mod Printed
 pub mod Sets

@@ -1,11 +1,11 @@
--- The printed form of an outline.
-use Rattle.std.specs.Prelude.{ℕ, ◌*◌, Bool, true, false, List, [], ◌∷◌, ◌++◌, length, map, replicate, codes, encode_utf8, string_bytes}
+-- The printed form of a listing.
+use Rattle.std.specs.Prelude.{ℕ, Bool, true, false, List, [], ◌∷◌, ◌++◌, length, codes, encode_utf8}
 use Rattle.std.specs.List.{flat_map, repeat}
 use Rattle.std.specs.Fmt.{decimal}
-use Rattle.md_seam.specs.declared.outline.OutlineLine.{OutlineLine}
+use Rattle.md_seam.specs.Outline.{Entry}
 use Rattle.md_seam.specs.declared.outline.Word.{Word}
 use Rattle.md_seam.specs.declared.outline.Word.TheVariants.{Frontmatter, Heading, Break, Code, Fence, Math, Html, Definition, Paragraph, Table, Row, Quote, List as ListOf, Item, Footnote, Line, Info, Meta, Label, Destination, Title, Delimiter, Cell}
-use Rattle.md_program.specs.declared.body.Outlined.{Outlined}
+use Rattle.md_program.specs.Listing.{Listing}
 
 -- a line feed
 abbrev pub line_end : List ℕ
@@ -43,8 +43,8 @@ head Delimiter = codes "delimiter | "
 head Cell = codes "cell | "
 
 -- two spaces a depth, the word, virtual spaces as spaces, and the text
-unfoldable pub printed_line : OutlineLine → List ℕ
-printed_line line = repeat line.depth (codes "  ") ++ head line.word ++ repeat line.spaces (codes " ") ++ line.text.now ++ line_end
+unfoldable pub printed_line : Entry → List ℕ
+printed_line line = repeat line.depth (codes "  ") ++ head line.word ++ repeat line.spaces (codes " ") ++ line.text ++ line_end
 
 -- a label, on a line of its own
 abbrev pub printed_label : List ℕ → List ℕ
@@ -55,5 +55,8 @@ unfoldable pub printed_labels : List ℕ → List (List ℕ) → List ℕ
 printed_labels name labels = name ++ decimal (length labels) ++ line_end ++ flat_map printed_label labels
 
 -- the lines, an empty line, and the labels of definitions and footnotes
-unfoldable pub printed : Outlined → List ℕ
-printed o = flat_map printed_line o.lines.items ++ line_end ++ printed_labels (codes "definitions ") (map string_bytes o.definitions.items) ++ printed_labels (codes "footnotes ") (map string_bytes o.footnotes.items)
+unfoldable pub printed : Listing → List ℕ
+printed listing =
+    flat_map printed_line listing.lines ++ line_end
+    ++ printed_labels (codes "definitions ") listing.definitions
+    ++ printed_labels (codes "footnotes ") listing.footnotes

@@ -1,7 +1,7 @@
 // What turns a text into an outline: the part that differs from program to program.
 ghost use Rattle.std.specs.Prelude.{◌≡◌, ◌≤◌, List, ℕ, length, IfOk};
 ghost use Rattle.md_engine.specs.declared.configuration.ParseOptions.{ParseOptions};
-ghost use Rattle.md_program.specs.declared.body.Outlined.{Outlined};
+ghost use Rattle.md_program.specs.Listing.{Listing, listing_of};
 ghost use Rattle.md_program.specs.Sets.{IsWithoutMdx};
 
 use md_engine::configuration::ParseOptions;
@@ -29,7 +29,7 @@ pub trait Body {
     ghost accepts: { ParseOptions → Type 0 };
 
     // What it may answer to a text and options.
-    ghost outlines: { List ℕ → ParseOptions → Outlined → Type 0 };
+    ghost outlines: { List ℕ → ParseOptions → Listing → Type 0 };
 
     // What stands for options.
     ghost built: { ParseOptions → ParseOptions };
@@ -50,5 +50,5 @@ pub trait Body {
     ) -> Result<Outlined<'a>, Message>
         requires size { length text.now ≤ MOST }
         requires accepted { accepts options.now }
-        ensures { IfOk result (λ o. outlines text.now options.now o) };
+        ensures { IfOk result (λ outlined. outlines text.now options.now (listing_of outlined)) };
 }

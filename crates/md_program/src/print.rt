@@ -1,6 +1,7 @@
 // The printed form of an outline.
 ghost use Rattle.std.specs.Prelude.{◌≡◌, ◌++◌, OnOk, IfOk, Bool, List, ℕ, map, codes, string_bytes, encode_utf8};
 ghost use Rattle.std.specs.List.{flat_map, repeat};
+ghost use Rattle.md_program.specs.Listing.{entry_of, listing_of};
 ghost use Rattle.md_program.specs.Printed.{head, open_mark, printed, printed_labels, printed_line};
 
 use crate::body::Outlined;
@@ -12,7 +13,7 @@ use std::alloc::{AllocError, Global};
 ///
 /// It refuses only for want of memory.
 pub fn print(alloc: Global, outlined: &Outlined) -> Result<String, Message>
-    ensures { IfOk result (λ text. string_bytes text ≡ printed outlined.now) }
+    ensures { IfOk result (λ text. string_bytes text ≡ printed (listing_of outlined.now)) }
 {
     let mut text = String::new(alloc);
     match push_all(&mut text, outlined) {
@@ -23,7 +24,7 @@ pub fn print(alloc: Global, outlined: &Outlined) -> Result<String, Message>
 
 #[tactic(auto, unfolding(crate::specs::Printed::printed))]
 fn push_all(text: &mut String, outlined: &Outlined) -> Result<(), AllocError>
-    ensures { OnOk result (string_bytes text.new ≡ string_bytes text.old ++ printed outlined.now) }
+    ensures { OnOk result (string_bytes text.new ≡ string_bytes text.old ++ printed (listing_of outlined.now)) }
 {
     push_lines(text, outlined.lines.as_slice())?;
     text.push_str("\n")?;
@@ -32,7 +33,7 @@ fn push_all(text: &mut String, outlined: &Outlined) -> Result<(), AllocError>
 }
 
 fn push_lines(text: &mut String, lines: &[OutlineLine]) -> Result<(), AllocError>
-    ensures { OnOk result (string_bytes text.new ≡ string_bytes text.old ++ flat_map printed_line lines.now) }
+    ensures { OnOk result (string_bytes text.new ≡ string_bytes text.old ++ flat_map printed_line (map entry_of lines.now)) }
 {
     for line in lines {
         push_line(text, line)?;
@@ -42,7 +43,7 @@ fn push_lines(text: &mut String, lines: &[OutlineLine]) -> Result<(), AllocError
 
 #[tactic(auto, unfolding(crate::specs::Printed::printed_line))]
 fn push_line(text: &mut String, line: &OutlineLine) -> Result<(), AllocError>
-    ensures { OnOk result (string_bytes text.new ≡ string_bytes text.old ++ printed_line line.now) }
+    ensures { OnOk result (string_bytes text.new ≡ string_bytes text.old ++ printed_line (entry_of line.now)) }
 {
     push_repeated(text, "  ", line.depth)?;
     push_head(text, line.word)?;
@@ -132,3 +133,6 @@ fn push_labels(text: &mut String, name: &str, labels: &[String]) -> Result<(), A
     }
     Ok(())
 }
+
+#[cfg(test)]
+mod tests;

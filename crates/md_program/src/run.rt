@@ -24,12 +24,10 @@ pub fn run<B: Body, R: Read, W: Write, E: Write>(
     output: &mut W,
     errors: &mut E,
 ) -> u8
-    ensures {
-        Runs B.outlines B.built (map string_bytes args.now)
-            (R.remaining input.old) (R.remaining input.new)
-            (W.contents output.old) (W.contents output.new)
-            (E.contents errors.old) (E.contents errors.new) result
-    }
+    ensures { Runs B.outlines B.built (map string_bytes args.now)
+        (R.remaining input.old) (R.remaining input.new)
+        (W.contents output.old) (W.contents output.new)
+        (E.contents errors.old) (E.contents errors.new) result }
 {
     match attempt::<B, R, W>(alloc, args, input, output) {
         Ok(()) => 0,
@@ -43,12 +41,10 @@ fn attempt<B: Body, R: Read, W: Write>(
     input: &mut R,
     output: &mut W,
 ) -> Result<(), Failure>
-    ensures {
-        let ran = Ran (Shows B.outlines B.built (R.remaining input.old)) (set_asked_for (map string_bytes args.now))
-            (R.remaining input.old) (R.remaining input.new)
-            (W.contents output.old) (W.contents output.new)
-        in MatchResult result (λ _. ran None) (λ failure. ran (Some failure))
-    }
+    ensures { let ran = Ran (Shows B.outlines B.built (R.remaining input.old)) (set_asked_for (map string_bytes args.now))
+        (R.remaining input.old) (R.remaining input.new)
+        (W.contents output.old) (W.contents output.new)
+        in MatchResult result (λ _. ran None) (λ failure. ran (Some failure)) }
 {
     let text = whole_output::<B, R>(alloc, args, input)?;
     write_whole(output, text.as_bytes())
@@ -60,12 +56,10 @@ fn whole_output<B: Body, R: Read>(
     args: &[String],
     input: &mut R,
 ) -> Result<String, Failure>
-    ensures {
-        MatchResult result
-            (λ text. Prints (Shows B.outlines B.built (R.remaining input.old))
-                (set_asked_for (map string_bytes args.now)) (string_bytes text))
-            (Stops (set_asked_for (map string_bytes args.now)) (R.remaining input.old) (R.remaining input.new))
-    }
+    ensures { MatchResult result
+        (λ text. Prints (Shows B.outlines B.built (R.remaining input.old))
+        (set_asked_for (map string_bytes args.now)) (string_bytes text))
+        (Stops (set_asked_for (map string_bytes args.now)) (R.remaining input.old) (R.remaining input.new)) }
 {
     let Some(set) = asked_for(args) else {
         return Err(Failure::UnknownArgument);
@@ -78,3 +72,6 @@ fn whole_output<B: Body, R: Read>(
     let outlined = B::outlined(alloc, text, &options)?;
     Ok(print(alloc, &outlined)?)
 }
+
+#[cfg(test)]
+mod tests;

@@ -14,11 +14,9 @@ const CHUNK: usize = 8192;
 
 // All that the input has left. It reads until a read gives nothing or more than the size was read.
 pub(crate) fn read_whole<R: Read>(alloc: Global, input: &mut R) -> Result<Vec<u8>, Failure>
-    ensures {
-        MatchResult result
-            (λ bytes. Gives (R.remaining input.old) bytes.items)
-            (λ failure. FailsRead (R.remaining input.old) failure)
-    }
+    ensures { MatchResult result
+        (λ bytes. Gives (R.remaining input.old) bytes.items)
+        (λ failure. FailsRead (R.remaining input.old) failure) }
 {
     let mut bytes = Vec::new(alloc);
     let mut chunk = [0u8; CHUNK];
@@ -39,12 +37,10 @@ pub(crate) fn read_whole<R: Read>(alloc: Global, input: &mut R) -> Result<Vec<u8
 
 // Writes all of `bytes`, and flushes. After a failure a beginning of them may have been written.
 pub(crate) fn write_whole<W: Write>(output: &mut W, bytes: &[u8]) -> Result<(), Failure>
-    ensures {
-        MatchResult result
-            (λ _. Appends (W.contents output.old) (W.contents output.new) bytes.now)
-            (λ failure. (failure ≡ WriteFailed)
-                × AppendsBeginning (W.contents output.old) (W.contents output.new) bytes.now)
-    }
+    ensures { MatchResult result
+        (λ _. Appends (W.contents output.old) (W.contents output.new) bytes.now)
+        (λ failure. (failure ≡ WriteFailed)
+        × AppendsBeginning (W.contents output.old) (W.contents output.new) bytes.now) }
 {
     let mut rest = bytes;
     while !rest.is_empty() {

@@ -1,4 +1,7 @@
 // What the program is given by the system.
+ghost use Rattle.std.specs.Prelude.{◌≡◌, ◌⊎◌, IfErr};
+ghost use Rattle.md_program.specs.declared.failure.Failure.TheVariants.{OutOfMemory, UnknownArgument};
+
 use crate::failure::Failure;
 use std::env;
 use std::env::Env;
@@ -7,7 +10,9 @@ use std::io::ErrorKind;
 /// The arguments after the program's name.
 ///
 /// Where they cannot be read, it answers want of memory for want of memory, and else that an argument is unknown.
-pub fn arguments<S: Env + AllocGlobal>(system: &S) -> Result<Vec<String>, Failure> {
+pub fn arguments<S: Env + AllocGlobal>(system: &S) -> Result<Vec<String>, Failure>
+    ensures { IfErr result (λ failure. (failure ≡ UnknownArgument) ⊎ (failure ≡ OutOfMemory)) }
+{
     match env::args(system) {
         Ok(mut args) => {
             args.next();
@@ -17,3 +22,6 @@ pub fn arguments<S: Env + AllocGlobal>(system: &S) -> Result<Vec<String>, Failur
         Err(_) => Err(Failure::UnknownArgument),
     }
 }
+
+#[cfg(test)]
+mod tests;

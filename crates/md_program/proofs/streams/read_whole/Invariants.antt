@@ -7,7 +7,7 @@ use Rattle.md_program.proofs.streams.read_whole.Given as goal
 abbrev pub invariant-loop-count : goal.invariant-loop-count
 invariant-loop-count g l = record {
   read : Consumes (g.R.Read.remaining l.initial.input) (g.R.Read.remaining l.input) l.bytes.items;
-  size : vec_len l.bytes ≤ MOST
+  size : vec_len l.bytes ≤ MOST;
 }
 
 abbrev pub decreases-loop-count : goal.decreases-loop-count

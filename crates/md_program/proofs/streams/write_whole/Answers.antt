@@ -11,7 +11,6 @@ moved all front rest n split =
     ∙ sym (append_assoc front (take n rest) (drop n rest))
     ∙ ap (λ bs. (front ++ take n rest) ++ bs) (sym (take_rest rest n))
 
--- src/streams.rt:50:5
 pub loop-rest-preserved : goal.loop-rest-preserved
 loop-rest-preserved g c =
     let (front, split, appended) = c.loop-rest.invariant in
