@@ -1,1 +1,2 @@
 pub mod RestLemmas
+pub mod LinesLemmas
