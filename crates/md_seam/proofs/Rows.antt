@@ -2,11 +2,11 @@
 use Rattle.std.proofs.Common.{◌≡◌, ℕ, true, false, List, [], ◌∷◌, ◌++◌, Some, None, refl, codes}
 use Rattle.md_engine.specs.declared.configuration.ParseOptions.{ParseOptions}
 use Rattle.md_engine.specs.declared.configuration.TheConstants.ParseOptions as given
-use Rattle.md_seam.specs.Tree.{Line, Block, Frontmatter, Quote, ListOf, Item, Footnote, Heading, Break, Code, Fence, Math, Paragraph, Blocks, End, More}
+use Rattle.md_seam.specs.Tree.{Line, Block, Frontmatter, Quote, ListOf, Item, Footnote, Heading, Break, Code, Html, Fence, Math, Definition, Paragraph, Table, Blocks, End, More}
 use Rattle.md_seam.specs.Html.{begins_raw, begins_basic, after_value, after_assignment, after_attribute, ends_opening, begins_complete, kind_after, html_kind, html_ends}
 use Rattle.md_seam.specs.Enclosed.{enclosed, enclosed_lines}
 use Rattle.md_seam.specs.Definition.{label_at, balanced, destination_at, title_at, definition_at, cut_at_most, cut_definitions}
-use Rattle.md_seam.specs.Table.{pieces, delimiter_columns, row_cells, is_head}
+use Rattle.md_seam.specs.Table.{pieces, row_cells, delimiter_columns, is_head}
 use Rattle.md_seam.specs.State.{shut_paragraph}
 use Rattle.md_seam.specs.Preamble.{front_of}
 use Rattle.md_seam.specs.Containers.{quote_taken, item_continues, footnote_continues, opens_quote, opens_item, opens_footnote}
@@ -96,11 +96,22 @@ record Rows : Type 0 where
   frontmatter : tree extended (text_of (codes "---" ∷ codes "+++" ∷ codes "---" ∷ a ∷ [])) ≡ blocks (Frontmatter 45 (codes "+++" ∷ []) ∷ paragraph a ∷ [])
   no_frontmatter : tree extended (text_of (codes "---" ∷ a ∷ [])) ≡ blocks (Break ∷ paragraph a ∷ [])
   footnote : tree extended (text_of (codes "[^a]: b" ∷ [] ∷ codes "    c" ∷ [])) ≡ blocks (Footnote a (blocks (paragraph b ∷ paragraph c ∷ [])) ∷ [])
+  -- HTML
+  html : tree plain (text_of (codes "<!--x" ∷ [] ∷ codes "> a --> b" ∷ c ∷ [])) ≡ blocks (Html (line (codes "<!--x") ∷ line [] ∷ line (codes "> a --> b") ∷ []) ∷ paragraph c ∷ [])
+  tag_no_interrupt : tree plain (text_of (a ∷ codes "<x>" ∷ [])) ≡ blocks (paragraph_2 a (codes "<x>") ∷ [])
+  tag_lazy : tree plain (text_of (codes "> a" ∷ codes "<x>" ∷ [])) ≡ blocks (quote (paragraph a ∷ []) ∷ Html (line (codes "<x>") ∷ []) ∷ [])
+  -- definitions
+  definition : tree plain (text_of (codes "> [a" ∷ codes "> b]: c" ∷ [])) ≡ blocks (quote (Definition (a ∷ b ∷ []) c None ∷ []) ∷ [])
+  underline_as_line : tree plain (text_of (codes "[a]: b" ∷ codes "=" ∷ c ∷ codes "=" ∷ [])) ≡ blocks (Definition (a ∷ []) b None ∷ Heading 1 (codes "=" ∷ c ∷ []) ∷ [])
+  -- tables
+  table_behind_text : tree extended (text_of (a ∷ codes "b | c" ∷ codes "-|-" ∷ codes "| a" ∷ [])) ≡ blocks (paragraph a ∷ Table (codes "-|-") ((b ∷ c ∷ []) ∷ (a ∷ []) ∷ []) ∷ [])
+  head_before_definition : tree extended (text_of (codes "[a]:b" ∷ codes ":-" ∷ [])) ≡ blocks (Table (codes ":-") ((codes "[a]:b" ∷ []) ∷ []) ∷ [])
+  lazy_head : tree extended (text_of (codes "> a" ∷ codes "b | c" ∷ codes "> --|--" ∷ [])) ≡ blocks (quote (paragraph a ∷ Table (codes "--|--") ((b ∷ c ∷ []) ∷ []) ∷ []) ∷ [])
   -- endings
   endings : tree plain (codes "a" ++ 13 ∷ 10 ∷ 13 ∷ b) ≡ blocks (paragraph a ∷ paragraph b ∷ [])
 
 rows : Rows
-unfolding begins_raw begins_basic after_value after_assignment after_attribute ends_opening begins_complete kind_after html_kind html_ends enclosed enclosed_lines label_at balanced destination_at title_at definition_at cut_at_most cut_definitions pieces delimiter_columns row_cells is_head shut_paragraph front_of quote_taken item_continues footnote_continues opens_quote opens_item opens_footnote break_at heading_at code_at code_goes_on fence_at fence_goes_on html_at html_goes_on starts table_goes_on underline_depth underlined table_at fresh_line text_line all_continued stopped
+unfolding begins_raw begins_basic after_value after_assignment after_attribute ends_opening begins_complete kind_after html_kind html_ends enclosed enclosed_lines label_at balanced destination_at title_at definition_at cut_at_most cut_definitions pieces row_cells is_head delimiter_columns shut_paragraph front_of quote_taken item_continues footnote_continues opens_quote opens_item opens_footnote break_at heading_at code_at code_goes_on fence_at fence_goes_on html_at html_goes_on starts table_goes_on underline_depth underlined table_at fresh_line text_line all_continued stopped
 rows = record {
     lazy = refl; lazy_in_two = refl; not_lazy = refl; lazy_break = refl; blank_in_quote = refl;
     other_marker = refl; one_list = refl; nested_items = refl; blank_item = refl; number_two = refl; number_behind_quote = refl; break_no_item = refl;
@@ -109,5 +120,8 @@ rows = record {
     code = refl; code_in_quote = refl;
     fence = refl; fence_cut_off = refl; fence_indent = refl; math = refl;
     frontmatter = refl; no_frontmatter = refl; footnote = refl;
+    html = refl; tag_no_interrupt = refl; tag_lazy = refl;
+    definition = refl; underline_as_line = refl;
+    table_behind_text = refl; head_before_definition = refl; lazy_head = refl;
     endings = refl
   }

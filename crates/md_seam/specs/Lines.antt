@@ -1,6 +1,6 @@
 -- The lines of a text (CommonMark 2.1).
 use Rattle.std.specs.Prelude.{ℕ, Bool, false, ◌&&◌, ◌||◌, ◌==◌, not, if◌then◌else◌, List, [], ◌∷◌, map}
-use Rattle.std.specs.List.{take_while}
+use Rattle.std.specs.List.{take_while, onto_first}
 
 -- a line feed or a carriage return
 abbrev pub is_ending : ℕ → Bool
@@ -15,15 +15,10 @@ begins_with b (c ∷ bytes) = c == b
 abbrev pub ends_line : ℕ → List ℕ → Bool
 ends_line b bytes = (b == 10) || ((b == 13) && not (begins_with 10 bytes))
 
--- with this byte at the front of the first line
-abbrev pub with_byte : ℕ → List (List ℕ) → List (List ℕ)
-with_byte b [] = (b ∷ []) ∷ []
-with_byte b (line ∷ lines) = (b ∷ line) ∷ lines
-
 -- the lines with their endings: an empty rest after the last ending is no line (own choice)
 abbrev pub full_lines_of : List ℕ → List (List ℕ)
 full_lines_of [] = []
-full_lines_of (b ∷ bytes) = if ends_line b bytes then (b ∷ []) ∷ full_lines_of bytes else with_byte b (full_lines_of bytes)
+full_lines_of (b ∷ bytes) = if ends_line b bytes then (b ∷ []) ∷ full_lines_of bytes else onto_first b (full_lines_of bytes)
 
 -- a line without its ending
 abbrev pub without_ending : List ℕ → List ℕ
