@@ -3,7 +3,7 @@ ghost use Rattle.std.specs.Prelude.{◌≡◌, ◌≤◌, length};
 ghost use Rattle.std.specs.List.{prefix_len};
 ghost use Rattle.md_seam.specs.Lines.{begins_with};
 ghost use Rattle.md_seam.specs.Rest.{is_white, is_blank, is_parted, trim_start, trim};
-ghost use Rattle.md_seam.specs.Bytes.{is_end, after_optional};
+ghost use Rattle.md_seam.specs.Bytes.{begins, after_optional};
 
 /// Whether this is a space or a tab.
 pub fn is_white(b: u8) -> bool
@@ -36,6 +36,16 @@ pub fn is_parted(bytes: &[u8]) -> bool
     match bytes {
         [first, ..] => is_white(*first),
         [] => true,
+    }
+}
+
+/// Whether a space or a tab comes first.
+pub fn begins_white(bytes: &[u8]) -> bool
+    ensures { result ≡ begins is_white bytes.now }
+{
+    match bytes {
+        [first, ..] => is_white(*first),
+        [] => false,
     }
 }
 

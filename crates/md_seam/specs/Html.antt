@@ -137,7 +137,7 @@ html_kind (b ∷ rest) = if b == 60 then kind_after rest else None
 
 -- whether these bytes come first, in any ASCII case
 abbrev pub starts_in_any_case : List ℕ → List ℕ → Bool
-starts_in_any_case rest word = str_eq_ignore_ascii_case (take (length word) rest) word
+starts_in_any_case rest word = str_eq_ignore_ascii_case word (take (length word) rest)
 
 -- the ends of kind 1
 abbrev pub raw_ends : List (List ℕ)
