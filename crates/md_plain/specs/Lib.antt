@@ -1,1 +1,3 @@
-pub mod Html
+pub mod Trees
+pub mod Rests
+pub mod States

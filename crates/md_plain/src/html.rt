@@ -5,9 +5,10 @@ ghost use Rattle.std.specs.List.{prefix_len, starts_with};
 ghost use Rattle.std.specs.Str.{str_eq_ignore_ascii_case};
 ghost use Rattle.md_seam.specs.Bytes.{begins};
 ghost use Rattle.md_seam.specs.Html as h;
-ghost use Rattle.md_plain.specs.Html.{kind_of};
+ghost use Rattle.md_plain.specs.States.{kind_meaning};
 
-use crate::bytes::{after_optional, begins_white, begins_with, is_blank, is_parted, is_white, trim_start};
+use crate::ahead::{after_optional, begins_white, begins_with};
+use crate::bytes::{is_blank, is_parted, is_white, trim_start};
 
 /// A kind of HTML block, in the order of the standard.
 #[derive(Clone, Copy, Debug, PartialEq, Eq)]
@@ -61,7 +62,7 @@ fn is_basic_name(name: &[u8]) -> bool
 /// How many bytes of a tag name come first (CommonMark 6.6).
 fn tag_len(rest: &[u8]) -> usize
     ensures value { result ≡ prefix_len h.is_tag_byte rest.now }
-    ensures within { result ≤ length rest.now }
+    ensures bound { result ≤ length rest.now }
 {
     rest.iter().take_while(|b| b.is_ascii_alphanumeric() || **b == b'-').count()
 }
@@ -121,7 +122,7 @@ fn is_attribute_byte(b: u8) -> bool
 /// How many bytes of an attribute's name come first.
 fn attribute_len(rest: &[u8]) -> usize
     ensures value { result ≡ prefix_len h.is_attribute_byte rest.now }
-    ensures within { result ≤ length rest.now }
+    ensures bound { result ≤ length rest.now }
 {
     rest.iter().take_while(|b| is_attribute_byte(**b)).count()
 }
@@ -135,7 +136,7 @@ fn is_value_byte(b: u8) -> bool
 /// How many bytes of a value without quotes come first.
 fn value_len(rest: &[u8]) -> usize
     ensures value { result ≡ prefix_len h.is_value_byte rest.now }
-    ensures within { result ≤ length rest.now }
+    ensures bound { result ≤ length rest.now }
 {
     rest.iter().take_while(|b| is_value_byte(**b)).count()
 }
@@ -233,7 +234,7 @@ fn begins_complete(bytes: &[u8]) -> bool
 /// The kind that begins here, after `<`.
 #[tactic(auto, unfolding(md_seam::specs::Html::kind_after))]
 fn kind_after(rest: &[u8]) -> Option<HtmlKind>
-    ensures { option_map kind_of result ≡ h.kind_after rest.now }
+    ensures { option_map kind_meaning result ≡ h.kind_after rest.now }
 {
     if begins_raw(rest) {
         Some(HtmlKind::Raw)
@@ -257,7 +258,7 @@ fn kind_after(rest: &[u8]) -> Option<HtmlKind>
 /// The kind that a line begins, given from its `<` on.
 #[tactic(auto, unfolding(md_seam::specs::Html::html_kind))]
 pub fn html_kind(line: &[u8]) -> Option<HtmlKind>
-    ensures { option_map kind_of result ≡ h.html_kind line.now }
+    ensures { option_map kind_meaning result ≡ h.html_kind line.now }
 {
     match line {
         [b'<', rest @ ..] => kind_after(rest),
@@ -311,7 +312,7 @@ fn holds_word(word: &[u8], line: &[u8]) -> bool
 /// Whether the line holds the end of this kind. The last two kinds end before a blank line.
 #[tactic(auto, unfolding(md_seam::specs::Html::html_ends))]
 pub fn html_ends(kind: HtmlKind, line: &[u8]) -> bool
-    ensures { result ≡ h.html_ends (kind_of kind) line.now }
+    ensures { result ≡ h.html_ends (kind_meaning kind) line.now }
 {
     match kind {
         HtmlKind::Raw => holds_raw_end(line),
