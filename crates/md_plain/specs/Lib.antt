@@ -1,3 +1,4 @@
 pub mod Trees
 pub mod Rests
 pub mod States
+pub mod Pieces
