@@ -1,6 +1,12 @@
 // Leaf blocks: where they start, and how they go on.
 
 ghost use Rattle.std.specs.Prelude.{◌≡◌, IfOk};
+ghost use Rattle.std.specs.Option.{option_copied};
+ghost use Rattle.md_seam.specs.Leaves as leaves;
+ghost use Rattle.md_seam.specs.State.{fence_block};
+ghost use Rattle.md_plain.specs.Rests.{rest_meaning};
+ghost use Rattle.md_plain.specs.Trees.{meaning, line_meanings};
+ghost use Rattle.md_plain.specs.States.{kind_meaning, opening_meaning, came_meaning, came_option, against_meaning};
 
 use md_engine::configuration::ParseOptions;
 use md_engine::message::Message;
@@ -15,7 +21,9 @@ use crate::table::row_cells;
 use crate::tree::{Block, Line};
 
 /// Three or more of one of `*`, `-` and `_`, with spaces and tabs between and after (CommonMark 4.1).
-pub fn is_rule(bytes: &[u8]) -> bool {
+pub fn is_rule(bytes: &[u8]) -> bool
+    ensures { result ≡ leaves.is_rule bytes.now }
+{
     let [marker, others @ ..] = bytes else {
         return false;
     };
@@ -25,7 +33,10 @@ pub fn is_rule(bytes: &[u8]) -> bool {
 }
 
 /// A thematic break (CommonMark 4.1).
-fn break_at<'a>(options: &ParseOptions, rest: &Rest<'a>) -> Option<Came<'a>> {
+#[tactic(auto, unfolding(md_seam::specs::Leaves::break_at))]
+fn break_at<'a>(options: &ParseOptions, rest: &Rest<'a>) -> Option<Came<'a>>
+    ensures { came_option result ≡ leaves.break_at options.now (rest_meaning rest.now) }
+{
     if options.constructs.thematic_break && rest.has_small_indent(options) && is_rule(rest.text()) {
         Some(Came::Finished(Block::Break))
     } else {
@@ -35,7 +46,9 @@ fn break_at<'a>(options: &ParseOptions, rest: &Rest<'a>) -> Option<Came<'a>> {
 
 /// The text of a heading, from what follows its opening run: without a closing run that is all of it or stands behind
 /// whitespace (CommonMark 4.2).
-fn heading_text(after: &[u8]) -> &[u8] {
+fn heading_text(after: &[u8]) -> &[u8]
+    ensures { result.now ≡ leaves.heading_text after.now }
+{
     let text = trim(after);
     let closing = text.iter().rev().take_while(|byte| **byte == b'#').count();
     let front = text.split_at(text.len() - closing).0;
@@ -47,7 +60,10 @@ fn heading_text(after: &[u8]) -> &[u8] {
 }
 
 /// An ATX heading: a small indent, 1 to 6 `#`, and then whitespace or the end of the line (CommonMark 4.2).
-fn heading_at<'a>(alloc: Global, options: &ParseOptions, rest: &Rest<'a>) -> Result<Option<Came<'a>>, Message> {
+#[tactic(auto, unfolding(md_seam::specs::Leaves::heading_at))]
+fn heading_at<'a>(alloc: Global, options: &ParseOptions, rest: &Rest<'a>) -> Result<Option<Came<'a>>, Message>
+    ensures { IfOk result (λ o. came_option o ≡ leaves.heading_at options.now (rest_meaning rest.now)) }
+{
     let text = rest.text();
     let depth = run_len(b'#', text);
     let after = text.split_at(depth).1;
@@ -68,12 +84,15 @@ fn heading_at<'a>(alloc: Global, options: &ParseOptions, rest: &Rest<'a>) -> Res
 }
 
 /// Indented code: an indent of 4 columns, and no open paragraph (CommonMark 4.4).
+#[tactic(auto, unfolding(md_seam::specs::Leaves::code_at))]
 fn code_at<'a>(
     alloc: Global,
     options: &ParseOptions,
     against: Against,
     rest: &Rest<'a>,
-) -> Result<Option<Came<'a>>, Message> {
+) -> Result<Option<Came<'a>>, Message>
+    ensures { IfOk result (λ o. came_option o ≡ leaves.code_at options.now (against_meaning against) (rest_meaning rest.now)) }
+{
     if !options.constructs.code_indented || against != Against::NoText || rest.indent() < 4 {
         return Ok(None);
     }
@@ -92,7 +111,9 @@ fn code_goes_on<'a>(lines: &mut Vec<Line<'a>>, rest: &Rest<'a>) -> Result<bool, 
 }
 
 /// Whether this byte fences code or math, in these options.
-fn is_fence_marker(options: &ParseOptions, marker: u8) -> bool {
+fn is_fence_marker(options: &ParseOptions, marker: u8) -> bool
+    ensures { result ≡ leaves.is_fence_marker options.now marker }
+{
     if marker == b'$' {
         options.constructs.math_flow
     } else {
@@ -100,12 +121,16 @@ fn is_fence_marker(options: &ParseOptions, marker: u8) -> bool {
     }
 }
 
-fn nonempty(bytes: &[u8]) -> Option<&[u8]> {
+fn nonempty(bytes: &[u8]) -> Option<&[u8]>
+    ensures { option_copied result ≡ leaves.nonempty bytes.now }
+{
     if bytes.is_empty() { None } else { Some(bytes) }
 }
 
 /// An opening fence with this text behind it: the first word is `info`, and the others are `meta`; math has no `info`.
-fn opening<'a>(marker: u8, size: usize, indent: usize, text: &'a [u8]) -> Opening<'a> {
+fn opening<'a>(marker: u8, size: usize, indent: usize, text: &'a [u8]) -> Opening<'a>
+    ensures { opening_meaning result ≡ leaves.opening marker size indent text.now }
+{
     if marker == b'$' {
         return Opening { marker, size, indent, info: None, meta: nonempty(text) };
     }
@@ -115,7 +140,10 @@ fn opening<'a>(marker: u8, size: usize, indent: usize, text: &'a [u8]) -> Openin
 }
 
 /// An opening fence: a small indent, a run of markers, and what may follow it (CommonMark 4.5; math is an own choice).
-fn fence_at<'a>(alloc: Global, options: &ParseOptions, rest: &Rest<'a>) -> Option<Came<'a>> {
+#[tactic(auto, unfolding(md_seam::specs::Leaves::fence_at))]
+fn fence_at<'a>(alloc: Global, options: &ParseOptions, rest: &Rest<'a>) -> Option<Came<'a>>
+    ensures { came_option result ≡ leaves.fence_at options.now (rest_meaning rest.now) }
+{
     let text = rest.text();
     let marker = *text.first()?;
     let size = run_len(marker, text);
@@ -135,7 +163,9 @@ fn fence_at<'a>(alloc: Global, options: &ParseOptions, rest: &Rest<'a>) -> Optio
 }
 
 /// Whether this line closes a fence: a small indent, at least as many of the same marker, and nothing else.
-fn closes(options: &ParseOptions, opening: &Opening, rest: &Rest) -> bool {
+fn closes(options: &ParseOptions, opening: &Opening, rest: &Rest) -> bool
+    ensures { result ≡ leaves.closes options.now (opening_meaning opening.now) (rest_meaning rest.now) }
+{
     let text = rest.text();
     let size = run_len(opening.marker, text);
     rest.has_small_indent(options) && size >= opening.size && is_blank(text.split_at(size).1)
@@ -196,12 +226,15 @@ fn html_at<'a>(
 }
 
 /// The first leaf, other than a paragraph, that starts at this rest.
+#[tactic(auto, unfolding(md_seam::specs::Leaves::starts))]
 pub fn starts<'a>(
     alloc: Global,
     options: &ParseOptions,
     against: Against,
     rest: &Rest<'a>,
-) -> Result<Option<Came<'a>>, Message> {
+) -> Result<Option<Came<'a>>, Message>
+    ensures { IfOk result (λ o. came_option o ≡ leaves.starts options.now (against_meaning against) (rest_meaning rest.now)) }
+{
     if let Some(came) = code_at(alloc, options, against, rest)? {
         return Ok(Some(came));
     }

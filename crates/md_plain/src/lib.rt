@@ -1,6 +1,7 @@
 // The line definition as a plain program: slow, ordinary functions, each of which computes one definition of `md_seam`.
 #![tactic(auto)]
 
+pub mod ahead;
 pub mod bytes;
 pub mod close;
 pub mod columns;
