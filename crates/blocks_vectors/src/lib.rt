@@ -6,6 +6,7 @@ pub mod long;
 pub mod report;
 pub mod rows;
 pub mod search;
+pub mod task;
 pub mod texts;
 pub mod without;
 pub mod wraps;

@@ -18,17 +18,3 @@ pub fn try_wraps(alloc: Global, rows: &str, report: &mut Report) -> Result<(), C
     }
     Ok(())
 }
-
-#[cfg(test)]
-mod tests {
-    use super::*;
-    use std::test::Fail;
-
-    #[test]
-    fn wraps_are_as_in_the_rows(rt: HostRuntime) -> Result<(), Fail> {
-        let mut report = Report::new(rt.alloc());
-        try_wraps(rt.alloc(), blocks_cases::wraps::rows(), &mut report)?;
-        assert_eq!(rt; report.wrong, 0, "{}", report.list);
-        Ok(())
-    }
-}
