@@ -56,7 +56,7 @@ const LABELS: [Long; 6] = [
     },
 ];
 
-/// Tries a body that has all constructs on long labels.
+/// Tries a body that has definitions and footnotes on long labels.
 pub fn try_labels<B: Body>(alloc: Global, report: &mut Report) -> Result<(), CaseError> {
     for long in &LABELS {
         let mut text = repeated(alloc, "a", long.times)?;
@@ -73,7 +73,7 @@ pub fn try_labels<B: Body>(alloc: Global, report: &mut Report) -> Result<(), Cas
     Ok(())
 }
 
-/// Tries a body that has all constructs on 1,000 quotes in one another, and on 200 lists (CommonMark 5.1 and 5.2).
+/// Tries a body that has quotes and items on 1,000 quotes in one another, and on 200 lists (CommonMark 5.1 and 5.2).
 pub fn try_depths<B: Body>(alloc: Global, report: &mut Report) -> Result<(), CaseError> {
     try_depth::<B>(alloc, report, ">", 1000, &["quote\n"])?;
     try_depth::<B>(alloc, report, "- ", 200, &["list -\n", "item\n"])

@@ -7,11 +7,12 @@
 
 use crate::long::{try_depths, try_labels};
 use crate::report::Report;
-use crate::rows::try_rows;
+use crate::rows::{built_of, try_rows};
 use crate::search::{try_begins, try_random, try_short};
 use crate::without::try_without;
 use crate::wraps::try_wraps;
 use blocks_cases::case::CaseError;
+use blocks_cases::constructs::ALL;
 use md_program::body::Body;
 use std::alloc::Global;
 
@@ -52,7 +53,7 @@ impl Task {
     }
 }
 
-/// All that can be tried with the rows.
+/// All that can be tried with the rows, as far as the body has the constructs.
 fn try_all<B: Body>(alloc: Global, report: &mut Report) -> Result<(), CaseError> {
     for rows in blocks_cases::all() {
         try_rows::<B>(alloc, rows, report)?;
@@ -60,6 +61,12 @@ fn try_all<B: Body>(alloc: Global, report: &mut Report) -> Result<(), CaseError>
         try_begins::<B>(alloc, rows, report)?;
     }
     try_wraps(alloc, blocks_cases::wraps::rows(), report)?;
-    try_labels::<B>(alloc, report)?;
-    try_depths::<B>(alloc, report)
+    let built = built_of::<B>(&ALL);
+    if built.definition && built.gfm_footnote_definition {
+        try_labels::<B>(alloc, report)?;
+    }
+    if built.block_quote && built.list_item {
+        try_depths::<B>(alloc, report)?;
+    }
+    Ok(())
 }
