@@ -1,6 +1,6 @@
 -- Rows that the grammars compute.
 use Rattle.std.proofs.Common.{◌≡◌, ℕ, true, false, List, [], ◌∷◌, ◌++◌, map, replicate, Bool, Option, Some, None, refl, codes}
-use Rattle.md_seam.specs.Html.{HtmlKind, Raw, Comment, Instruction, Declaration, Cdata, Basic, Complete, html_kind, html_ends, kind_after, begins_raw, begins_basic, begins_complete, ends_opening, after_attribute, after_assignment, after_value}
+use Rattle.md_seam.specs.Html.{HtmlKind, Raw, Comment, Instruction, Declaration, Cdata, Basic, Complete, html_kind, is_raw_end, html_ends, kind_after, is_raw_name, is_basic_name, begins_raw, begins_basic, begins_complete, ends_opening, after_attribute, after_assignment, after_value}
 use Rattle.md_seam.specs.Enclosed.{enclosed, enclosed_lines}
 use Rattle.md_seam.specs.Definition.{Defined, label_at, destination_at, balanced, title_at, definition_at, cut_at_most, cut_definitions}
 use Rattle.md_seam.specs.Table.{pieces, row_cells, delimiter_columns, is_head}
@@ -55,7 +55,7 @@ kinds_rows =
 
 -- the kind that begins at each text
 kinds : map (λ row. html_kind row.0) kinds_rows ≡ map (λ row. row.1) kinds_rows
-unfolding html_kind kind_after begins_raw begins_basic begins_complete ends_opening after_attribute after_assignment after_value
+unfolding html_kind kind_after is_raw_name is_basic_name begins_raw begins_basic begins_complete ends_opening after_attribute after_assignment after_value
 kinds = refl
 
 abbrev ends_raw_rows : List (List ℕ × Bool)
@@ -69,7 +69,7 @@ ends_raw_rows =
 
 -- whether each text holds the end of this kind
 ends_raw : map (λ row. html_ends Raw row.0) ends_raw_rows ≡ map (λ row. row.1) ends_raw_rows
-unfolding html_ends
+unfolding html_ends is_raw_end
 ends_raw = refl
 
 abbrev ends_comment_rows : List (List ℕ × Bool)
@@ -82,7 +82,7 @@ ends_comment_rows =
 
 -- whether each text holds the end of this kind
 ends_comment : map (λ row. html_ends Comment row.0) ends_comment_rows ≡ map (λ row. row.1) ends_comment_rows
-unfolding html_ends
+unfolding html_ends is_raw_end
 ends_comment = refl
 
 abbrev ends_instruction_rows : List (List ℕ × Bool)
@@ -93,7 +93,7 @@ ends_instruction_rows =
 
 -- whether each text holds the end of this kind
 ends_instruction : map (λ row. html_ends Instruction row.0) ends_instruction_rows ≡ map (λ row. row.1) ends_instruction_rows
-unfolding html_ends
+unfolding html_ends is_raw_end
 ends_instruction = refl
 
 abbrev ends_declaration_rows : List (List ℕ × Bool)
@@ -104,7 +104,7 @@ ends_declaration_rows =
 
 -- whether each text holds the end of this kind
 ends_declaration : map (λ row. html_ends Declaration row.0) ends_declaration_rows ≡ map (λ row. row.1) ends_declaration_rows
-unfolding html_ends
+unfolding html_ends is_raw_end
 ends_declaration = refl
 
 abbrev ends_cdata_rows : List (List ℕ × Bool)
@@ -116,7 +116,7 @@ ends_cdata_rows =
 
 -- whether each text holds the end of this kind
 ends_cdata : map (λ row. html_ends Cdata row.0) ends_cdata_rows ≡ map (λ row. row.1) ends_cdata_rows
-unfolding html_ends
+unfolding html_ends is_raw_end
 ends_cdata = refl
 
 abbrev ends_basic_rows : List (List ℕ × Bool)
@@ -127,7 +127,7 @@ ends_basic_rows =
 
 -- whether each text holds the end of this kind
 ends_basic : map (λ row. html_ends Basic row.0) ends_basic_rows ≡ map (λ row. row.1) ends_basic_rows
-unfolding html_ends
+unfolding html_ends is_raw_end
 ends_basic = refl
 
 abbrev definitions_rows : List (List (List ℕ) × (List Defined × List (List ℕ)))

@@ -3,7 +3,7 @@ use Rattle.std.proofs.Common.{◌≡◌, ℕ, true, false, List, [], ◌∷◌, 
 use Rattle.md_engine.specs.declared.configuration.ParseOptions.{ParseOptions}
 use Rattle.md_engine.specs.declared.configuration.TheConstants.ParseOptions as given
 use Rattle.md_seam.specs.Tree.{Line, Block, Frontmatter, Quote, ListOf, Item, Footnote, Heading, Break, Code, Html, Fence, Math, Definition, Paragraph, Table, Blocks, End, More}
-use Rattle.md_seam.specs.Html.{begins_raw, begins_basic, after_value, after_assignment, after_attribute, ends_opening, begins_complete, kind_after, html_kind, html_ends}
+use Rattle.md_seam.specs.Html.{is_raw_name, is_basic_name, begins_raw, begins_basic, after_value, after_assignment, after_attribute, ends_opening, begins_complete, kind_after, html_kind, is_raw_end, html_ends}
 use Rattle.md_seam.specs.Enclosed.{enclosed, enclosed_lines}
 use Rattle.md_seam.specs.Definition.{label_at, balanced, destination_at, title_at, definition_at, cut_at_most, cut_definitions}
 use Rattle.md_seam.specs.Table.{pieces, row_cells, delimiter_columns, is_head}
@@ -111,7 +111,7 @@ record Rows : Type 0 where
   endings : tree plain (codes "a" ++ 13 ∷ 10 ∷ 13 ∷ b) ≡ blocks (paragraph a ∷ paragraph b ∷ [])
 
 rows : Rows
-unfolding begins_raw begins_basic after_value after_assignment after_attribute ends_opening begins_complete kind_after html_kind html_ends enclosed enclosed_lines label_at balanced destination_at title_at definition_at cut_at_most cut_definitions pieces row_cells is_head delimiter_columns shut_paragraph front_of quote_taken item_continues footnote_continues opens_quote opens_item opens_footnote break_at heading_at code_at code_goes_on fence_at fence_goes_on html_at html_goes_on starts table_goes_on underline_depth underlined table_at fresh_line text_line all_continued stopped
+unfolding is_raw_name is_basic_name begins_raw begins_basic after_value after_assignment after_attribute ends_opening begins_complete kind_after html_kind is_raw_end html_ends enclosed enclosed_lines label_at balanced destination_at title_at definition_at cut_at_most cut_definitions pieces row_cells is_head delimiter_columns shut_paragraph front_of quote_taken item_continues footnote_continues opens_quote opens_item opens_footnote break_at heading_at code_at code_goes_on fence_at fence_goes_on html_at html_goes_on starts table_goes_on underline_depth underlined table_at fresh_line text_line all_continued stopped
 rows = record {
     lazy = refl; lazy_in_two = refl; not_lazy = refl; lazy_break = refl; blank_in_quote = refl;
     other_marker = refl; one_list = refl; nested_items = refl; blank_item = refl; number_two = refl; number_behind_quote = refl; break_no_item = refl;

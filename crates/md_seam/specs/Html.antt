@@ -1,8 +1,8 @@
 -- HTML blocks: how each of the seven kinds begins and ends (CommonMark 4.6).
-use Rattle.std.specs.Prelude.{ℕ, zero, suc, Bool, false, ◌&&◌, ◌||◌, not, ◌==◌, if◌then◌else◌, List, [], ◌∷◌, ◌++◌, length, Option, Some, None, codes, nat_eq}
+use Rattle.std.specs.Prelude.{ℕ, zero, suc, Bool, false, ◌&&◌, ◌||◌, not, ◌==◌, if◌then◌else◌, List, [], ◌∷◌, ◌++◌, length, take, Option, Some, None, codes, nat_eq}
 use Rattle.std.specs.List.{list_any, starts_with, take_while}
 use Rattle.std.specs.Char.{is_ascii_alphabetic, is_ascii_alphanumeric}
-use Rattle.std.specs.Str.{str_eq_ignore_ascii_case, str_to_ascii_lowercase}
+use Rattle.std.specs.Str.{str_eq_ignore_ascii_case}
 use Rattle.md_seam.specs.Lines.{begins_with}
 use Rattle.md_seam.specs.Rest.{is_white, is_blank, is_parted, trim_start}
 use Rattle.md_seam.specs.Bytes.{after, begins, after_optional}
@@ -41,6 +41,13 @@ basic_names =
 abbrev pub is_name_of : List (List ℕ) → List ℕ → Bool
 is_name_of names name = list_any (λ known. str_eq_ignore_ascii_case known name) names
 
+-- whether this is a name of kind 1, and one of kind 6
+unfoldable pub is_raw_name : List ℕ → Bool
+is_raw_name name = is_name_of raw_names name
+
+unfoldable pub is_basic_name : List ℕ → Bool
+is_basic_name name = is_name_of basic_names name
+
 -- the bytes of a tag name (CommonMark 6.6)
 abbrev pub is_tag_byte : ℕ → Bool
 is_tag_byte b = is_ascii_alphanumeric b || (b == 45)
@@ -51,11 +58,11 @@ ends_name rest = is_parted rest || begins_with 62 rest
 
 -- whether kind 1 begins, after `<`
 unfoldable pub begins_raw : List ℕ → Bool
-begins_raw rest = is_name_of raw_names (take_while is_tag_byte rest) && ends_name (after is_tag_byte rest)
+begins_raw rest = is_raw_name (take_while is_tag_byte rest) && ends_name (after is_tag_byte rest)
 
 -- whether kind 6 begins, after `<` or `</`: its name may also be followed by `/>`
 unfoldable pub begins_basic : List ℕ → Bool
-begins_basic rest = is_name_of basic_names (take_while is_tag_byte rest) && (ends_name (after is_tag_byte rest) || starts_with nat_eq (after is_tag_byte rest) (codes "/>"))
+begins_basic rest = is_basic_name (take_while is_tag_byte rest) && (ends_name (after is_tag_byte rest) || starts_with nat_eq (after is_tag_byte rest) (codes "/>"))
 
 -- the first byte of an attribute's name, and the others (CommonMark 6.6)
 abbrev pub begins_attribute : ℕ → Bool
@@ -128,21 +135,33 @@ unfoldable pub html_kind : List ℕ → Option HtmlKind
 html_kind [] = None
 html_kind (b ∷ rest) = if b == 60 then kind_after rest else None
 
--- whether these bytes stand somewhere in the line
-abbrev pub holds : List ℕ → List ℕ → Bool
-holds word [] = false
-holds word (b ∷ bs) = starts_with nat_eq (b ∷ bs) word || holds word bs
+-- whether these bytes come first, in any ASCII case
+abbrev pub starts_in_any_case : List ℕ → List ℕ → Bool
+starts_in_any_case rest word = str_eq_ignore_ascii_case word (take (length word) rest)
 
--- the closing tag of a name
-abbrev pub closing_tag : List ℕ → List ℕ
-closing_tag name = codes "</" ++ name ++ codes ">"
+-- the ends of kind 1
+abbrev pub raw_ends : List (List ℕ)
+raw_ends = codes "</pre>" ∷ codes "</script>" ∷ codes "</style>" ∷ codes "</textarea>" ∷ []
+
+-- whether one of them comes first
+unfoldable pub is_raw_end : List ℕ → Bool
+is_raw_end rest = list_any (λ word. starts_in_any_case rest word) raw_ends
+
+-- whether this passes from some byte of the line on
+abbrev pub holds : (List ℕ → Bool) → List ℕ → Bool
+holds test [] = false
+holds test (b ∷ bytes) = test (b ∷ bytes) || holds test bytes
+
+-- whether these bytes stand somewhere in the line
+abbrev pub holds_word : List ℕ → List ℕ → Bool
+holds_word word line = holds (λ rest. starts_with nat_eq rest word) line
 
 -- whether the line holds the end of this kind; kinds 6 and 7 end before a blank line
 unfoldable pub html_ends : HtmlKind → List ℕ → Bool
-html_ends Raw line = list_any (λ name. holds (closing_tag name) (str_to_ascii_lowercase line)) raw_names
-html_ends Comment line = holds (codes "-->") line
-html_ends Instruction line = holds (codes "?>") line
-html_ends Declaration line = holds (codes ">") line
-html_ends Cdata line = holds (codes "]]>") line
+html_ends Raw line = holds is_raw_end line
+html_ends Comment line = holds_word (codes "-->") line
+html_ends Instruction line = holds_word (codes "?>") line
+html_ends Declaration line = holds_word (codes ">") line
+html_ends Cdata line = holds_word (codes "]]>") line
 html_ends Basic line = false
 html_ends Complete line = false

@@ -1,0 +1,108 @@
+// Sets of constructs, by their names.
+
+use md_engine::configuration::Constructs;
+
+/// No construct.
+pub const NONE: Constructs = Constructs {
+    block_quote: false,
+    code_fenced: false,
+    code_indented: false,
+    definition: false,
+    frontmatter: false,
+    gfm_footnote_definition: false,
+    gfm_table: false,
+    heading_atx: false,
+    heading_setext: false,
+    html_flow: false,
+    list_item: false,
+    math_flow: false,
+    thematic_break: false,
+    mdx_esm: false,
+    mdx_expression_flow: false,
+    mdx_expression_text: false,
+    mdx_jsx_flow: false,
+    mdx_jsx_text: false,
+};
+
+/// CommonMark with the tables and footnotes of GitHub.
+pub const GFM: Constructs = Constructs {
+    gfm_footnote_definition: true,
+    gfm_table: true,
+    ..Constructs::COMMONMARK
+};
+
+/// Every construct but those of MDX.
+pub const ALL: Constructs = Constructs {
+    frontmatter: true,
+    math_flow: true,
+    ..GFM
+};
+
+/// The names of the constructs of `ALL`.
+pub const NAMES: [&str; 13] = [
+    "block_quote",
+    "code_fenced",
+    "code_indented",
+    "definition",
+    "frontmatter",
+    "gfm_footnote_definition",
+    "gfm_table",
+    "heading_atx",
+    "heading_setext",
+    "html_flow",
+    "list_item",
+    "math_flow",
+    "thematic_break",
+];
+
+/// Switches the construct of this name on or off. A name that is none changes nothing and answers `false`.
+pub fn switch(constructs: &mut Constructs, name: &str, on: bool) -> bool {
+    match name {
+        "block_quote" => constructs.block_quote = on,
+        "code_fenced" => constructs.code_fenced = on,
+        "code_indented" => constructs.code_indented = on,
+        "definition" => constructs.definition = on,
+        "frontmatter" => constructs.frontmatter = on,
+        "gfm_footnote_definition" => constructs.gfm_footnote_definition = on,
+        "gfm_table" => constructs.gfm_table = on,
+        "heading_atx" => constructs.heading_atx = on,
+        "heading_setext" => constructs.heading_setext = on,
+        "html_flow" => constructs.html_flow = on,
+        "list_item" => constructs.list_item = on,
+        "math_flow" => constructs.math_flow = on,
+        "thematic_break" => constructs.thematic_break = on,
+        _ => return false,
+    }
+    true
+}
+
+/// The constructs whose names stand in a text, parted by spaces.
+pub fn named(names: &str) -> Option<Constructs> {
+    let mut constructs = NONE;
+    for name in names.split(' ') {
+        if !name.is_empty() && !switch(&mut constructs, name, true) {
+            return None;
+        }
+    }
+    Some(constructs)
+}
+
+/// The constructs that are on in both.
+pub fn both(a: &Constructs, b: &Constructs) -> Constructs {
+    Constructs {
+        block_quote: a.block_quote && b.block_quote,
+        code_fenced: a.code_fenced && b.code_fenced,
+        code_indented: a.code_indented && b.code_indented,
+        definition: a.definition && b.definition,
+        frontmatter: a.frontmatter && b.frontmatter,
+        gfm_footnote_definition: a.gfm_footnote_definition && b.gfm_footnote_definition,
+        gfm_table: a.gfm_table && b.gfm_table,
+        heading_atx: a.heading_atx && b.heading_atx,
+        heading_setext: a.heading_setext && b.heading_setext,
+        html_flow: a.html_flow && b.html_flow,
+        list_item: a.list_item && b.list_item,
+        math_flow: a.math_flow && b.math_flow,
+        thematic_break: a.thematic_break && b.thematic_break,
+        ..NONE
+    }
+}

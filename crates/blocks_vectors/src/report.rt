@@ -1,0 +1,67 @@
+// What was tried, and where a body did not give what it must.
+
+use std::alloc::{AllocError, Global};
+
+/// A count of what was tried, and a readable list of what disagreed.
+#[derive(Debug, Drop)]
+pub struct Report {
+    /// How many rows or texts were tried.
+    pub tried: u64,
+    /// How many of them disagreed.
+    pub wrong: u64,
+    /// The list of those.
+    pub list: String,
+}
+
+impl Report {
+    /// Nothing tried yet.
+    pub fn new(alloc: Global) -> Report {
+        Report {
+            tried: 0,
+            wrong: 0,
+            list: String::new(alloc),
+        }
+    }
+
+    /// Counts one more, and lists it if what came is not what must come.
+    pub fn add(
+        &mut self,
+        title: &str,
+        text: &str,
+        wanted: &str,
+        got: &str,
+    ) -> Result<(), AllocError> {
+        self.tried = self.tried.wrapping_add(1);
+        if wanted == got {
+            return Ok(());
+        }
+        self.wrong = self.wrong.wrapping_add(1);
+        self.part("", title)?;
+        self.quoted(text)?;
+        self.part("wanted:\n", wanted)?;
+        self.part("got:\n", got)
+    }
+
+    /// Adds a part of an entry, and ends the line.
+    fn part(&mut self, head: &str, body: &str) -> Result<(), AllocError> {
+        self.list.push_str(head)?;
+        self.list.push_str(body)?;
+        self.list.push('\n')
+    }
+
+    /// Adds a text between quotes, on one line.
+    fn quoted(&mut self, text: &str) -> Result<(), AllocError> {
+        self.list.push('"')?;
+        for c in text.chars() {
+            match c {
+                '\n' => self.list.push_str("\\n")?,
+                '\r' => self.list.push_str("\\r")?,
+                '\t' => self.list.push_str("\\t")?,
+                '\0' => self.list.push_str("\\0")?,
+                '\\' => self.list.push_str("\\\\")?,
+                other => self.list.push(other)?,
+            }
+        }
+        self.list.push_str("\"\n")
+    }
+}

@@ -1,0 +1,3 @@
+pub mod PieceLemmas
+pub mod RestLemmas
+pub mod LinesLemmas

@@ -1,0 +1,5 @@
+pub mod Trees
+pub mod Rests
+pub mod States
+pub mod Markers
+pub mod Pieces

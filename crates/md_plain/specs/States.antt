@@ -1,0 +1,85 @@
+-- What the states of the program mean.
+use Rattle.std.specs.Prelude.{ℕ, List, [], ◌∷◌, map, Option}
+use Rattle.std.specs.Option.{option_copied, option_map}
+use Rattle.md_seam.specs.Html as h
+use Rattle.md_seam.specs.State as s
+use Rattle.md_seam.specs.Leaves as l
+use Rattle.md_seam.specs.Containers as c
+use Rattle.md_plain.specs.declared.html.HtmlKind.{HtmlKind}
+use Rattle.md_plain.specs.declared.html.HtmlKind.TheVariants as kind
+use Rattle.md_plain.specs.declared.state.Container.{Container}
+use Rattle.md_plain.specs.declared.state.Container.TheVariants as container
+use Rattle.md_plain.specs.declared.state.Kept.{Kept}
+use Rattle.md_plain.specs.declared.state.Opening.{Opening}
+use Rattle.md_plain.specs.declared.state.Leaf.{Leaf}
+use Rattle.md_plain.specs.declared.state.Leaf.TheVariants as leaf
+use Rattle.md_plain.specs.declared.state.Spot.{Spot}
+use Rattle.md_plain.specs.declared.state.Frame.{Frame}
+use Rattle.md_plain.specs.declared.state.Path.{Path}
+use Rattle.md_plain.specs.declared.state.Came.{Came}
+use Rattle.md_plain.specs.declared.state.Came.TheVariants as came
+use Rattle.md_plain.specs.declared.state.Against.{Against}
+use Rattle.md_plain.specs.declared.state.Against.TheVariants as against
+use Rattle.md_plain.specs.declared.state.Taken.{Taken}
+use Rattle.md_plain.specs.Rests.{rest_meaning}
+use Rattle.md_plain.specs.Trees.{meaning, meanings, line_meanings}
+
+abbrev pub kind_meaning : HtmlKind → h.HtmlKind
+kind_meaning kind.Raw = h.Raw
+kind_meaning kind.Comment = h.Comment
+kind_meaning kind.Instruction = h.Instruction
+kind_meaning kind.Declaration = h.Declaration
+kind_meaning kind.Cdata = h.Cdata
+kind_meaning kind.Basic = h.Basic
+kind_meaning kind.Complete = h.Complete
+
+abbrev pub container_meaning : Container → s.Container
+container_meaning container.Quote = s.InQuote
+container_meaning (container.Item digits marker width starts_blank) = s.InItem digits.now marker width starts_blank
+container_meaning (container.Footnote label) = s.InFootnote label.now
+
+abbrev pub kept_meaning : Kept → s.Kept
+kept_meaning k = record { indent = k.indent; text = k.text.now }
+
+abbrev pub kept_meanings : List Kept → List s.Kept
+kept_meanings ks = map kept_meaning ks
+
+abbrev pub opening_meaning : Opening → s.Opening
+opening_meaning o = record { marker = o.marker; size = o.size; indent = o.indent; info = option_copied o.info; meta = option_copied o.meta }
+
+abbrev pub leaf_meaning : Leaf → s.Leaf
+leaf_meaning leaf.None = s.NoLeaf
+leaf_meaning (leaf.Paragraph lines) = s.OpenParagraph (kept_meanings lines.items)
+leaf_meaning (leaf.Code lines) = s.OpenCode (line_meanings lines.items)
+leaf_meaning (leaf.Fence o lines) = s.OpenFence (opening_meaning o) (line_meanings lines.items)
+leaf_meaning (leaf.Html k lines) = s.OpenHtml (kind_meaning k) (line_meanings lines.items)
+leaf_meaning (leaf.Table delimiter rows) = s.OpenTable delimiter.now (map (λ row. map (λ cell. cell.now) row.items) rows.items)
+
+abbrev pub spot_meaning : Spot → s.Spot
+spot_meaning x = record { here = meanings x.here.items; leaf = leaf_meaning x.leaf }
+
+-- these containers, and in them this path
+abbrev pub within : List Frame → s.Path → s.Path
+within [] p = p
+within (f ∷ fs) p = s.Within (meanings f.before.items) (container_meaning f.container) (within fs p)
+
+abbrev pub path_meaning : Path → s.Path
+path_meaning p = within p.frames.items (s.At (spot_meaning p.spot))
+
+abbrev pub came_meaning : Came → l.Came
+came_meaning (came.Opened x) = l.Opened (leaf_meaning x)
+came_meaning (came.Finished b) = l.Finished (meaning b)
+
+abbrev pub came_option : Option Came → Option l.Came
+came_option o = option_map came_meaning o
+
+abbrev pub against_meaning : Against → l.Against
+against_meaning against.NoText = l.NoText
+against_meaning against.Text = l.Text
+against_meaning against.LazyText = l.LazyText
+
+abbrev pub taken_meaning : Taken → c.Taken
+taken_meaning t = record { container = container_meaning t.container; rest = rest_meaning t.rest }
+
+abbrev pub taken_option : Option Taken → Option c.Taken
+taken_option o = option_map taken_meaning o

@@ -1,0 +1,57 @@
+#!/usr/bin/env python3
+"""Measures the built program `blocks` on 1, 2, 4 and 8 MB of paragraphs and breaks.
+
+`rt run` in crates/blocks builds it as crates/blocks/out/blocks. Each line of the report has the size of the text, the time
+from the start of the process to its end, the text read in a second, and the most memory that the process held (at least
+some 10 MiB, which this script holds when it starts the process). Another program may be named as the first argument.
+"""
+
+import os
+import subprocess
+import sys
+import tempfile
+import time
+from pathlib import Path
+from typing import BinaryIO
+
+MEGABYTE = 1_000_000
+PARAGRAPH = "Some words of a paragraph, which goes on for a line or two,\nand *ends* here.\n\n"
+BREAK = "* * *\n\n"
+
+
+def write_text(target: BinaryIO, size: int) -> None:
+    """Writes paragraphs, with a break after every eighth, cut to `size` bytes."""
+    part = (PARAGRAPH * 8 + BREAK).encode()
+    for _ in range(size // len(part)):
+        target.write(part)
+    target.write(part[: size % len(part)])
+
+
+def measure(program: Path, size: int) -> tuple[float, int]:
+    """Runs the program on so many bytes, and answers the seconds it took and the most kilobytes it held."""
+    with tempfile.TemporaryFile() as source:
+        write_text(source, size)
+        source.seek(0)
+        start = time.perf_counter()
+        process = subprocess.Popen([program], stdin=source, stdout=subprocess.DEVNULL)
+        _, status, usage = os.wait4(process.pid, 0)
+        seconds = time.perf_counter() - start
+        process.returncode = os.waitstatus_to_exitcode(status)
+    if process.returncode != 0:
+        raise SystemExit(f"{program} ended with status {process.returncode}")
+    return seconds, usage.ru_maxrss
+
+
+def main() -> None:
+    default = Path(__file__).resolve().parent.parent / "crates/blocks/out/blocks"
+    program = Path(sys.argv[1]) if len(sys.argv) > 1 else default
+    if not program.is_file():
+        raise SystemExit(f"{program} is not there: build it by `rt run` in its crate")
+    for megabytes in (1, 2, 4, 8):
+        seconds, kilobytes = measure(program, megabytes * MEGABYTE)
+        speed = megabytes / seconds
+        print(f"{megabytes} MB: {seconds:.2f} s, {speed:.2f} MB/s, {kilobytes / 1024:.0f} MiB at most")
+
+
+if __name__ == "__main__":
+    main()
