@@ -1,0 +1,6 @@
+pub mod Place
+pub mod Sound
+pub mod World
+pub mod Found
+pub mod Run
+pub mod Scheme

@@ -6,3 +6,6 @@ pub mod event;
 pub mod message;
 pub mod resolve;
 pub mod state;
+pub mod subtokenize;
+pub mod table;
+pub mod tokenizer;

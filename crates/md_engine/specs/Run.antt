@@ -1,0 +1,95 @@
+-- What the loop that goes from state to state comes to.
+use Rattle.std.specs.Prelude.{◌≡◌, ◌≢◌, ℕ, ◌<◌, ◌≤◌, ◌⊎◌, Bool, true, false, List, [], ◌∷◌, ◌++◌, Option, take, if◌then◌else◌}
+use Rattle.md_engine.specs.declared.resolve.Name.{Name as ResolveName}
+use Rattle.md_engine.specs.declared.state.Name.{Name as StateName}
+use Rattle.md_engine.specs.declared.state.State.{State}
+use Rattle.md_engine.specs.declared.state.State.TheVariants.{Error, Ok, Nok, Next, Retry}
+use Rattle.md_engine.specs.declared.tokenizer.Frame.{Frame}
+use Rattle.md_engine.specs.Found.{Found, nothing, with_found}
+use Rattle.md_engine.specs.World.{World, looks}
+
+-- what a call of a state may do: the state that it answers, and what the tokenizer is then
+abbrev pub Step : Type 1
+Step = StateName → World → State → World → Type 0
+
+-- what a resolver may do
+abbrev pub Resolution : Type 1
+Resolution = ResolveName → World → Option Found → World → Type 0
+
+-- a state without the choice between taking what stands here and staying at it, which no meaning needs
+abbrev pub plain : State → State
+plain (Retry name) = Next name
+plain Error = Error
+plain Ok = Ok
+plain Nok = Nok
+plain (Next name) = Next name
+
+abbrev pub IsEnd : State → Type 0
+IsEnd Ok = Unit {0}
+IsEnd Nok = Unit {0}
+IsEnd _ = ⊥
+
+-- a tokenizer that has seen what stands at its point
+abbrev pub reading : World → World
+reading w = record w { current = looks w }
+
+-- the world after an attempt is left, and whether it goes back to what it saved
+abbrev pub left : World → List Frame → Frame → Bool → World
+left w outer f back = if back then record w { frames = outer; events = take f.events_len w.events; point = f.point } else record w { frames = outer }
+
+abbrev pub goes_back : Frame → State → Bool
+goes_back f Ok = f.is_check
+goes_back f _ = true
+
+abbrev pub next_of : Frame → State → State
+next_of f Ok = f.ok
+next_of f _ = f.nok
+
+-- the innermost attempt is left
+pub record Leaves (s : State) (w : World) (s' : State) (w' : World) : Type 0 where
+  pub outer : List Frame
+  pub frame : Frame
+  pub end : IsEnd s
+  pub frames : w.frames ≡ frame ∷ outer
+  pub next : s' ≡ next_of frame s
+  pub new : w' ≡ left w outer frame (goes_back frame s)
+
+-- a state is called, at what stands at the point or at the end
+pub record Calls (T : Step) (is_end : Bool) (s : State) (w : World) (s' : State) (w' : World) : Type 0 where
+  pub name : StateName
+  pub names : plain s ≡ Next name
+  pub may : (is_end ≡ true) ⊎ (w.point.index < w.setting.limit)
+  pub step : T name (reading w) s' w'
+
+-- what one comes to, from a state and a world, by leaving attempts and calling states
+pub data Runs (T : Step) (is_end : Bool) (s : State) (w : World) : State → World → Type 0 where
+  Stays : Runs T is_end s w s w
+  ThenLeaves : (t : State) (v : World) (t' : State) (v' : World) → Runs T is_end s w t v → Leaves t v t' v' → Runs T is_end s w t' v'
+  ThenCalls : (t : State) (v : World) (t' : State) (v' : World) → Runs T is_end s w t v → Calls T is_end t v t' v' → Runs T is_end s w t' v'
+
+-- the loop ends where a state waits for more of the text, or where the construct has ended and no attempt is left
+abbrev pub IsStopped : Bool → State → World → Type 0
+IsStopped is_end Ok w = w.frames ≡ []
+IsStopped is_end Nok w = w.frames ≡ []
+IsStopped is_end Error w = Unit {0}
+IsStopped is_end (Next name) w = (is_end ≡ false) × (w.setting.limit ≤ w.point.index)
+IsStopped is_end (Retry name) w = (is_end ≡ false) × (w.setting.limit ≤ w.point.index)
+
+-- resolvers that ran in order, with what they found
+pub data Resolved (R : Resolution) (w : World) : List ResolveName → Found → World → Type 0 where
+  NoneYet : Resolved R w [] nothing w
+  More : (names : List ResolveName) (name : ResolveName) (found : Found) (more : Option Found) (v v' : World) → Resolved R w names found v → R name v more v' → Resolved R w (names ++ name ∷ []) (with_found found more) v'
+
+-- all that were registered ran, or none did
+abbrev pub ResolvedIf : Resolution → Bool → World → Found → World → Type 0
+ResolvedIf R true at found new = Resolved R (record at { resolvers = [] }) at.resolvers found new
+ResolvedIf R false at found new = (new ≡ at) × (found ≡ nothing)
+
+-- the end was fed, and the resolvers ran if asked
+pub record Flushes (T : Step) (R : Resolution) (from : State) (old : World) (resolve : Bool) (found : Found) (new : World) : Type 0 where
+  pub end : State
+  pub at : World
+  pub runs : Runs T true from old end at
+  pub ends : IsEnd end
+  pub none_left : at.frames ≡ []
+  pub resolved : ResolvedIf R resolve at found new

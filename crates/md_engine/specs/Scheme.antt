@@ -1,0 +1,185 @@
+-- When a tokenizer stands at a state, and why going from state to state ends.
+--
+-- A construct says what each of its states needs, and how far it is from taking what stands here. What follows an attempt
+-- is told to it as an `After`: what is asked where it ends. So no construct looks at the attempts around it.
+use Rattle.std.specs.Prelude.{◌≡◌, ℕ, zero, suc, ◌+◌, ◌-◌, ◌*◌, ◌%◌, ◌<◌, ◌≤◌, ◌⊎◌, nat_lt, if◌then◌else◌, List, [], ◌∷◌, Option, Some, None}
+use Rattle.md_engine.specs.declared.event.Point.{Point}
+use Rattle.md_engine.specs.declared.state.Name.{Name as StateName}
+use Rattle.md_engine.specs.declared.state.State.{State}
+use Rattle.md_engine.specs.declared.state.State.TheVariants.{Error, Ok, Nok, Next, Retry}
+use Rattle.md_engine.specs.declared.tokenizer.Frame.{Frame}
+use Rattle.md_engine.specs.declared.tokenizer.Scratch.{Scratch}
+use Rattle.md_engine.specs.Run.{plain}
+use Rattle.md_engine.specs.World.{Setting, World, looks_at}
+
+-- where a construct stands
+pub record Spot : Type 0 where
+  pub setting : Setting
+  pub point : Point
+  pub scratch : Scratch
+
+abbrev pub spot : World → Spot
+spot w = record { setting = w.setting; point = w.point; scratch = w.scratch }
+
+abbrev pub moved_to : Spot → Point → Scratch → Spot
+moved_to x p s = record x { point = p; scratch = s }
+
+-- the same text and options, where more may be read and more lines are begun
+pub record Grown (old new : Setting) : Type 0 where
+  pub bytes : new.bytes ≡ old.bytes
+  pub options : new.options ≡ old.options
+  pub limit : old.limit ≤ new.limit
+
+-- what stands here
+abbrev pub seen : Spot → Option ℕ
+seen x = looks_at x.setting x.point
+
+-- what is asked of the spot where a construct ends
+pub record After : Type 1 where
+  pub ok : Spot → Type 0
+  pub nok : Spot → Type 0
+
+-- what the states of a table need, and how far each is from the next byte among the states of its level; a frame that goes
+-- on with a state counts as many as it has tries
+pub record Scheme : Type 1 where
+  pub ready : StateName → Spot → After → Type 0
+  pub level : StateName → ℕ
+  pub rank : StateName → Spot → ℕ
+  pub tries : StateName → ℕ
+
+-- at most so many bytes and columns are left, and one fewer behind each
+abbrev pub cells_left : ℕ → Point → ℕ
+cells_left limit p = 4 * (limit - p.index) + (3 - (p.column + 3) % 4)
+
+-- it grows with each that is taken
+abbrev pub cells_before : Point → ℕ
+cells_before p = 4 * p.index + (p.column + 3) % 4
+
+abbrev pub state_level : Scheme → State → ℕ
+state_level T (Next n) = T.level n
+state_level T (Retry n) = T.level n
+state_level T _ = 0
+
+abbrev pub state_rank : Scheme → State → Spot → ℕ
+state_rank T (Next n) x = T.rank n x % 64 + 1
+state_rank T (Retry n) x = T.rank n x % 64 + 1
+state_rank T _ x = 0
+
+abbrev pub state_number : Scheme → State → Spot → ℕ
+state_number T (Next n) x = 64 * cells_left x.setting.limit x.point + T.rank n x % 64 + 1
+state_number T (Retry n) x = 64 * cells_left x.setting.limit x.point + T.rank n x % 64 + 1
+state_number T _ x = 0
+
+-- an attempt is known by what it goes on with
+abbrev pub keyed : (StateName → ℕ) → State → State → ℕ
+keyed g (Next n) _ = g n
+keyed g (Retry n) _ = g n
+keyed g _ (Next n) = g n
+keyed g _ (Retry n) = g n
+keyed g _ _ = 0
+
+abbrev pub frame_level : Scheme → Frame → ℕ
+frame_level T f = keyed T.level f.nok f.ok
+
+abbrev pub frame_rank : Scheme → Frame → ℕ
+frame_rank T f = keyed T.tries f.nok f.ok % 64
+
+abbrev pub frame_number : Scheme → ℕ → Frame → ℕ
+frame_number T limit f = 64 * cells_left limit f.point + frame_rank T f + 1
+
+abbrev pub base : ℕ → ℕ
+base limit = 256 * limit + 300
+
+-- a power
+unfoldable pub raised : ℕ → ℕ → ℕ
+raised b zero = 1
+raised b (suc l) = b * raised b l
+
+abbrev pub frames_work : Scheme → ℕ → List Frame → ℕ
+frames_work T limit [] = 0
+frames_work T limit (f ∷ fs) = frame_number T limit f * raised (base limit) (frame_level T f) + frames_work T limit fs
+
+abbrev pub state_work : Scheme → State → Spot → ℕ
+state_work T st x = state_number T st x * raised (base x.setting.limit) (state_level T st)
+
+-- it falls with every call, and with every attempt that is left
+abbrev pub work : Scheme → World → State → ℕ
+work T w st = state_work T st (spot w) + frames_work T w.setting.limit w.frames
+
+abbrev pub holds : Scheme → State → Spot → After → Type 0
+holds T (Next n) x K = T.ready n x K
+holds T (Retry n) x K = T.ready n x K
+holds T Ok x K = K.ok x
+holds T Nok x K = K.nok x
+holds T Error x K = Unit {0}
+
+-- an attempt may go on here, below what it set aside
+pub record Resumes (T : Scheme) (f : Frame) (st : State) (x : Spot) (K : After) : Type 0 where
+  pub stands : holds T st x K
+  pub level : state_level T st ≤ frame_level T f
+  pub falls : state_number T st x < frame_number T x.setting.limit f
+
+abbrev pub top : After
+top = record { ok = λ x. Unit {0}; nok = λ x. Unit {0} }
+
+abbrev pub after_frame : Scheme → Frame → After → After
+after_frame T f K = record {
+    ok = λ x. Resumes T f f.ok (if f.is_check then record x { point = f.point } else x) K;
+    nok = λ x. Resumes T f f.nok (record x { point = f.point }) K
+  }
+
+-- what is asked where the innermost attempt ends
+abbrev pub after_all : Scheme → List Frame → After
+after_all T [] = top
+after_all T (f ∷ fs) = after_frame T f (after_all T fs)
+
+-- the tokenizer stands at a state
+abbrev pub stands : Scheme → World → State → Type 0
+stands T w st = holds T st (spot w) (after_all T w.frames)
+
+-- a later point, or the same
+pub record Reaches (limit : ℕ) (p q : Point) : Type 0 where
+  pub cells : (p ≡ q) ⊎ ((cells_before p < cells_before q) × (p.index < limit))
+  pub before : cells_before p ≤ cells_before q
+
+-- wherever a construct ends with such scratch, one may go on
+pub record Ends (P Q : Scratch → Type 0) (x : Spot) (K : After) : Type 0 where
+  pub ok : (s : Scratch) (q : Point) (t : Setting) → P s → Grown x.setting t → Reaches t.limit x.point q → K.ok (record { setting = t; point = q; scratch = s })
+  pub nok : (s : Scratch) (q : Point) (t : Setting) → Q s → Grown x.setting t → K.nok (record { setting = t; point = q; scratch = s })
+
+-- what an attempt owes when it begins: what it goes on with is ready, and below what it sets aside
+pub record Tries (T : Scheme) (f : Frame) (P Q : Scratch → Type 0) (x : Spot) (K : After) : Type 0 where
+  pub ok : (s : Scratch) (q : Point) (t : Setting) → P s → Grown x.setting t → Reaches t.limit x.point q → holds T f.ok (record { setting = t; point = if f.is_check then x.point else q; scratch = s }) K
+  pub ok_level : state_level T f.ok ≤ frame_level T f
+  pub ok_rank : (s : Scratch) (t : Setting) → P s → Grown x.setting t → state_rank T f.ok (record { setting = t; point = x.point; scratch = s }) < frame_rank T f + 1
+  pub nok : (s : Scratch) (t : Setting) → Q s → Grown x.setting t → holds T f.nok (record { setting = t; point = x.point; scratch = s }) K
+  pub nok_level : state_level T f.nok ≤ frame_level T f
+  pub nok_rank : (s : Scratch) (t : Setting) → Q s → Grown x.setting t → state_rank T f.nok (record { setting = t; point = x.point; scratch = s }) < frame_rank T f + 1
+
+-- a state's call keeps what the table needs, and falls
+abbrev pub Good : Scheme → StateName → World → State → World → Type 0
+Good T n w to new = stands T new (plain to) × (work T new (plain to) < work T w (Next n))
+
+-- a table has a state as its construct has it
+pub record Fits (T own : Scheme) (n : StateName) : Type 1 where
+  pub ready : (x : Spot) (K : After) → own.ready n x K → T.ready n x K
+  pub level : T.level n ≡ own.level n
+  pub rank : (x : Spot) → T.rank n x ≡ own.rank n x
+  pub tries : T.tries n ≡ own.tries n
+
+abbrev pub FitsState : Scheme → Scheme → State → Type 1
+FitsState T own (Next n) = Fits T own n
+FitsState T own (Retry n) = Fits T own n
+FitsState T own _ = Unit {1}
+
+-- the scheme of a table, by the construct that owns each state
+abbrev pub of_owners : (StateName → Scheme) → Scheme
+of_owners owner = record { ready = λ n x K. (owner n).ready n x K; level = λ n. (owner n).level n; rank = λ n x. (owner n).rank n x; tries = λ n. (owner n).tries n }
+
+-- states that a table does not have
+abbrev pub nowhere : Scheme
+nowhere = record { ready = λ n x K. ⊥; level = λ n. 0; rank = λ n x. 0; tries = λ n. 0 }
+
+-- what a state needs still holds when more of the text may be read
+abbrev pub Grows : Scheme → Type 1
+Grows T = (n : StateName) (x : Spot) (K : After) (t : Setting) → T.ready n x K → Grown x.setting t → T.ready n (record x { setting = t }) K

@@ -1,0 +1,85 @@
+-- What contracts see of a tokenizer.
+use Rattle.std.specs.Prelude.{◌≡◌, ℕ, ◌-◌, Bool, false, ◌==◌, if◌then◌else◌, List, [], ◌∷◌, ◌++◌, Option, None, Some, reverse, slice_index, slice_get, nat_lt}
+use Rattle.std.specs.List.{list_any}
+use Rattle.md_engine.specs.declared.configuration.ParseOptions.{ParseOptions}
+use Rattle.md_engine.specs.declared.event.Point.{Point}
+use Rattle.md_engine.specs.declared.event.Event.{Event}
+use Rattle.md_engine.specs.declared.resolve.Name.{Name as ResolveName}
+use Rattle.md_engine.specs.declared.tokenizer.Flags.{Flags}
+use Rattle.md_engine.specs.declared.tokenizer.Frame.{Frame}
+use Rattle.md_engine.specs.declared.tokenizer.Line.{Line}
+use Rattle.md_engine.specs.declared.tokenizer.Scratch.{Scratch}
+use Rattle.md_engine.specs.declared.tokenizer.TheConstants.Scratch.{REST}
+use Rattle.md_engine.specs.declared.tokenizer.Tokenizer.{Tokenizer}
+use Rattle.md_engine.specs.Place.{begun_at, is_ending, next_point, seen_at}
+
+-- what no state changes: the text, the options, and what the parent says of the line that is fed
+pub record Setting : Type 0 where
+  pub bytes : List ℕ
+  pub options : ParseOptions
+  -- how far the text may be read now
+  pub limit : ℕ
+  -- where lines begin, from this line on
+  pub first_line : ℕ
+  pub skips : List Point
+  pub line : Line
+
+pub record World : Type 0 where
+  pub setting : Setting
+  pub point : Point
+  pub current : Option ℕ
+  pub events : List Event
+  -- the attempts, the innermost first
+  pub frames : List Frame
+  pub scratch : Scratch
+  pub flags : Flags
+  pub resolvers : List ResolveName
+
+abbrev pub setting_of : Tokenizer → Setting
+setting_of t = record { bytes = t.bytes.now; options = t.options.now; limit = t.limit; first_line = t.first_line; skips = t.skips.items; line = t.line }
+
+abbrev pub world : Tokenizer → World
+world t = record {
+    setting = setting_of t; point = t.point; current = t.current; events = t.events.items; frames = reverse t.frames.items;
+    scratch = t.scratch; flags = t.flags; resolvers = t.resolvers.items
+  }
+
+-- what stands at a point, as far as the text may be read
+abbrev pub looks_at : Setting → Point → Option ℕ
+looks_at x p = if nat_lt p.index x.limit then Some (seen_at x.bytes p) else None
+
+abbrev pub looks : World → Option ℕ
+looks w = looks_at w.setting w.point
+
+-- a line is begun at its first byte, or behind the prefixes of its containers
+abbrev pub line_begun : Setting → Point → Point
+line_begun x p = begun_at (slice_get x.skips (p.line - x.first_line)) p
+
+-- the point behind what stands at a point
+abbrev pub after : Setting → Point → Point
+after x p = if is_ending (slice_index x.bytes p.index) then line_begun x (next_point x.bytes p) else next_point x.bytes p
+
+-- a tokenizer that has read nothing
+abbrev pub fresh : List ℕ → ParseOptions → Point → World
+fresh bytes options p = record {
+    setting = record { bytes = bytes; options = options; limit = 0; first_line = p.line; skips = []; line = record { start = 0; lazy = false; pierce = false } };
+    point = p; current = None; events = []; frames = []; scratch = REST; flags = record { interrupt = false; concrete = false }; resolvers = []
+  }
+
+-- the next line begins at this point
+abbrev pub skipping : World → Point → World
+skipping w p = record w {
+    setting = record w.setting { skips = w.setting.skips ++ p ∷ [] };
+    point = if w.point.line == p.line then begun_at (Some p) w.point else w.point
+  }
+
+-- behind those that are registered, or before them; each once
+abbrev pub registered : (ResolveName → Bool) → List ResolveName → ResolveName → List ResolveName
+registered is_name names name = if list_any is_name names then names else names ++ name ∷ []
+
+abbrev pub registered_before : (ResolveName → Bool) → List ResolveName → ResolveName → List ResolveName
+registered_before is_name names name = if list_any is_name names then names else name ∷ names
+
+-- the text may be read up to here
+abbrev pub reads_to : World → ℕ → World
+reads_to w to = record w { setting = record w.setting { limit = to } }

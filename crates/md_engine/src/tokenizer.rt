@@ -1,0 +1,421 @@
+// The tokenizer and its primitives.
+//
+// A tokenizer walks over the text from point to point. States add events at its point, move it on, and begin attempts:
+// trials that are taken back where they fail. Each primitive says what the whole tokenizer is afterwards, by one equation
+// over `world`, which is what contracts see of a tokenizer.
+ghost use Rattle.std.specs.Prelude.{◌≡◌, ◌+◌, ◌^◌, ◌∷◌, ◌++◌, ◌<◌, ◌≤◌, [], length, All, AllPairs, if◌then◌else◌, is_ok, nat_le, nat_lt, ◌==◌, true, false, Some, None, take, IfSome, IfNone, reverse, slice_index};
+ghost use Rattle.md_engine.specs.Place.{IsPlaced, begun_at, is_pair, next_point, stepped};
+ghost use Rattle.md_engine.specs.Sound.{IsSound};
+
+use crate::configuration::ParseOptions;
+use crate::event::{Event, Kind, Link, Name, Point};
+use crate::message::Message;
+use crate::resolve::Name as ResolveName;
+use crate::state::State;
+use std::alloc::Global;
+
+/// How much whitespace a construct asks for, in columns, and how much of it was taken.
+#[derive(Clone, Copy, Debug, PartialEq, Eq)]
+pub struct Whitespace {
+    pub min: usize,
+    pub max: usize,
+    pub size: usize,
+}
+
+/// What a construct keeps from state to state. Between constructs it is at rest.
+#[derive(Clone, Copy, Debug, PartialEq, Eq)]
+pub struct Scratch {
+    /// The byte that a sequence is made of.
+    pub marker: u8,
+    /// A second such byte.
+    pub marker_b: u8,
+    /// How many there were.
+    pub size: usize,
+    /// How many there were of something else.
+    pub size_b: usize,
+    pub size_c: usize,
+    /// Where something began, as an index of the text or of the events.
+    pub start: usize,
+    /// Where it ended.
+    pub end: usize,
+    /// Whether something was met.
+    pub seen: bool,
+    /// Whether a part goes on from the line before.
+    pub connect: bool,
+    /// Names of the events that a recogniser adds.
+    pub token_1: Name,
+    pub token_2: Name,
+    pub token_3: Name,
+    pub token_4: Name,
+    pub token_5: Name,
+    pub whitespace: Whitespace,
+}
+
+impl Scratch {
+    /// What stands there between constructs.
+    pub const REST: Scratch = Scratch {
+        marker: 0,
+        marker_b: 0,
+        size: 0,
+        size_b: 0,
+        size_c: 0,
+        start: 0,
+        end: 0,
+        seen: false,
+        connect: false,
+        token_1: Name::Data,
+        token_2: Name::Data,
+        token_3: Name::Data,
+        token_4: Name::Data,
+        token_5: Name::Data,
+        whitespace: Whitespace {
+            min: 0,
+            max: 0,
+            size: 0,
+        },
+    };
+}
+
+/// What a construct tells the containers around it.
+#[derive(Clone, Copy, Debug, PartialEq, Eq)]
+pub struct Flags {
+    /// Whether a paragraph is open, which the next line would interrupt.
+    pub interrupt: bool,
+    /// Whether no container can open in the block that is open.
+    pub concrete: bool,
+}
+
+/// What the containers say of the line that is fed.
+#[derive(Clone, Copy, Debug, PartialEq, Eq)]
+pub struct Line {
+    /// The index from which on this holds.
+    pub start: usize,
+    /// Whether the line is lazy: not all containers went on, and none opened.
+    pub lazy: bool,
+    /// Whether a container opened on the line.
+    pub pierce: bool,
+}
+
+/// Where an attempt goes on, and what it goes back to.
+#[derive(Clone, Copy, Debug, PartialEq, Eq)]
+pub struct Frame {
+    pub ok: State,
+    pub nok: State,
+    /// Whether it goes back also where it held.
+    pub is_check: bool,
+    pub events_len: usize,
+    pub point: Point,
+}
+
+/// Walks over the text, and gathers events.
+#[derive(Drop)]
+pub struct Tokenizer<'a> {
+    pub alloc: Global,
+    pub bytes: &'a [u8],
+    pub options: &'a ParseOptions,
+    pub point: Point,
+    /// What stands at the point: a byte, `\n` for each line ending, or nothing at the end.
+    pub current: Option<u8>,
+    pub events: Vec<Event>,
+    pub frames: Vec<Frame>,
+    pub scratch: Scratch,
+    pub flags: Flags,
+    /// The line of the first of `skips`.
+    pub first_line: usize,
+    /// Where each line begins, behind the prefixes of its containers.
+    pub skips: Vec<Point>,
+    /// How far the text may be read now.
+    pub limit: usize,
+    pub line: Line,
+    pub resolvers: Vec<ResolveName>,
+    ghost sound: { IsSound bytes.now point limit events.items frames.items skips.items },
+}
+
+/// Goes to `State::Error` where there was no memory.
+#[macro_export]
+macro_rules! or_error {
+    ($grown:expr) => {
+        if $grown.is_err() {
+            return State::Error;
+        }
+    };
+}
+
+/// Whether CR LF stands at `index`.
+fn is_pair(bytes: &[u8], index: usize) -> bool
+    requires { index < length bytes.now }
+    ensures { result ≡ is_pair bytes.now index }
+{
+    bytes[index] == b'\r' && index + 1 < bytes.len() && bytes[index + 1] == b'\n'
+}
+
+/// The point behind this byte, or behind the pair CR LF.
+fn step(point: Point, byte: u8, pair: bool) -> Point
+    requires { (point.index < 2 ^ 61) × (point.line < 2 ^ 62) × (point.column < 2 ^ 63 + 99) × (point.vs < 4) }
+    ensures { result ≡ stepped byte pair point }
+{
+    let Point {
+        line,
+        column,
+        index,
+        vs,
+    } = point;
+    if byte == b'\n' || byte == b'\r' {
+        Point {
+            line: line + 1,
+            column: 1,
+            index: if pair { index + 2 } else { index + 1 },
+            vs: 0,
+        }
+    } else if byte == b'\t' && column % 4 != 0 {
+        Point {
+            line,
+            column: column + 1,
+            index,
+            vs: vs + 1,
+        }
+    } else {
+        Point {
+            line,
+            column: column + 1,
+            index: index + 1,
+            vs: 0,
+        }
+    }
+}
+
+impl<'a> Tokenizer<'a> {
+    ghost use Rattle.md_engine.specs.World.{world, looks, after, fresh, line_begun, reads_to, registered, registered_before, skipping};
+
+    /// A tokenizer at `point`, which has read nothing.
+    pub fn new(alloc: Global, point: Point, bytes: &'a [u8], options: &'a ParseOptions) -> Tokenizer<'a>
+        requires { IsPlaced bytes.now point }
+        ensures { world result ≡ fresh bytes.now options.now point }
+    {
+        Tokenizer {
+            alloc,
+            bytes,
+            options,
+            point,
+            current: None,
+            events: Vec::new(alloc),
+            frames: Vec::new(alloc),
+            scratch: Scratch::REST,
+            flags: Flags {
+                interrupt: false,
+                concrete: false,
+            },
+            first_line: point.line,
+            skips: Vec::new(alloc),
+            limit: 0,
+            line: Line {
+                start: 0,
+                lazy: false,
+                pierce: false,
+            },
+            resolvers: Vec::new(alloc),
+        }
+    }
+
+    /// Adds an event at the point, or changes nothing.
+    fn add(&mut self, kind: Kind, name: Name, link: Option<Link>) -> Result<(), Message>
+        ensures { world self.new ≡ record (world self.old) { events = if is_ok result then (world self.old).events ++ record { kind = kind; name = name; point = (world self.old).point; link = link } ∷ [] else (world self.old).events } }
+    {
+        let point = self.point;
+        let event = Event {
+            kind,
+            name,
+            point,
+            link,
+        };
+        match self.events.push(event) {
+            Ok(()) => Ok(()),
+            Err(_) => Err(Message),
+        }
+    }
+
+    /// Adds the begin of a part at the point, or changes nothing.
+    pub fn enter(&mut self, name: Name) -> Result<(), Message>
+        ensures { world self.new ≡ record (world self.old) { events = if is_ok result then (world self.old).events ++ record { kind = Kind.Enter; name = name; point = (world self.old).point; link = None } ∷ [] else (world self.old).events } }
+    {
+        self.add(Kind::Enter, name, None)
+    }
+
+    /// Adds the begin of a part that is read later, or changes nothing.
+    pub fn enter_link(&mut self, name: Name, link: Link) -> Result<(), Message>
+        ensures { world self.new ≡ record (world self.old) { events = if is_ok result then (world self.old).events ++ record { kind = Kind.Enter; name = name; point = (world self.old).point; link = Some link } ∷ [] else (world self.old).events } }
+    {
+        self.add(Kind::Enter, name, Some(link))
+    }
+
+    /// Adds the end of a part at the point, or changes nothing.
+    pub fn exit(&mut self, name: Name) -> Result<(), Message>
+        ensures { world self.new ≡ record (world self.old) { events = if is_ok result then (world self.old).events ++ record { kind = Kind.Exit; name = name; point = (world self.old).point; link = None } ∷ [] else (world self.old).events } }
+    {
+        self.add(Kind::Exit, name, None)
+    }
+
+    /// What stands at the point, as far as the text may be read.
+    pub fn look(&self) -> Option<u8>
+        ensures { result ≡ looks (world self.now) }
+    {
+        let Point { index, vs, .. } = self.point;
+        if index >= self.limit {
+            return None;
+        }
+        match self.bytes[index] {
+            b'\n' | b'\r' => Some(b'\n'),
+            b'\t' if vs > 0 => Some(b' '),
+            byte => Some(byte),
+        }
+    }
+
+    /// Where the line of `point` begins, if `point` is its first.
+    fn begin_line(&self, point: Point) -> Point
+        requires { IsPlaced self.now.bytes.now point }
+        ensures value { result ≡ line_begun (world self.now).setting point }
+        ensures placed { IsPlaced self.now.bytes.now result }
+    {
+        let at = point.line.saturating_sub(self.first_line);
+        if at < self.skips.len() {
+            let skip = self.skips[at];
+            if point.index <= skip.index {
+                return skip;
+            }
+        }
+        point
+    }
+
+    /// The point behind what stands at the point, before any prefix is left out.
+    fn next_point(&self) -> Point
+        requires { (world self.now).point.index < length (world self.now).setting.bytes }
+        ensures value { result ≡ next_point (world self.now).setting.bytes (world self.now).point }
+        ensures placed { IsPlaced self.now.bytes.now result }
+    {
+        let index = self.point.index;
+        step(self.point, self.bytes[index], is_pair(self.bytes, index))
+    }
+
+    /// Moves the point by one byte, one line ending or one column of a tab.
+    pub fn consume(&mut self)
+        requires { (world self.old).point.index < length (world self.old).setting.bytes }
+        ensures { world self.new ≡ record (world self.old) { point = after (world self.old).setting (world self.old).point } }
+    {
+        let next = self.next_point();
+        let byte = self.bytes[self.point.index];
+        if byte == b'\n' || byte == b'\r' {
+            self.point = self.begin_line(next);
+        } else {
+            self.point = next;
+        }
+    }
+
+    /// Begins an attempt, or changes nothing.
+    fn begin(&mut self, ok: State, nok: State, is_check: bool) -> Result<(), Message>
+        ensures { world self.new ≡ record (world self.old) { frames = if is_ok result then record { ok = ok; nok = nok; is_check = is_check; events_len = length (world self.old).events; point = (world self.old).point } ∷ (world self.old).frames else (world self.old).frames } }
+    {
+        let frame = Frame {
+            ok,
+            nok,
+            is_check,
+            events_len: self.events.len(),
+            point: self.point,
+        };
+        match self.frames.push(frame) {
+            Ok(()) => Ok(()),
+            Err(_) => Err(Message),
+        }
+    }
+
+    /// Begins an attempt, or changes nothing: what follows goes on with `ok` where it holds, and else is taken back and
+    /// goes on with `nok`. Neither takes back the scratch or the flags.
+    pub fn attempt(&mut self, ok: State, nok: State) -> Result<(), Message>
+        ensures { world self.new ≡ record (world self.old) { frames = if is_ok result then record { ok = ok; nok = nok; is_check = false; events_len = length (world self.old).events; point = (world self.old).point } ∷ (world self.old).frames else (world self.old).frames } }
+    {
+        self.begin(ok, nok, false)
+    }
+
+    /// Begins a check, or changes nothing: an attempt that is taken back also where it holds.
+    pub fn check(&mut self, ok: State, nok: State) -> Result<(), Message>
+        ensures { world self.new ≡ record (world self.old) { frames = if is_ok result then record { ok = ok; nok = nok; is_check = true; events_len = length (world self.old).events; point = (world self.old).point } ∷ (world self.old).frames else (world self.old).frames } }
+    {
+        self.begin(ok, nok, true)
+    }
+
+    /// Takes the innermost attempt, if there is one.
+    pub(crate) fn innermost(&mut self) -> Option<Frame>
+        ensures some { IfSome result (λ f. (world self.old).frames ≡ f ∷ (world self.new).frames) }
+        ensures none { IfNone result ((world self.old).frames ≡ []) }
+        ensures placed { IfSome result (λ f. IsPlaced (world self.old).setting.bytes f.point) }
+        ensures outer { IfSome result (λ f. All (λ g. g.events_len ≤ f.events_len) (world self.new).frames) }
+        ensures rest { world self.new ≡ record (world self.old) { frames = (world self.new).frames } }
+    {
+        self.frames.pop()
+    }
+
+    /// Goes back to what an attempt saved.
+    pub(crate) fn restore(&mut self, frame: Frame)
+        requires placed { IsPlaced (world self.old).setting.bytes frame.point }
+        requires outer { All (λ f. f.events_len ≤ frame.events_len) (world self.old).frames }
+        ensures { world self.new ≡ record (world self.old) { events = take frame.events_len (world self.old).events; point = frame.point } }
+    {
+        self.events.truncate(frame.events_len);
+        self.point = frame.point;
+    }
+
+    /// Sees what stands at the point.
+    pub(crate) fn see(&mut self)
+        ensures { world self.new ≡ record (world self.old) { current = looks (world self.old) } }
+    {
+        self.current = self.look();
+    }
+
+    /// Lets the text be read up to here.
+    pub(crate) fn read_to(&mut self, limit: usize)
+        requires { limit ≤ length (world self.old).setting.bytes }
+        ensures { world self.new ≡ reads_to (world self.old) limit }
+    {
+        self.limit = limit;
+    }
+
+    /// Has the next line begin at `point`, behind the prefixes of its containers, and goes there if the tokenizer stands
+    /// at the line's first byte; or changes nothing.
+    pub fn define_skip(&mut self, point: Point) -> Result<(), Message>
+        requires { IsPlaced (world self.old).setting.bytes point }
+        ensures { world self.new ≡ (if is_ok result then skipping (world self.old) point else world self.old) }
+    {
+        if self.skips.push(point).is_err() {
+            return Err(Message);
+        }
+        if self.point.line == point.line && self.point.index <= point.index {
+            self.point = point;
+        }
+        Ok(())
+    }
+
+    /// Has a resolver run at the end, behind those that are registered; or changes nothing.
+    pub fn register_resolver(&mut self, name: ResolveName) -> Result<(), Message>
+        ensures { world self.new ≡ record (world self.old) { resolvers = if is_ok result then registered (λ other. ⟦<ResolveName as PartialEq>⟧.eq other name) (world self.old).resolvers name else (world self.old).resolvers } }
+    {
+        if self.resolvers.contains(&name) {
+            return Ok(());
+        }
+        match self.resolvers.push(name) {
+            Ok(()) => Ok(()),
+            Err(_) => Err(Message),
+        }
+    }
+
+    /// Has a resolver run at the end, before those that are registered; or changes nothing.
+    pub fn register_resolver_before(&mut self, name: ResolveName) -> Result<(), Message>
+        ensures { world self.new ≡ record (world self.old) { resolvers = if is_ok result then registered_before (λ other. ⟦<ResolveName as PartialEq>⟧.eq other name) (world self.old).resolvers name else (world self.old).resolvers } }
+    {
+        if self.resolvers.contains(&name) {
+            return Ok(());
+        }
+        match self.resolvers.insert(0, name) {
+            Ok(()) => Ok(()),
+            Err(_) => Err(Message),
+        }
+    }
+}
