@@ -2,4 +2,5 @@
 // promises (`specs/`).
 #![tactic(auto)]
 
+pub mod inline;
 pub mod outline;

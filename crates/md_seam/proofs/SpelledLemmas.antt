@@ -1,0 +1,199 @@
+-- What events are read as.
+use Rattle.std.proofs.Common.{◌≡◌, ℕ, ◌+◌, Bool, true, false, cond, List, [], ◌∷◌, ◌++◌, length, refl, ap, sym, ◌∙◌, append_assoc}
+use Rattle.std.specs.Prelude.{Option, Some, None, option_map, nat_lt, slice_range}
+use Rattle.md_engine.specs.declared.event.Point.{Point}
+use Rattle.md_engine.specs.declared.event.Event.{Event}
+use Rattle.md_engine.specs.declared.event.Kind.{Kind}
+use Rattle.md_engine.specs.declared.event.Kind.TheVariants.{Enter, Exit}
+use Rattle.md_engine.specs.declared.event.Name.{Name}
+use Rattle.md_engine.specs.declared.event.Name.TheVariants as n
+use Rattle.md_seam.specs.Tree as t
+use Rattle.md_seam.specs.Texts.{split_lines, each_after_white}
+use Rattle.md_seam.specs.Nested.{enter, exit, around}
+use Rattle.md_seam.specs.Spelled.{Reading, Text, Leaf, Role, Holds, Opens, Tells, IsFence, IsTitle, IsRow, IsCell, IsPrefix, IsEnding, IsQuiet, role, then_block, add_block, byte_at, text_to, before_prefix, after_prefix, at_ending, on_leaf, next_line, read_by, read, unread, spelled}
+
+-- a reader goes on over what is appended
+pub read-append : (bytes : List ℕ) (r : Reading) (xs ys : List Event) → read bytes r (xs ++ ys) ≡ read bytes (read bytes r xs) ys
+read-append bytes r [] ys = refl
+read-append bytes r (e ∷ xs) ys = read-append bytes (read_by bytes e.kind (role e.name) e.point r) xs ys
+
+-- the events behind some others are read from what those are read as
+pub read-from : (bytes : List ℕ) (start r : Reading) (xs ys : List Event) → read bytes start xs ≡ r → read bytes start (xs ++ ys) ≡ read bytes r ys
+read-from bytes start r xs ys e = read-append bytes start xs ys ∙ ap (λ (x : Reading). read bytes x ys) e
+
+-- Events that leave what is read.
+
+-- what holds of the role of each event
+abbrev pub Roles : (Role → Type 0) → List Event → Type 0
+Roles P [] = Unit {0}
+Roles P (e ∷ es) = P (role e.name) × Roles P es
+
+pub roles-append : (P : Role → Type 0) (xs ys : List Event) → Roles P xs → Roles P ys → Roles P (xs ++ ys)
+roles-append P [] ys h k = k
+roles-append P (e ∷ xs) ys h k = (h.0, roles-append P xs ys h.1 k)
+
+-- a name that the tree does not show
+abbrev pub Quiet : Role → Type 0
+Quiet IsQuiet = Unit {0}
+Quiet _ = ⊥
+
+-- such a name, or a container prefix
+abbrev pub QuietOrPrefix : Role → Type 0
+QuietOrPrefix IsQuiet = Unit {0}
+QuietOrPrefix IsPrefix = Unit {0}
+QuietOrPrefix _ = ⊥
+
+-- what stands between blocks: such a name, a container prefix or a line ending
+abbrev pub Between : Role → Type 0
+Between IsQuiet = Unit {0}
+Between IsPrefix = Unit {0}
+Between IsEnding = Unit {0}
+Between _ = ⊥
+
+-- what an inline layer gives: such a name or a line ending
+abbrev pub QuietOrEnding : Role → Type 0
+QuietOrEnding IsQuiet = Unit {0}
+QuietOrEnding IsEnding = Unit {0}
+QuietOrEnding _ = ⊥
+
+-- a fact of roles under which an event leaves a reading, so that events do
+pub read-kept : (bytes : List ℕ) (P : Role → Type 0) (r : Reading) (es : List Event) → ((kind : Kind) (x : Role) (p : Point) → P x → read_by bytes kind x p r ≡ r) → Roles P es → read bytes r es ≡ r
+read-kept bytes P r [] kept h = refl
+read-kept bytes P r (e ∷ es) kept h = ap (λ (x : Reading). read bytes x es) (kept e.kind (role e.name) e.point h.0) ∙ read-kept bytes P r es kept h.1
+
+cond-same : (x : Bool) (a b : Reading) → a ≡ b → cond x a b ≡ b
+cond-same true a b e = e
+cond-same false a b e = refl
+
+same-text : (r : Reading) (f : Text → Text) → r.text ≡ None → record r { text = option_map f r.text } ≡ r
+same-text r f e = ap (λ (x : Option Text). record r { text = option_map f x }) e ∙ sym (ap (λ (x : Option Text). record r { text = x }) e)
+
+same-leaf : (r : Reading) (f : Leaf → Leaf) → r.leaf ≡ None → record r { leaf = option_map f r.leaf } ≡ r
+same-leaf r f e = ap (λ (x : Option Leaf). record r { leaf = option_map f x }) e ∙ sym (ap (λ (x : Option Leaf). record r { leaf = x }) e)
+
+kept-quiet : (bytes : List ℕ) (r : Reading) (kind : Kind) (x : Role) (p : Point) → Quiet x → read_by bytes kind x p r ≡ r
+kept-quiet bytes r Enter IsQuiet p h = refl
+kept-quiet bytes r Exit IsQuiet p h = refl
+kept-quiet bytes r kind _ p h = absurd h
+
+-- what the tree does not show leaves what is read, wherever it stands
+pub read-quiet : (bytes : List ℕ) (r : Reading) (es : List Event) → Roles Quiet es → read bytes r es ≡ r
+read-quiet bytes r es h = read-kept bytes Quiet r es (kept-quiet bytes r) h
+
+kept-prefix : (bytes : List ℕ) (r : Reading) → r.text ≡ None → (kind : Kind) (x : Role) (p : Point) → QuietOrPrefix x → read_by bytes kind x p r ≡ r
+kept-prefix bytes r e Enter IsQuiet p h = refl
+kept-prefix bytes r e Exit IsQuiet p h = refl
+kept-prefix bytes r e Enter IsPrefix p h = same-text r (before_prefix bytes p) e
+kept-prefix bytes r e Exit IsPrefix p h = same-text r (after_prefix p) e
+kept-prefix bytes r e kind _ p h = absurd h
+
+-- container prefixes leave what is read where no text is, also inside a fence
+pub read-prefixes : (bytes : List ℕ) (r : Reading) (es : List Event) → r.text ≡ None → Roles QuietOrPrefix es → read bytes r es ≡ r
+read-prefixes bytes r es e h = read-kept bytes QuietOrPrefix r es (kept-prefix bytes r e) h
+
+kept-ending : (bytes : List ℕ) (r : Reading) (p : Point) → r.leaf ≡ None → (text : Option Text) → at_ending bytes p text r ≡ r
+kept-ending bytes r p e (Some text) = refl
+kept-ending bytes r p e None = cond-same (nat_lt p.index (length bytes)) (on_leaf next_line r) r (same-leaf r next_line e)
+
+kept-between : (bytes : List ℕ) (r : Reading) → r.text ≡ None → r.leaf ≡ None → (kind : Kind) (x : Role) (p : Point) → Between x → read_by bytes kind x p r ≡ r
+kept-between bytes r e l Enter IsQuiet p h = refl
+kept-between bytes r e l Exit IsQuiet p h = refl
+kept-between bytes r e l Enter IsPrefix p h = same-text r (before_prefix bytes p) e
+kept-between bytes r e l Exit IsPrefix p h = same-text r (after_prefix p) e
+kept-between bytes r e l Enter IsEnding p h = refl
+kept-between bytes r e l Exit IsEnding p h = kept-ending bytes r p l r.text
+kept-between bytes r e l kind _ p h = absurd h
+
+-- what stands between blocks leaves what is read
+pub read-between : (bytes : List ℕ) (r : Reading) (es : List Event) → r.text ≡ None → r.leaf ≡ None → Roles Between es → read bytes r es ≡ r
+read-between bytes r es e l h = read-kept bytes Between r es (kept-between bytes r e l) h
+
+kept-inline : (bytes : List ℕ) (r : Reading) (text : Text) → r.text ≡ Some text → (kind : Kind) (x : Role) (p : Point) → QuietOrEnding x → read_by bytes kind x p r ≡ r
+kept-inline bytes r text e Enter IsQuiet p h = refl
+kept-inline bytes r text e Exit IsQuiet p h = refl
+kept-inline bytes r text e Enter IsEnding p h = refl
+kept-inline bytes r text e Exit IsEnding p h = ap (λ (x : Option Text). at_ending bytes p x r) e
+kept-inline bytes r text e kind _ p h = absurd h
+
+-- what an inline layer gives leaves a text that is being read
+pub read-inline : (bytes : List ℕ) (r : Reading) (text : Text) (es : List Event) → r.text ≡ Some text → Roles QuietOrEnding es → read bytes r es ≡ r
+read-inline bytes r text es e h = read-kept bytes QuietOrEnding r es (kept-inline bytes r text e) h
+
+-- Texts.
+
+-- what an event does to a text that is being read
+abbrev pub text_by : List ℕ → Kind → Role → Point → Text → Text
+text_by bytes Enter IsPrefix p text = before_prefix bytes p text
+text_by bytes Exit IsPrefix p text = after_prefix p text
+text_by bytes kind _ p text = text
+
+abbrev pub text_after : List ℕ → Text → List Event → Text
+text_after bytes text [] = text
+text_after bytes text (e ∷ es) = text_after bytes (text_by bytes e.kind (role e.name) e.point text) es
+
+pub text_after-append : (bytes : List ℕ) (text : Text) (xs ys : List Event) → text_after bytes text (xs ++ ys) ≡ text_after bytes (text_after bytes text xs) ys
+text_after-append bytes text [] ys = refl
+text_after-append bytes text (e ∷ xs) ys = text_after-append bytes (text_by bytes e.kind (role e.name) e.point text) xs ys
+
+step-text : (bytes : List ℕ) (r : Reading) (text : Text) → r.text ≡ Some text → (kind : Kind) (x : Role) (p : Point) → Between x → read_by bytes kind x p r ≡ record r { text = Some (text_by bytes kind x p text) }
+step-text bytes r text e Enter IsQuiet p h = ap (λ (x : Option Text). record r { text = x }) e
+step-text bytes r text e Exit IsQuiet p h = ap (λ (x : Option Text). record r { text = x }) e
+step-text bytes r text e Enter IsPrefix p h = ap (λ (x : Option Text). record r { text = option_map (before_prefix bytes p) x }) e
+step-text bytes r text e Exit IsPrefix p h = ap (λ (x : Option Text). record r { text = option_map (after_prefix p) x }) e
+step-text bytes r text e Enter IsEnding p h = ap (λ (x : Option Text). record r { text = x }) e
+step-text bytes r text e Exit IsEnding p h = ap (λ (x : Option Text). at_ending bytes p x r) e ∙ ap (λ (x : Option Text). record r { text = x }) e
+step-text bytes r text e kind _ p h = absurd h
+
+-- inside a text nothing but container prefixes matters
+pub read-text : (bytes : List ℕ) (r : Reading) (text : Text) (es : List Event) → r.text ≡ Some text → Roles Between es → read bytes r es ≡ record r { text = Some (text_after bytes text es) }
+read-text bytes r text [] e h = ap (λ (x : Option Text). record r { text = x }) e
+read-text bytes r text (f ∷ es) e h =
+    let next : Text = text_by bytes f.kind (role f.name) f.point text in
+    ap (λ (x : Reading). read bytes x es) (step-text bytes r text e f.kind (role f.name) f.point h.0)
+    ∙ read-text bytes (record r { text = Some next }) next es refl h.1
+
+-- what an inline layer gives moves no text
+pub text-inline : (bytes : List ℕ) (text : Text) (es : List Event) → Roles QuietOrEnding es → text_after bytes text es ≡ text
+text-inline bytes text [] h = refl
+text-inline bytes text (e ∷ es) h = ap (λ (x : Text). text_after bytes x es) (go e.kind (role e.name) h.0) ∙ text-inline bytes text es h.1
+  where
+    go : (kind : Kind) (x : Role) → QuietOrEnding x → text_by bytes kind x e.point text ≡ text
+    go Enter IsQuiet h = refl
+    go Exit IsQuiet h = refl
+    go Enter IsEnding h = refl
+    go Exit IsEnding h = refl
+    go kind _ h = absurd h
+
+-- A container prefix in a text, and the events behind it.
+pub record Cut : Type 0 where
+  pub first : Point
+  pub inside : List Event
+  pub after : Point
+  pub events : List Event
+
+abbrev pub cut_events : List Cut → List Event
+cut_events [] = []
+cut_events (cut ∷ cuts) = around n.BlockQuotePrefix cut.first cut.after cut.inside ++ (cut.events ++ cut_events cuts)
+
+-- the text from a byte to a byte, without these prefixes
+abbrev pub cut_text : List ℕ → ℕ → List Cut → ℕ → List ℕ
+cut_text bytes from [] end = slice_range bytes from end
+cut_text bytes from (cut ∷ cuts) end = slice_range bytes from cut.first.index ++ cut_text bytes (byte_at cut.after) cuts end
+
+abbrev pub CutsInline : List Cut → Type 0
+CutsInline [] = Unit {0}
+CutsInline (cut ∷ cuts) = Roles QuietOrEnding cut.inside × Roles QuietOrEnding cut.events × CutsInline cuts
+
+-- a text is what stands between its container prefixes
+pub text-cuts : (bytes : List ℕ) (text : Text) (cuts : List Cut) (end : ℕ) → CutsInline cuts → text_to bytes end (text_after bytes text (cut_events cuts)) ≡ text.front ++ cut_text bytes text.from cuts end
+text-cuts bytes text [] end h = refl
+text-cuts bytes text (cut ∷ cuts) end h =
+    let behind : Text = record text { front = text_to bytes cut.first.index text; from = byte_at cut.after } in
+    ap (text_to bytes end)
+        (ap (λ (l : List Event). text_after bytes (before_prefix bytes cut.first text) l) (append_assoc cut.inside (exit n.BlockQuotePrefix cut.after ∷ []) (cut.events ++ cut_events cuts))
+          ∙ text_after-append bytes (before_prefix bytes cut.first text) cut.inside (exit n.BlockQuotePrefix cut.after ∷ cut.events ++ cut_events cuts)
+          ∙ ap (λ (x : Text). text_after bytes x (exit n.BlockQuotePrefix cut.after ∷ cut.events ++ cut_events cuts)) (text-inline bytes (before_prefix bytes cut.first text) cut.inside h.0)
+          ∙ text_after-append bytes behind cut.events (cut_events cuts)
+          ∙ ap (λ (x : Text). text_after bytes x (cut_events cuts)) (text-inline bytes behind cut.events h.1))
+      ∙ text-cuts bytes behind cuts end h.2
+      ∙ append_assoc text.front (slice_range bytes text.from cut.first.index) (cut_text bytes (byte_at cut.after) cuts end)

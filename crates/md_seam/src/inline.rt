@@ -1,0 +1,21 @@
+// What the block parser hands to an inline layer: the text parts of a document, each as the chunks that it stands in.
+
+use md_engine::event::Point;
+
+/// What a text part may hold.
+#[derive(Clone, Copy, Debug, PartialEq, Eq)]
+pub enum PartKind {
+    /// Any inline content: a paragraph, a heading or a cell of a table.
+    Text,
+    /// Text with escapes and references alone: an info string, a label, a destination or a title.
+    String,
+}
+
+/// What a text part has on one line, with the line's ending where the part goes on behind it.
+#[derive(Clone, Copy, Debug, PartialEq, Eq)]
+pub struct Chunk {
+    /// Where it begins.
+    pub first: Point,
+    /// Where it has ended.
+    pub after: Point,
+}
