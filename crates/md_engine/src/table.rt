@@ -106,3 +106,34 @@ pub fn push<T: Table>(tokenizer: &mut Tokenizer, to: usize, state: State) -> Sta
     tokenizer.read_to(to);
     run::<T>(tokenizer, state, false)
 }
+
+/// Feeds the end of the text, runs the resolvers that were registered if asked, and answers what they found.
+///
+/// A tokenizer that has answered an `Err` is only dropped.
+pub fn flush<T: Table>(
+    tokenizer: &mut Tokenizer,
+    state: State,
+    resolve: bool,
+) -> Result<Subresult, Message>
+    requires stands { stands T.scheme (world tokenizer.old) (plain state) }
+    ensures { IfOk result (λ found. Flushes T.step T.resolves state (world tokenizer.old) resolve (found_in found) (world tokenizer.new)) }
+{
+    if run::<T>(tokenizer, state, true) == State::Error {
+        return Err(Message);
+    }
+    let mut found = Subresult {
+        done: false,
+        gfm_footnote_definitions: Vec::new(tokenizer.alloc),
+        definitions: Vec::new(tokenizer.alloc),
+    };
+    if resolve {
+        let none = Vec::new(tokenizer.alloc);
+        let names = mem::replace(&mut tokenizer.resolvers, none);
+        for name in names.iter() {
+            if let Some(more) = T::resolve(tokenizer, *name)? {
+                found.append(more)?;
+            }
+        }
+    }
+    Ok(found)
+}

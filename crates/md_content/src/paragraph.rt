@@ -1,0 +1,65 @@
+// Paragraphs (CommonMark 4.8).
+//
+//     paragraph ::= 1*line
+//
+// It adds `Paragraph` around one linked `Data` a line, which reaches over the line's ending where the paragraph goes on.
+
+use md_engine::event::{Content, Link, Name};
+use md_engine::or_error;
+use md_engine::state::{Name as StateName, State};
+use md_engine::tokenizer::Tokenizer;
+
+/// Before a paragraph.
+///
+/// ```markdown
+/// > | a
+///     ^
+///   | b
+/// ```
+pub fn start(tokenizer: &mut Tokenizer) -> State {
+    or_error!(tokenizer.enter(Name::Paragraph));
+    State::Retry(StateName::ParagraphLineStart)
+}
+
+/// Before a line.
+///
+/// ```markdown
+/// > | a
+///     ^
+/// > | b
+///     ^
+/// ```
+pub fn line_start(tokenizer: &mut Tokenizer) -> State {
+    let link = Link {
+        previous: None,
+        next: None,
+        content: Content::Text,
+    };
+    or_error!(tokenizer.enter_link(Name::Data, link));
+    State::Retry(StateName::ParagraphInside)
+}
+
+/// In a line.
+///
+/// ```markdown
+/// > | ab
+///     ^^
+/// ```
+pub fn inside(tokenizer: &mut Tokenizer) -> State {
+    match tokenizer.current {
+        None => {
+            or_error!(tokenizer.exit(Name::Data));
+            or_error!(tokenizer.exit(Name::Paragraph));
+            State::Ok
+        }
+        Some(b'\n') => {
+            tokenizer.consume();
+            or_error!(tokenizer.exit(Name::Data));
+            State::Next(StateName::ParagraphLineStart)
+        }
+        _ => {
+            tokenizer.consume();
+            State::Next(StateName::ParagraphInside)
+        }
+    }
+}
