@@ -4,6 +4,13 @@
 //
 // It adds one `SpaceOrTab` around them, and nothing where there are none.
 
+ghost use Rattle.std.specs.Prelude.{◌≡◌, ◌≢◌};
+ghost use Rattle.md_engine.specs.World.{world};
+ghost use Rattle.md_engine.specs.declared.state.Name.{Name as StateName};
+ghost use Rattle.md_engine.specs.declared.state.State.{State};
+ghost use Rattle.md_seam.specs.Spaces.{WhiteNeeds, after_went, any_size, inside_went, sees_white, small_indent, start_went, white_then};
+ghost use Rattle.md_seam.specs.Went.{IsAt};
+
 use md_engine::event::Name;
 use md_engine::or_error;
 use md_engine::state::{Name as StateName, State};
@@ -13,12 +20,19 @@ use md_engine::tokenizer::{Tokenizer, Whitespace};
 const SMALL_INDENT: usize = 3;
 
 /// Whether this is a space or a tab.
-pub fn is_space_or_tab(current: Option<u8>) -> bool {
-    current == Some(b' ') || current == Some(b'\t')
+pub fn is_space_or_tab(current: Option<u8>) -> bool
+    ensures { result ≡ sees_white current }
+{
+    match current {
+        Some(byte) => byte == b' ' || byte == b'\t',
+        None => false,
+    }
 }
 
 /// The greatest small indent, in columns: 3, or any where there is no indented code.
-pub fn small_indent(tokenizer: &Tokenizer) -> usize {
+pub fn small_indent(tokenizer: &Tokenizer) -> usize
+    ensures { result ≡ small_indent (world tokenizer.now).setting.options }
+{
     if tokenizer.options.constructs.code_indented {
         SMALL_INDENT
     } else {
@@ -34,14 +48,20 @@ pub fn space_or_tab_min_max(
     max: usize,
     ok: State,
     nok: State,
-) -> State {
+) -> State
+    ensures to { result ≢ State.Error → result ≡ (white_then (world tokenizer.old) min max ok nok).to }
+    ensures world { result ≢ State.Error → world tokenizer.new ≡ (white_then (world tokenizer.old) min max ok nok).world }
+{
     or_error!(tokenizer.attempt(ok, nok));
     tokenizer.scratch.whitespace = Whitespace { min, max, size: 0 };
     State::Retry(StateName::SpaceOrTabStart)
 }
 
 /// Tries at least one space or tab, and goes on with `ok` where it is there, else with `nok`.
-pub fn space_or_tab(tokenizer: &mut Tokenizer, ok: State, nok: State) -> State {
+pub fn space_or_tab(tokenizer: &mut Tokenizer, ok: State, nok: State) -> State
+    ensures to { result ≢ State.Error → result ≡ (white_then (world tokenizer.old) 1 any_size ok nok).to }
+    ensures world { result ≢ State.Error → world tokenizer.new ≡ (white_then (world tokenizer.old) 1 any_size ok nok).world }
+{
     space_or_tab_min_max(tokenizer, 1, usize::MAX, ok, nok)
 }
 
@@ -51,7 +71,11 @@ pub fn space_or_tab(tokenizer: &mut Tokenizer, ok: State, nok: State) -> State {
 /// > |   a
 ///     ^
 /// ```
-pub fn start(tokenizer: &mut Tokenizer) -> State {
+pub fn start(tokenizer: &mut Tokenizer) -> State
+    requires { IsAt WhiteNeeds StateName.SpaceOrTabStart (world tokenizer.old) }
+    ensures to { result ≢ State.Error → result ≡ (start_went (world tokenizer.old)).to }
+    ensures world { result ≢ State.Error → world tokenizer.new ≡ (start_went (world tokenizer.old)).world }
+{
     if is_space_or_tab(tokenizer.current) && tokenizer.scratch.whitespace.max > 0 {
         or_error!(tokenizer.enter(Name::SpaceOrTab));
         State::Retry(StateName::SpaceOrTabInside)
@@ -66,7 +90,11 @@ pub fn start(tokenizer: &mut Tokenizer) -> State {
 /// > |   a
 ///      ^
 /// ```
-pub fn inside(tokenizer: &mut Tokenizer) -> State {
+pub fn inside(tokenizer: &mut Tokenizer) -> State
+    requires { IsAt WhiteNeeds StateName.SpaceOrTabInside (world tokenizer.old) }
+    ensures to { result ≢ State.Error → result ≡ (inside_went (world tokenizer.old)).to }
+    ensures world { result ≢ State.Error → world tokenizer.new ≡ (inside_went (world tokenizer.old)).world }
+{
     let Whitespace { max, size, .. } = tokenizer.scratch.whitespace;
     if is_space_or_tab(tokenizer.current) && size < max {
         tokenizer.consume();
@@ -84,7 +112,11 @@ pub fn inside(tokenizer: &mut Tokenizer) -> State {
 /// > |   a
 ///       ^
 /// ```
-pub fn after(tokenizer: &mut Tokenizer) -> State {
+pub fn after(tokenizer: &mut Tokenizer) -> State
+    requires { IsAt WhiteNeeds StateName.SpaceOrTabAfter (world tokenizer.old) }
+    ensures to { result ≡ (after_went (world tokenizer.old)).to }
+    ensures world { world tokenizer.new ≡ (after_went (world tokenizer.old)).world }
+{
     let Whitespace { min, size, .. } = tokenizer.scratch.whitespace;
     tokenizer.scratch.whitespace = Whitespace {
         min: 0,
