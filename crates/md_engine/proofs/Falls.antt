@@ -1,5 +1,5 @@
 -- How attempts end where they owe to, and why leaving one makes the number of a tokenizer fall.
-use Rattle.std.proofs.Common.{◌≡◌, ℕ, ◌+◌, ◌%◌, ◌<◌, ◌≤◌, Bool, true, false, cond, List, ◌∷◌, Option, Some, None, refl, arith, ap, sym, ◌∙◌, inl, inr, ◌⊎◌, nat_lt, subst}
+use Rattle.std.proofs.Common.{◌≡◌, ℕ, ◌+◌, ◌<◌, ◌≤◌, Bool, true, false, cond, List, ◌∷◌, Option, Some, None, refl, arith, ap, sym, inl, inr, ◌⊎◌, nat_lt, subst}
 use Rattle.std.proofs.lemmas.Bool.Decides.{nat_tests}
 use Rattle.md_engine.specs.declared.event.Point.{Point}
 use Rattle.md_engine.specs.declared.state.Name.{Name as StateName}
@@ -7,9 +7,9 @@ use Rattle.md_engine.specs.declared.state.State.{State}
 use Rattle.md_engine.specs.declared.state.State.TheVariants.{Error, Ok, Nok, Next, Retry}
 use Rattle.md_engine.specs.declared.tokenizer.Frame.{Frame}
 use Rattle.md_engine.specs.declared.tokenizer.Scratch.{Scratch}
-use Rattle.md_engine.specs.World.{Setting, World, looks, looks_at}
+use Rattle.md_engine.specs.World.{Setting, World}
 use Rattle.md_engine.specs.Place.{seen_at}
-use Rattle.md_engine.specs.Run.{IsEnd, Leaves, goes_back, left, next_of, plain, reading}
+use Rattle.md_engine.specs.Run.{IsEnd, Leaves, goes_back, left, next_of, plain}
 use Rattle.md_engine.specs.Scheme.{After, Ends, Grown, Grows, Reaches, Resumes, Scheme, Spot, Tries, after_all, after_frame, base, cells_before, frame_level, frame_number, frame_rank, frames_work, holds, moved_to, seen, spot, spot_at, stands, state_level, state_number, state_rank, state_work, work}
 use Rattle.md_engine.proofs.Points.{grown-same, grown-then, stays, then_reaches}
 use Rattle.md_engine.proofs.Powers.{weighs}
@@ -20,9 +20,9 @@ number-small T n x = omega arith
 -- what a construct owes where it ends, it owes from a later spot
 pub later_at : (P Q : Scratch → Type 0) (x : Spot) (K : After) (q : Point) (t : Setting) (s : Scratch) → Grown x.setting t → Reaches t.limit x.point q → Ends P Q x K → Ends P Q (spot_at t q s) K
 later_at P Q x K q t s g r e = record {
-    ok = λ v p u is up way. e.ok v p u is (grown-then x.setting t u g up) (then_reaches t.limit u.limit x.point q p up.limit r way);
-    nok = λ v p u is up. e.nok v p u is (grown-then x.setting t u g up)
-  }
+  ok = λ v p u is up way. e.ok v p u is (grown-then x.setting t u g up) (then_reaches t.limit u.limit x.point q p up.limit r way);
+  nok = λ v p u is up. e.nok v p u is (grown-then x.setting t u g up);
+}
 
 pub later : (P Q : Scratch → Type 0) (x : Spot) (K : After) (q : Point) (s : Scratch) → Reaches x.setting.limit x.point q → Ends P Q x K → Ends P Q (moved_to x q s) K
 later P Q x K q s r e = later_at P Q x K q x.setting s (grown-same x.setting) r e
@@ -33,10 +33,10 @@ seen_grows x t s b g e = go (nat_lt x.point.index x.setting.limit) refl
   where
     go : (c : Bool) → nat_lt x.point.index x.setting.limit ≡ c → seen (spot_at t x.point s) ≡ Some b
     go true k =
-      let le : x.setting.limit ≤ t.limit = g.limit in
-      let inside : nat_lt x.point.index t.limit ≡ true = grind (arith, nat_tests) in
-      let here : Some (seen_at x.setting.bytes x.point) ≡ Some b = rw k at e in
-      rw (inside, g.bytes) here
+        let le : x.setting.limit ≤ t.limit = g.limit in
+        let inside : nat_lt x.point.index t.limit ≡ true = grind (arith, nat_tests) in
+        let here : Some (seen_at x.setting.bytes x.point) ≡ Some b = rw k at e in
+        rw (inside, g.bytes) here
     go false k = let none : (let o : Option ℕ = None in o) ≡ Some b = rw k at e in cc
 
 -- what is tried ends as is owed, where what it goes on with is ready and below
@@ -55,18 +55,18 @@ resumes T f st x K p same r h l k = record { stands = h; level = l; falls = go s
 
 pub tries : (T : Scheme) (f : Frame) (P Q : Scratch → Type 0) (x : Spot) (K : After) → f.point ≡ x.point → Tries T f P Q x K → Ends P Q x (after_frame T f K)
 tries T f P Q x K same h = record {
-    ok = λ s q t is up way. go f.is_check s q t is up way (h.ok s q t is up way);
-    nok = λ s q t is up.
+  ok = λ s q t is up way. go f.is_check s q t is up way (h.ok s q t is up way);
+  nok = λ s q t is up.
       let P' : Point → Type 0 = λ p. Resumes T f f.nok (spot_at t p s) K in
-      subst P' (sym same) (resumes T f f.nok (spot_at t x.point s) K x.point same (stays t.limit x.point) (h.nok s t is up) h.nok_level (λ e. h.nok_rank s t is up))
-  }
+      subst P' (sym same) (resumes T f f.nok (spot_at t x.point s) K x.point same (stays t.limit x.point) (h.nok s t is up) h.nok_level (λ e. h.nok_rank s t is up));
+}
   where
     go : (b : Bool) (s : Scratch) (q : Point) (t : Setting) → P s → Grown x.setting t → Reaches t.limit x.point q → holds T f.ok (cond b (spot_at t x.point s) (spot_at t q s)) K → Resumes T f f.ok (cond b (spot_at t f.point s) (spot_at t q s)) K
     go true s q t is up way k =
-      let P' : Point → Type 0 = λ p. Resumes T f f.ok (spot_at t p s) K in
-      subst P' (sym same) (resumes T f f.ok (spot_at t x.point s) K x.point same (stays t.limit x.point) k h.ok_level (λ e. h.ok_rank s t is up))
+        let P' : Point → Type 0 = λ p. Resumes T f f.ok (spot_at t p s) K in
+        subst P' (sym same) (resumes T f f.ok (spot_at t x.point s) K x.point same (stays t.limit x.point) k h.ok_level (λ e. h.ok_rank s t is up))
     go false s q t is up way k = resumes T f f.ok (spot_at t q s) K x.point same way k h.ok_level (λ e.
-      let P' : Point → Type 0 = λ p. state_rank T f.ok (spot_at t p s) < frame_rank T f + 1 in subst P' (sym e) (h.ok_rank s t is up))
+        let P' : Point → Type 0 = λ p. state_rank T f.ok (spot_at t p s) < frame_rank T f + 1 in subst P' (sym e) (h.ok_rank s t is up))
 
 -- more of the text may be read, between two pushes
 pub stands_grows : (T : Scheme) (w : World) (n : StateName) (t : Setting) (c : Option ℕ) → Grows T → stands T w (Next n) → Grown w.setting t → stands T (record w { setting = t; current = c }) (Next n)
@@ -79,9 +79,11 @@ resumed T w fs f s end e st = go s end (subst Q e st)
   where
     Q : List Frame → Type 0
     Q = λ x. holds T (plain s) (spot w) (after_all T x)
+
     back : (b : Bool) → Resumes T f f.ok (cond b (record (spot w) { point = f.point }) (spot w)) (after_all T fs) → Resumes T f f.ok (spot (left w fs f b)) (after_all T fs)
     back true r = r
     back false r = r
+
     go : (s : State) → IsEnd s → holds T (plain s) (spot w) (after_all T (f ∷ fs)) → Resumes T f (next_of f s) (spot (left w fs f (goes_back f s))) (after_all T fs)
     go Ok end h = back f.is_check h
     go Nok end h = h
@@ -107,7 +109,7 @@ left-frames : (w : World) (fs : List Frame) (f : Frame) (b : Bool) → (left w f
 left-frames w fs f true = refl
 left-frames w fs f false = refl
 
-left-limit : (w : World) (fs : List Frame) (f : Frame) (b : Bool) → (left w fs f b).limit ≡ w.setting.limit
+left-limit : (w : World) (fs : List Frame) (f : Frame) (b : Bool) → (left w fs f b).setting.limit ≡ w.setting.limit
 left-limit w fs f true = refl
 left-limit w fs f false = refl
 
@@ -129,7 +131,7 @@ falls-with : (T : Scheme) (limit : ℕ) (fs : List Frame) (f : Frame) (st : Stat
     state_level T st ≤ frame_level T f → state_number T st x < frame_number T x.setting.limit f → work T w' (plain st) < frames_work T limit (f ∷ fs)
 falls-with T limit fs f st x w' fr sp li le lt =
     let same = plain-work T st (spot w') in
-    let P : Spot → Type 0 = λ y. state_number T st y < frame_number T y.limit f in
+    let P : Spot → Type 0 = λ y. state_number T st y < frame_number T y.setting.limit f in
     let there : state_number T st (spot w') < frame_number T w'.setting.limit f = subst P sp lt in
     let less = weighs w'.setting.limit (state_number T st (spot w')) (frame_number T w'.setting.limit f) (state_level T st) (frame_level T f) there le in
     let all : work T w' (plain st) < frames_work T w'.setting.limit (f ∷ fs) = let g : state_work T st (spot w') + frames_work T w'.setting.limit fs < frames_work T w'.setting.limit (f ∷ fs) = omega (arith, less) in rw (fr, same) g in

@@ -1,6 +1,5 @@
 -- what a construct proves of each of its states, whatever table it stands in
-use Rattle.std.proofs.Common.{◌≡◌, ℕ, ◌+◌, ◌%◌, ◌<◌, ◌≤◌, true, false, List, ◌∷◌, Option, Some, None, refl, arith, ap, nat_lt, inl}
-use Rattle.std.proofs.lemmas.Bool.Decides.{nat_tests}
+use Rattle.std.proofs.Common.{◌≡◌, ℕ, ◌+◌, ◌%◌, ◌<◌, ◌≤◌, List, ◌∷◌, refl, arith, ap}
 use Rattle.md_engine.specs.declared.event.Event.{Event}
 use Rattle.md_engine.specs.declared.event.Point.{Point}
 use Rattle.md_engine.specs.declared.state.Name.{Name as StateName}
@@ -8,8 +7,8 @@ use Rattle.md_engine.specs.declared.state.State.{State}
 use Rattle.md_engine.specs.declared.state.State.TheVariants.{Error, Ok, Nok, Next, Retry}
 use Rattle.md_engine.specs.declared.tokenizer.Frame.{Frame}
 use Rattle.md_engine.specs.declared.tokenizer.Scratch.{Scratch}
-use Rattle.md_engine.specs.World.{Setting, World, after}
-use Rattle.md_engine.specs.Scheme.{Reaches, after_frame, Spot, spot, moved_to, seen, After, Scheme, state_level, state_rank, state_number, keyed, frame_level, frame_rank, frame_number, base, frames_work, work, holds, after_all, Ends, Tries, Good, Fits, FitsState, of_owners}
+use Rattle.md_engine.specs.World.{World, after}
+use Rattle.md_engine.specs.Scheme.{Reaches, after_frame, Spot, spot, moved_to, After, Scheme, state_level, state_rank, state_number, keyed, frame_level, frame_rank, frame_number, base, frames_work, work, holds, after_all, Ends, Tries, Good, Fits, FitsState, of_owners}
 use Rattle.md_engine.proofs.Falls.{later, tries}
 use Rattle.md_engine.proofs.Points.{cells-fall, grown-same, stays}
 use Rattle.md_engine.proofs.Powers.{weighs, weighs_with}
@@ -106,7 +105,7 @@ tries_by T own f P Q x K a b t =
       ok_rank = λ s v is up. rw (r, rank_by T own f.ok _ a) (t.ok_rank s v is up);
       nok = λ s v is up. holds_by T own f.nok _ K b (t.nok s v is up);
       nok_level = rw (low, level_by T own f.nok b) t.nok_level;
-      nok_rank = λ s v is up. rw (r, rank_by T own f.nok _ b) (t.nok_rank s v is up)
+      nok_rank = λ s v is up. rw (r, rank_by T own f.nok _ b) (t.nok_rank s v is up);
     }
 
 -- an attempt at another construct, of a lower level, here or behind the cell that is here

@@ -1,11 +1,11 @@
 -- How far points are from the limit, and what is seen at them.
-use Rattle.std.proofs.Common.{◌≡◌, ℕ, ◌+◌, ◌-◌, ◌*◌, ◌%◌, ◌<◌, ◌≤◌, Bool, true, false, cond, not, ◌&&◌, nat_eq, nat_lt, Option, Some, None, refl, arith, sym, ◌∙◌, inl, inr, ◌⊎◌, subst}
+use Rattle.std.proofs.Common.{◌≡◌, ℕ, ◌+◌, ◌-◌, ◌%◌, ◌<◌, ◌≤◌, Bool, true, false, cond, not, ◌&&◌, nat_eq, Option, Some, None, refl, arith, ◌∙◌, inl, inr, ◌⊎◌, subst}
 use Rattle.std.specs.Prelude.{nat_le, slice_get, slice_index}
 use Rattle.std.proofs.lemmas.Bool.{eqb-false}
 use Rattle.std.proofs.lemmas.Bool.Decides.{nat_tests}
 use Rattle.md_engine.specs.declared.event.Point.{Point}
-use Rattle.md_engine.specs.Place.{begun_at, is_ending, is_pair, next_point, stepped}
-use Rattle.md_engine.specs.Scheme.{Grown, Reaches, Spot, cells_before, cells_left, seen}
+use Rattle.md_engine.specs.Place.{begun_at, is_ending, is_pair}
+use Rattle.md_engine.specs.Scheme.{Grown, Reaches, cells_before, cells_left}
 use Rattle.md_engine.specs.World.{Setting, after, line_begun}
 
 -- a point that lies so much later
@@ -25,11 +25,11 @@ later-after : (x : Setting) (p : Point) → Later p (after x p)
 later-after x p = go (is_ending (slice_index x.bytes p.index)) (is_pair x.bytes p.index) (nat_eq (slice_index x.bytes p.index) 9) (nat_eq (p.column % 4) 0) refl
   where
     go : (e y z t : Bool) → nat_eq (p.column % 4) 0 ≡ t →
-      let q : Point = cond e (record { line = p.line + 1; column = 1; index = cond y (p.index + 2) (p.index + 1); vs = 0 })
+        let q : Point = cond e (record { line = p.line + 1; column = 1; index = cond y (p.index + 2) (p.index + 1); vs = 0 })
         (cond (z && not t) (record p { column = p.column + 1; vs = p.vs + 1 }) (record p { column = p.column + 1; index = p.index + 1; vs = 0 })) in
-      Later p (cond e (line_begun x q) q)
-    go true true z t k = begun-later p _ _ (omega arith)
-    go true false z t k = begun-later p _ _ (omega arith)
+        Later p (cond e (line_begun x q) q)
+    go true true z t k = let q : Point = record { line = p.line + 1; column = 1; index = p.index + 2; vs = 0 } in begun-later p q (slice_get x.skips (q.line - x.first_line)) (omega arith)
+    go true false z t k = let q : Point = record { line = p.line + 1; column = 1; index = p.index + 1; vs = 0 } in begun-later p q (slice_get x.skips (q.line - x.first_line)) (omega arith)
     go false y true true k = record { index = omega arith; cells = omega arith }
     go false y true false k = let more : 0 < p.column % 4 = omega (arith, eqb-false (p.column % 4) 0 k) in record { index = omega arith; cells = omega (arith, more) }
     go false y false t k = record { index = omega arith; cells = omega arith }

@@ -1,5 +1,5 @@
 -- How a tokenizer stays sound.
-use Rattle.std.proofs.Common.{◌≡◌, ℕ, zero, suc, ◌+◌, ◌-◌, ◌*◌, ◌%◌, ◌<◌, ◌≤◌, ◌^◌, Bool, true, false, cond, not, nat_lt, ◌&&◌, ◌||◌, nat_eq, List, [], ◌∷◌, ◌++◌, length, reverse, Option, Some, None, IfSome, append-nil, get_or, take, refl, sym, ◌∙◌, ap, subst, arith, length-append}
+use Rattle.std.proofs.Common.{◌≡◌, ℕ, suc, ◌+◌, ◌-◌, ◌*◌, ◌%◌, ◌<◌, ◌≤◌, Bool, true, false, cond, not, nat_lt, ◌&&◌, nat_eq, List, [], ◌∷◌, ◌++◌, length, reverse, Option, Some, None, IfNone, IfSome, append-nil, get_or, take, refl, sym, ◌∙◌, ap, arith, length-append}
 use Rattle.std.specs.Prelude.{nat_le, slice_get, slice_index}
 use Rattle.std.specs.List.{All, AllPairs}
 use Rattle.std.specs.Option.{option_to_list}
@@ -9,11 +9,11 @@ use Rattle.std.proofs.lemmas.Bool.{eqb-false}
 use Rattle.std.proofs.lemmas.Bool.Decides.{nat_tests}
 use Rattle.std.proofs.lemmas.List.{get_or_append_left, get_or_push, length-take, length-reverse, get_or-reverse, reverse-reverse}
 use Rattle.std.proofs.lemmas.Option.{slice_get_past, slice_get_read}
-use Rattle.std.proofs.lemmas.List.Elements.{All-push, All-take, All-weaker, All-get_or}
+use Rattle.std.proofs.lemmas.List.Elements.{All-push, All-take, All-weaker}
 use Rattle.md_engine.specs.declared.event.Event.{Event}
 use Rattle.md_engine.specs.declared.event.Point.{Point}
 use Rattle.md_engine.specs.declared.tokenizer.Frame.{Frame}
-use Rattle.md_engine.specs.Place.{IsPlaced, IsReached, is_ending, is_pair, next_point, stepped, walked}
+use Rattle.md_engine.specs.Place.{IsPlaced, IsReached, is_ending, is_pair, next_point, walked}
 use Rattle.md_engine.specs.Sound.{IsSaved, IsSound}
 use Rattle.md_engine.specs.World.{Setting, line_begun}
 
@@ -32,8 +32,10 @@ index-next bytes p lt = go (is_ending (slice_index bytes p.index)) (is_pair byte
       where
         second : nat_eq (slice_index bytes (p.index + 1)) 10 ≡ true
         second = grind (arith, nat_tests)
+
         first : (n : ℕ) → length bytes ≡ n → p.index + 2 ≤ length bytes
         first n k = grind (arith, nat_tests, second, get_or-eq_default)
+
     go : (x y z : Bool) → is_ending (slice_index bytes p.index) ≡ x → is_pair bytes p.index ≡ y → ((nat_eq (slice_index bytes p.index) 9) && not (nat_eq (p.column % 4) 0)) ≡ z → (next_point bytes p).index ≤ length bytes
     go true y z e k h = rw e (within (is_pair bytes p.index) refl)
     go false y true e k h = rw (e, h) (omega arith)
@@ -42,21 +44,21 @@ index-next bytes p lt = go (is_ending (slice_index bytes p.index)) (is_pair byte
 -- the next point is placed
 pub placed-next : (bytes : List ℕ) (p : Point) → IsPlaced bytes p → p.index < length bytes → IsPlaced bytes (next_point bytes p)
 placed-next bytes p h lt = record {
-    sized = h.sized;
-    index = index-next bytes p lt;
-    line = numbers.0;
-    column = numbers.1;
-    vs = numbers.2;
-    reached = ∥∥₁_map h.reached (reached-next bytes p)
-  }
+  sized = h.sized;
+  index = index-next bytes p lt;
+  line = numbers.0;
+  column = numbers.1;
+  vs = numbers.2;
+  reached = ∥∥₁_map h.reached (reached-next bytes p);
+}
   where
     numbers : ((next_point bytes p).line ≤ (next_point bytes p).index + 1) × ((next_point bytes p).column ≤ 4 * (next_point bytes p).index + (next_point bytes p).vs + 1) × ((next_point bytes p).vs ≤ ((next_point bytes p).column + 3) % 4)
     numbers = go (is_ending (slice_index bytes p.index)) (is_pair bytes p.index) (nat_eq (slice_index bytes p.index) 9) (nat_eq (p.column % 4) 0) refl
       where
         go : (x y z t : Bool) → nat_eq (p.column % 4) 0 ≡ t →
-          let q : Point = cond x (record { line = p.line + 1; column = 1; index = cond y (p.index + 2) (p.index + 1); vs = 0 })
+            let q : Point = cond x (record { line = p.line + 1; column = 1; index = cond y (p.index + 2) (p.index + 1); vs = 0 })
             (cond (z && not t) (record p { column = p.column + 1; vs = p.vs + 1 }) (record p { column = p.column + 1; index = p.index + 1; vs = 0 })) in
-          (q.line ≤ q.index + 1) × (q.column ≤ 4 * q.index + q.vs + 1) × (q.vs ≤ (q.column + 3) % 4)
+            (q.line ≤ q.index + 1) × (q.column ≤ 4 * q.index + q.vs + 1) × (q.vs ≤ (q.column + 3) % 4)
         go true true z t e = (omega (arith, h.line), omega arith, omega arith)
         go true false z t e = (omega (arith, h.line), omega arith, omega arith)
         go false y true true e = (omega (arith, h.line), omega (arith, h.column, h.vs), omega arith)
@@ -67,13 +69,13 @@ placed-next bytes p h lt = record {
 pub sound-add : (bytes : List ℕ) (p : Point) (limit : ℕ) (events : List Event) (e : Event) (frames : List Frame) (skips : List Point) →
     IsSound bytes p limit events frames skips → e.point ≡ p → IsSound bytes p limit (events ++ e ∷ []) frames skips
 sound-add bytes p limit events e frames skips h same = record {
-    placed = h.placed;
-    readable = h.readable;
-    right = All-push (λ (x : Event). IsPlaced bytes x.point) events e h.right (rw same h.placed);
-    saved = All-weaker (IsSaved bytes (length events)) (IsSaved bytes (length (events ++ e ∷ []))) (λ f s. record { placed = s.placed; within = simp length-append (omega (arith, s.within)) }) frames h.saved;
-    nested = h.nested;
-    begun = h.begun
-  }
+  placed = h.placed;
+  readable = h.readable;
+  right = All-push (λ (x : Event). IsPlaced bytes x.point) events e h.right (rw same h.placed);
+  saved = All-weaker (IsSaved bytes (length events)) (IsSaved bytes (length (events ++ e ∷ []))) (λ f s. record { placed = s.placed; within = simp length-append (omega (arith, s.within)) }) frames h.saved;
+  nested = h.nested;
+  begun = h.begun;
+}
 
 -- the point moves
 pub sound-moved : (bytes : List ℕ) (p q : Point) (limit : ℕ) (events : List Event) (frames : List Frame) (skips : List Point) →
@@ -89,35 +91,35 @@ AllPairs-push R xs y h last = λ i j d lt inside. go i j d lt (let near : j < le
       where
         choose : (b : Bool) → nat_lt j (length xs) ≡ b → R (get_or (xs ++ y ∷ []) i d) (get_or (xs ++ y ∷ []) j d)
         choose true e =
-          let inside : j < length xs = grind (arith, nat_tests) in
-          rw (get_or_append_left xs (y ∷ []) d i (omega arith), get_or_append_left xs (y ∷ []) d j inside) (h i j d lt inside)
+            let inside : j < length xs = grind (arith, nat_tests) in
+            rw (get_or_append_left xs (y ∷ []) d i (omega arith), get_or_append_left xs (y ∷ []) d j inside) (h i j d lt inside)
         choose false e =
-          let at : length xs ≡ j = grind (arith, nat_tests) in
-          rw (get_or_append_left xs (y ∷ []) d i (omega arith), get_or_push xs y d j at) (last i d (omega arith))
+            let at : length xs ≡ j = grind (arith, nat_tests) in
+            rw (get_or_append_left xs (y ∷ []) d i (omega arith), get_or_push xs y d j at) (last i d (omega arith))
 
 -- an attempt begins here
 pub sound-begun : (bytes : List ℕ) (p : Point) (limit : ℕ) (events : List Event) (f : Frame) (frames : List Frame) (skips : List Point) →
     IsSound bytes p limit events frames skips → f.point ≡ p → f.events_len ≡ length events → IsSound bytes p limit events (frames ++ f ∷ []) skips
 sound-begun bytes p limit events f frames skips h at len = record {
-    placed = h.placed;
-    readable = h.readable;
-    right = h.right;
-    saved = All-push (IsSaved bytes (length events)) frames f h.saved (record { placed = rw at h.placed; within = omega (arith, len) });
-    nested = AllPairs-push (λ (x y : Frame). x.events_len ≤ y.events_len) frames f h.nested (All-weaker (IsSaved bytes (length events)) (λ (x : Frame). x.events_len ≤ f.events_len) (λ x s. omega (arith, s.within, len)) frames h.saved);
-    begun = h.begun
-  }
+  placed = h.placed;
+  readable = h.readable;
+  right = h.right;
+  saved = All-push (IsSaved bytes (length events)) frames f h.saved (record { placed = rw at h.placed; within = omega (arith, len) });
+  nested = AllPairs-push (λ (x y : Frame). x.events_len ≤ y.events_len) frames f h.nested (All-weaker (IsSaved bytes (length events)) (λ (x : Frame). x.events_len ≤ f.events_len) (λ x s. omega (arith, s.within, len)) frames h.saved);
+  begun = h.begun;
+}
 
 -- back at what an attempt saved
 pub sound-restored : (bytes : List ℕ) (p q : Point) (limit n : ℕ) (events : List Event) (frames : List Frame) (skips : List Point) →
     IsSound bytes p limit events frames skips → IsPlaced bytes q → All (λ f. f.events_len ≤ n) frames → IsSound bytes q limit (take n events) frames skips
 sound-restored bytes p q limit n events frames skips h k low = record {
-    placed = k;
-    readable = h.readable;
-    right = All-take (λ (x : Event). IsPlaced bytes x.point) n events h.right;
-    saved = λ i d lt. record { placed = (h.saved i d lt).placed; within = rw length-take (omega (arith, low i d lt, (h.saved i d lt).within)) };
-    nested = h.nested;
-    begun = h.begun
-  }
+  placed = k;
+  readable = h.readable;
+  right = All-take (λ (x : Event). IsPlaced bytes x.point) n events h.right;
+  saved = λ i d lt. record { placed = (h.saved i d lt).placed; within = rw length-take (omega (arith, low i d lt, (h.saved i d lt).within)) };
+  nested = h.nested;
+  begun = h.begun;
+}
 
 -- what holds of all pairs holds of each with the last
 pub AllPairs-last : {X : Type 0} (R : X → X → Type 0) (xs : List X) (y : X) → AllPairs R (xs ++ y ∷ []) → All (λ x. R x y) xs
@@ -130,13 +132,13 @@ AllPairs-last R xs y h = λ k d lt.
 pub sound-left : (bytes : List ℕ) (p : Point) (limit : ℕ) (events : List Event) (f : Frame) (frames : List Frame) (skips : List Point) →
     IsSound bytes p limit events (frames ++ f ∷ []) skips → IsSound bytes p limit events frames skips
 sound-left bytes p limit events f frames skips h = record {
-    placed = h.placed;
-    readable = h.readable;
-    right = h.right;
-    saved = λ k d lt. rw (get_or_append_left frames (f ∷ []) d k lt) at (h.saved k d (simp length-append (omega arith)));
-    nested = λ i j d lt inside. rw (get_or_append_left frames (f ∷ []) d i (omega arith), get_or_append_left frames (f ∷ []) d j inside) at (h.nested i j d lt (simp length-append (omega arith)));
-    begun = h.begun
-  }
+  placed = h.placed;
+  readable = h.readable;
+  right = h.right;
+  saved = λ k d lt. rw (get_or_append_left frames (f ∷ []) d k lt) at (h.saved k d (simp length-append (omega arith)));
+  nested = λ i j d lt inside. rw (get_or_append_left frames (f ∷ []) d i (omega arith), get_or_append_left frames (f ∷ []) d j inside) at (h.nested i j d lt (simp length-append (omega arith)));
+  begun = h.begun;
+}
 
 -- where one more line begins
 pub sound-skip : (bytes : List ℕ) (p q : Point) (limit : ℕ) (events : List Event) (frames : List Frame) (skips : List Point) →
@@ -189,6 +191,10 @@ outer-popped bytes p limit events None frames new skips h is = tt
 outer-popped bytes p limit events (Some f) frames new skips h is =
     let k : IsSound bytes p limit events (new ++ f ∷ []) skips = rw is at h in
     All-reverse (λ (g : Frame). g.events_len ≤ f.events_len) new (AllPairs-last (λ (a b : Frame). a.events_len ≤ b.events_len) new f k.nested)
+
+pub same-popped : {X : Type 0} (see : List Frame → X) (o : Option Frame) (frames new : List Frame) → frames ≡ new ++ option_to_list o → IfNone o (see new ≡ see frames)
+same-popped see None frames new is = ap see (sym (is ∙ append-nil new))
+same-popped see (Some f) frames new is = tt
 
 -- the frames of a world stand the other way round
 pub All-unreverse : {X : Type 0} (P : X → Type 0) (xs : List X) → All P (reverse xs) → All P xs

@@ -2,7 +2,7 @@
 --
 -- A construct says what each of its states needs, and how far it is from taking what stands here. What follows an attempt
 -- is told to it as an `After`: what is asked where it ends. So no construct looks at the attempts around it.
-use Rattle.std.specs.Prelude.{◌≡◌, ℕ, zero, suc, ◌+◌, ◌-◌, ◌*◌, ◌%◌, ◌<◌, ◌≤◌, ◌⊎◌, nat_lt, if◌then◌else◌, List, [], ◌∷◌, Option, Some, None}
+use Rattle.std.specs.Prelude.{◌≡◌, ℕ, zero, suc, ◌+◌, ◌-◌, ◌*◌, ◌%◌, ◌<◌, ◌≤◌, ◌⊎◌, if◌then◌else◌, List, [], ◌∷◌, Option}
 use Rattle.md_engine.specs.declared.event.Point.{Point}
 use Rattle.md_engine.specs.declared.state.Name.{Name as StateName}
 use Rattle.md_engine.specs.declared.state.State.{State}
@@ -127,9 +127,9 @@ top = record { ok = λ x. Unit {0}; nok = λ x. Unit {0} }
 
 abbrev pub after_frame : Scheme → Frame → After → After
 after_frame T f K = record {
-    ok = λ x. Resumes T f f.ok (if f.is_check then record x { point = f.point } else x) K;
-    nok = λ x. Resumes T f f.nok (record x { point = f.point }) K
-  }
+  ok = λ x. Resumes T f f.ok (if f.is_check then record x { point = f.point } else x) K;
+  nok = λ x. Resumes T f f.nok (record x { point = f.point }) K;
+}
 
 -- what is asked where the innermost attempt ends
 abbrev pub after_all : Scheme → List Frame → After

@@ -1,5 +1,5 @@
 -- What contracts see of a tokenizer.
-use Rattle.std.specs.Prelude.{◌≡◌, ℕ, ◌-◌, Bool, false, ◌==◌, if◌then◌else◌, List, [], ◌∷◌, ◌++◌, Option, None, Some, reverse, slice_index, slice_get, nat_lt}
+use Rattle.std.specs.Prelude.{ℕ, ◌-◌, Bool, false, ◌==◌, if◌then◌else◌, List, [], ◌∷◌, ◌++◌, Option, None, Some, reverse, slice_index, slice_get, nat_lt}
 use Rattle.std.specs.List.{list_any}
 use Rattle.md_engine.specs.declared.configuration.ParseOptions.{ParseOptions}
 use Rattle.md_engine.specs.declared.event.Point.{Point}
@@ -40,9 +40,15 @@ setting_of t = record { bytes = t.bytes.now; options = t.options.now; limit = t.
 
 abbrev pub world : Tokenizer → World
 world t = record {
-    setting = setting_of t; point = t.point; current = t.current; events = t.events.items; frames = reverse t.frames.items;
-    scratch = t.scratch; flags = t.flags; resolvers = t.resolvers.items
-  }
+  setting = setting_of t;
+  point = t.point;
+  current = t.current;
+  events = t.events.items;
+  frames = reverse t.frames.items;
+  scratch = t.scratch;
+  flags = t.flags;
+  resolvers = t.resolvers.items;
+}
 
 -- what stands at a point, as far as the text may be read
 abbrev pub looks_at : Setting → Point → Option ℕ
@@ -62,16 +68,22 @@ after x p = if is_ending (slice_index x.bytes p.index) then line_begun x (next_p
 -- a tokenizer that has read nothing
 abbrev pub fresh : List ℕ → ParseOptions → Point → World
 fresh bytes options p = record {
-    setting = record { bytes = bytes; options = options; limit = 0; first_line = p.line; skips = []; line = record { start = 0; lazy = false; pierce = false } };
-    point = p; current = None; events = []; frames = []; scratch = REST; flags = record { interrupt = false; concrete = false }; resolvers = []
-  }
+  setting = record { bytes = bytes; options = options; limit = 0; first_line = p.line; skips = []; line = record { start = 0; lazy = false; pierce = false } };
+  point = p;
+  current = None;
+  events = [];
+  frames = [];
+  scratch = REST;
+  flags = record { interrupt = false; concrete = false };
+  resolvers = [];
+}
 
 -- the next line begins at this point
 abbrev pub skipping : World → Point → World
 skipping w p = record w {
-    setting = record w.setting { skips = w.setting.skips ++ p ∷ [] };
-    point = if w.point.line == p.line then begun_at (Some p) w.point else w.point
-  }
+  setting = record w.setting { skips = w.setting.skips ++ p ∷ [] };
+  point = if w.point.line == p.line then begun_at (Some p) w.point else w.point;
+}
 
 -- behind those that are registered, or before them; each once
 abbrev pub registered : (ResolveName → Bool) → List ResolveName → ResolveName → List ResolveName

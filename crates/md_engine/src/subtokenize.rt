@@ -14,14 +14,17 @@ pub struct Subresult {
 }
 
 impl Subresult {
-    ghost use Rattle.std.specs.Prelude.{◌≡◌, OnOk, Some};
+    ghost use Rattle.std.specs.Prelude.{◌≡◌, OnOk};
+    ghost use Rattle.std.specs.Option.{option_map};
     ghost use Rattle.md_engine.specs.Found.{found_in, with_found};
 
-    /// Appends what a later walk has found. After an `Err` it may hold a part of it.
-    pub fn append(&mut self, more: Subresult) -> Result<(), Message>
-        ensures { OnOk result (found_in self.new ≡ with_found (found_in self.old) (Some (found_in more))) }
+    /// Appends what a later walk has found, if it has answered. After an `Err` it may hold a part of it.
+    pub fn append(&mut self, more: Option<Subresult>) -> Result<(), Message>
+        ensures { OnOk result (found_in self.new ≡ with_found (found_in self.old) (option_map found_in more)) }
     {
-        let mut more = more;
+        let Some(mut more) = more else {
+            return Ok(());
+        };
         if self.definitions.append(&mut more.definitions).is_err() {
             return Err(Message);
         }

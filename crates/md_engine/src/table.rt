@@ -2,10 +2,10 @@
 //
 // A table says which function each state name stands for. `push` reads a part of the text and answers the state that waits
 // for more; `flush` reads the end, and runs the resolvers that were registered.
-ghost use Rattle.std.specs.Prelude.{◌≡◌, ◌≢◌, ◌<◌, ◌≤◌, [], length, IfOk, IfNone, IfSome, false};
+ghost use Rattle.std.specs.Prelude.{◌≡◌, ◌≢◌, ◌<◌, ◌≤◌, ◌⊎◌, [], length, IfOk, IfNone, IfSome, OnOk, false, true};
 ghost use Rattle.std.specs.Option.{option_map};
 ghost use Rattle.md_engine.specs.Found.{found_in};
-ghost use Rattle.md_engine.specs.Run.{Flushes, IsEnd, IsStopped, Leaves, Resolution, Runs, Step, plain};
+ghost use Rattle.md_engine.specs.Run.{Flushes, IsEnd, IsStopped, Leaves, Resolution, ResolvedIf, Runs, Step, plain};
 ghost use Rattle.md_engine.specs.Scheme.{Scheme, stands, work};
 ghost use Rattle.md_engine.specs.World.{looks, reads_to, world};
 ghost use Rattle.md_engine.specs.declared.state.State.{State};
@@ -15,7 +15,6 @@ use crate::resolve::Name as ResolveName;
 use crate::state::{Name as StateName, State};
 use crate::subtokenize::Subresult;
 use crate::tokenizer::Tokenizer;
-use std::mem;
 
 /// The states of one level: of documents, of flow, or of content.
 pub trait Table {
@@ -37,9 +36,11 @@ pub trait Table {
         ensures falls { result ≢ State.Error → work scheme (world tokenizer.new) (plain result) < work scheme (world tokenizer.old) (State.Next name) }
         ensures setting { result ≢ State.Error → (world tokenizer.new).setting ≡ (world tokenizer.old).setting };
 
-    /// Runs the resolver of this name. After an `Err` the parse has failed.
+    /// Runs the resolver of this name, when no attempt is left. After an `Err` the parse has failed.
     fn resolve(tokenizer: &mut Tokenizer, name: ResolveName) -> Result<Option<Subresult>, Message>
-        ensures { IfOk result (λ found. resolves name (world tokenizer.old) (option_map found_in found) (world tokenizer.new)) };
+        requires { (world tokenizer.old).frames ≡ [] }
+        ensures frames { OnOk result ((world tokenizer.new).frames ≡ []) }
+        ensures resolves { IfOk result (λ found. resolves name (world tokenizer.old) (option_map found_in found) (world tokenizer.new)) };
 }
 
 /// Leaves the innermost attempt, if there is one.
@@ -50,7 +51,9 @@ fn leave(tokenizer: &mut Tokenizer, state: State) -> Option<State>
     ensures none { IfNone result ((world tokenizer.old).frames ≡ []) }
     ensures same { IfNone result (world tokenizer.new ≡ world tokenizer.old) }
 {
-    let frame = tokenizer.innermost()?;
+    let Some(frame) = tokenizer.innermost() else {
+        return None;
+    };
     match state {
         State::Ok => {
             if frame.is_check {
@@ -63,6 +66,14 @@ fn leave(tokenizer: &mut Tokenizer, state: State) -> Option<State>
             Some(frame.nok)
         }
     }
+}
+
+/// Whether what stands at the point is yet to come.
+fn is_waiting(tokenizer: &Tokenizer, is_end: bool) -> bool
+    ensures waits { result ≡ true → (is_end ≡ false) × ((world tokenizer.now).setting.limit ≤ (world tokenizer.now).point.index) }
+    ensures goes_on { result ≡ false → (is_end ≡ true) ⊎ ((world tokenizer.now).point.index < (world tokenizer.now).setting.limit) }
+{
+    !is_end && tokenizer.point.index >= tokenizer.limit
 }
 
 /// Goes from state to state until one waits for more of the text, or the last has ended.
@@ -82,11 +93,14 @@ fn run<T: Table>(tokenizer: &mut Tokenizer, start: State, is_end: bool) -> State
                 Some(next) => next,
             },
             State::Next(name) | State::Retry(name) => {
-                if tokenizer.point.index >= tokenizer.limit && !is_end {
+                if is_waiting(tokenizer, is_end) {
                     return state;
                 }
                 tokenizer.see();
-                T::call(tokenizer, name)
+                match T::call(tokenizer, name) {
+                    State::Error => return State::Error,
+                    next => next,
+                }
             }
         };
     }
@@ -107,32 +121,39 @@ pub fn push<T: Table>(tokenizer: &mut Tokenizer, to: usize, state: State) -> Sta
     run::<T>(tokenizer, state, false)
 }
 
-/// Feeds the end of the text, runs the resolvers that were registered if asked, and answers what they found.
+/// Feeds the end of the text, and then, if `resolve`, runs the resolvers that were registered, in their order.
 ///
-/// A tokenizer that has answered an `Err` is only dropped.
+/// A tokenizer after an `Err` is only dropped.
 pub fn flush<T: Table>(
     tokenizer: &mut Tokenizer,
     state: State,
     resolve: bool,
 ) -> Result<Subresult, Message>
-    requires stands { stands T.scheme (world tokenizer.old) (plain state) }
+    requires { stands T.scheme (world tokenizer.old) (plain state) }
     ensures { IfOk result (λ found. Flushes T.step T.resolves state (world tokenizer.old) resolve (found_in found) (world tokenizer.new)) }
 {
-    if run::<T>(tokenizer, state, true) == State::Error {
-        return Err(Message);
+    match run::<T>(tokenizer, state, true) {
+        State::Error => Err(Message),
+        _ => resolve_all::<T>(tokenizer, resolve),
     }
+}
+
+/// Runs the resolvers that were registered, if asked.
+fn resolve_all<T: Table>(tokenizer: &mut Tokenizer, resolve: bool) -> Result<Subresult, Message>
+    requires { (world tokenizer.old).frames ≡ [] }
+    ensures { IfOk result (λ found. ResolvedIf T.resolves resolve (world tokenizer.old) (found_in found) (world tokenizer.new)) }
+{
+    let alloc = tokenizer.alloc;
     let mut found = Subresult {
         done: false,
-        gfm_footnote_definitions: Vec::new(tokenizer.alloc),
-        definitions: Vec::new(tokenizer.alloc),
+        gfm_footnote_definitions: Vec::new(alloc),
+        definitions: Vec::new(alloc),
     };
     if resolve {
-        let none = Vec::new(tokenizer.alloc);
-        let names = mem::replace(&mut tokenizer.resolvers, none);
-        for name in names.iter() {
-            if let Some(more) = T::resolve(tokenizer, *name)? {
-                found.append(more)?;
-            }
+        let names = tokenizer.take_resolvers();
+        for name in &names {
+            let more = T::resolve(tokenizer, *name)?;
+            found.append(more)?;
         }
     }
     Ok(found)

@@ -13,6 +13,7 @@ use crate::message::Message;
 use crate::resolve::Name as ResolveName;
 use crate::state::State;
 use std::alloc::Global;
+use std::mem;
 
 /// How much whitespace a construct asks for, in columns, and how much of it was taken.
 #[derive(Clone, Copy, Debug, PartialEq, Eq)]
@@ -188,7 +189,12 @@ impl<'a> Tokenizer<'a> {
     ghost use Rattle.md_engine.specs.World.{world, looks, after, fresh, line_begun, reads_to, registered, registered_before, skipping};
 
     /// A tokenizer at `point`, which has read nothing.
-    pub fn new(alloc: Global, point: Point, bytes: &'a [u8], options: &'a ParseOptions) -> Tokenizer<'a>
+    pub fn new(
+        alloc: Global,
+        point: Point,
+        bytes: &'a [u8],
+        options: &'a ParseOptions,
+    ) -> Tokenizer<'a>
         requires { IsPlaced bytes.now point }
         ensures { world result ≡ fresh bytes.now options.now point }
     {
@@ -346,7 +352,8 @@ impl<'a> Tokenizer<'a> {
     pub(crate) fn innermost(&mut self) -> Option<Frame>
         ensures some { IfSome result (λ f. (world self.old).frames ≡ f ∷ (world self.new).frames) }
         ensures none { IfNone result ((world self.old).frames ≡ []) }
-        ensures placed { IfSome result (λ f. IsPlaced (world self.old).setting.bytes f.point) }
+        ensures same { IfNone result (world self.new ≡ world self.old) }
+        ensures placed { IfSome result (λ f. IsPlaced (world self.new).setting.bytes f.point) }
         ensures outer { IfSome result (λ f. All (λ g. g.events_len ≤ f.events_len) (world self.new).frames) }
         ensures rest { world self.new ≡ record (world self.old) { frames = (world self.new).frames } }
     {
@@ -417,5 +424,13 @@ impl<'a> Tokenizer<'a> {
             Ok(()) => Ok(()),
             Err(_) => Err(Message),
         }
+    }
+
+    /// Takes the resolvers that were registered.
+    pub(crate) fn take_resolvers(&mut self) -> Vec<ResolveName>
+        ensures names { result.items ≡ (world self.old).resolvers }
+        ensures rest { world self.new ≡ record (world self.old) { resolvers = [] } }
+    {
+        mem::replace(&mut self.resolvers, Vec::new(self.alloc))
     }
 }

@@ -9,7 +9,7 @@ abbrev pub invariant-loop-state : goal.invariant-loop-state
 invariant-loop-state g l = record {
   runs : l.state ≢ Error → Runs g.T.Table.step l.is_end l.fn.start (world l.initial.tokenizer) l.state (world l.tokenizer);
   stands : l.state ≢ Error → stands g.T.Table.scheme (world l.tokenizer) (plain l.state);
-  setting : l.state ≢ Error → (world l.tokenizer).setting ≡ (world l.initial.tokenizer).setting
+  setting : l.state ≢ Error → (world l.tokenizer).setting ≡ (world l.initial.tokenizer).setting;
 }
 
 abbrev pub decreases-loop-state : goal.decreases-loop-state
