@@ -63,6 +63,9 @@ pub fn parse<'a>(
         bytes.len(),
         State::Next(StateName::FlowStart),
     );
+    if end == State::Error {
+        return Err(Message);
+    }
     let found = flush::<FlowTable>(&mut tokenizer, end, true)?;
     let state = ParseState {
         options,

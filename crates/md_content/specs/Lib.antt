@@ -1,0 +1,2 @@
+pub mod Paragraph
+pub mod Chunks

@@ -5,6 +5,14 @@
 // Each line first stands as one linked `Content`. When all lines are known, those that follow one another are joined and
 // read as one.
 
+ghost use Rattle.std.specs.Prelude.{◌≡◌, ◌≢◌};
+ghost use Rattle.md_engine.specs.World.{world};
+ghost use Rattle.md_engine.specs.declared.state.Name.{Name as StateName};
+ghost use Rattle.md_engine.specs.declared.state.State.{State};
+ghost use Rattle.md_content.specs.Chunks.{chunk_inside_code, chunk_start_went};
+ghost use Rattle.md_seam.specs.Spaces.{ends_line};
+ghost use Rattle.md_seam.specs.Went.{IsAt, NeedsNothing};
+
 use crate::paragraph;
 use md_engine::configuration::ParseOptions;
 use md_engine::event::{Content, Event, Kind, Link, Name};
@@ -26,7 +34,11 @@ use std::mem;
 /// > | a
 ///     ^
 /// ```
-pub fn chunk_start(tokenizer: &mut Tokenizer) -> State {
+pub fn chunk_start(tokenizer: &mut Tokenizer) -> State
+    requires { IsAt NeedsNothing StateName.ContentChunkStart (world tokenizer.old) }
+    ensures to { result ≢ State.Error → result ≡ (chunk_start_went (world tokenizer.old)).to }
+    ensures world { result ≢ State.Error → world tokenizer.new ≡ (chunk_start_went (world tokenizer.old)).world }
+{
     let link = Link {
         previous: None,
         next: None,
@@ -42,7 +54,11 @@ pub fn chunk_start(tokenizer: &mut Tokenizer) -> State {
 /// > | ab
 ///     ^^
 /// ```
-pub fn chunk_inside(tokenizer: &mut Tokenizer) -> State {
+pub fn chunk_inside(tokenizer: &mut Tokenizer) -> State
+    requires { IsAt NeedsNothing StateName.ContentChunkInside (world tokenizer.old) }
+    ensures to { result ≢ State.Error → result ≡ (chunk_inside_code (λ name. ⟦<ResolveName as PartialEq>⟧.eq name ResolveName.Content) (world tokenizer.old) (ends_line tokenizer.old.current)).to }
+    ensures world { result ≢ State.Error → world tokenizer.new ≡ (chunk_inside_code (λ name. ⟦<ResolveName as PartialEq>⟧.eq name ResolveName.Content) (world tokenizer.old) (ends_line tokenizer.old.current)).world }
+{
     match tokenizer.current {
         None | Some(b'\n') => {
             or_error!(tokenizer.exit(Name::Content));
@@ -112,6 +128,9 @@ impl Reader for ContentReader<'_> {
         let mut state = State::Next(StateName::ParagraphStart);
         for chunk in chunks {
             state = push::<ContentTable>(&mut tokenizer, chunk.after.index, state);
+            if state == State::Error {
+                return Err(Message);
+            }
         }
         flush::<ContentTable>(&mut tokenizer, state, true)?;
         Ok(mem::replace(&mut tokenizer.events, Vec::new(alloc)))

@@ -4,6 +4,13 @@
 //
 // It adds `Paragraph` around one linked `Data` a line, which reaches over the line's ending where the paragraph goes on.
 
+ghost use Rattle.std.specs.Prelude.{◌≡◌, ◌≢◌};
+ghost use Rattle.md_engine.specs.World.{world};
+ghost use Rattle.md_engine.specs.declared.state.Name.{Name as StateName};
+ghost use Rattle.md_engine.specs.declared.state.State.{State};
+ghost use Rattle.md_content.specs.Paragraph.{inside_went, line_start_went, start_went};
+ghost use Rattle.md_seam.specs.Went.{IsAt, NeedsNothing};
+
 use md_engine::event::{Content, Link, Name};
 use md_engine::or_error;
 use md_engine::state::{Name as StateName, State};
@@ -16,7 +23,11 @@ use md_engine::tokenizer::Tokenizer;
 ///     ^
 ///   | b
 /// ```
-pub fn start(tokenizer: &mut Tokenizer) -> State {
+pub fn start(tokenizer: &mut Tokenizer) -> State
+    requires { IsAt NeedsNothing StateName.ParagraphStart (world tokenizer.old) }
+    ensures to { result ≢ State.Error → result ≡ (start_went (world tokenizer.old)).to }
+    ensures world { result ≢ State.Error → world tokenizer.new ≡ (start_went (world tokenizer.old)).world }
+{
     or_error!(tokenizer.enter(Name::Paragraph));
     State::Retry(StateName::ParagraphLineStart)
 }
@@ -29,7 +40,11 @@ pub fn start(tokenizer: &mut Tokenizer) -> State {
 /// > | b
 ///     ^
 /// ```
-pub fn line_start(tokenizer: &mut Tokenizer) -> State {
+pub fn line_start(tokenizer: &mut Tokenizer) -> State
+    requires { IsAt NeedsNothing StateName.ParagraphLineStart (world tokenizer.old) }
+    ensures to { result ≢ State.Error → result ≡ (line_start_went (world tokenizer.old)).to }
+    ensures world { result ≢ State.Error → world tokenizer.new ≡ (line_start_went (world tokenizer.old)).world }
+{
     let link = Link {
         previous: None,
         next: None,
@@ -45,7 +60,11 @@ pub fn line_start(tokenizer: &mut Tokenizer) -> State {
 /// > | ab
 ///     ^^
 /// ```
-pub fn inside(tokenizer: &mut Tokenizer) -> State {
+pub fn inside(tokenizer: &mut Tokenizer) -> State
+    requires { IsAt NeedsNothing StateName.ParagraphInside (world tokenizer.old) }
+    ensures to { result ≢ State.Error → result ≡ (inside_went (world tokenizer.old)).to }
+    ensures world { result ≢ State.Error → world tokenizer.new ≡ (inside_went (world tokenizer.old)).world }
+{
     match tokenizer.current {
         None => {
             or_error!(tokenizer.exit(Name::Data));

@@ -6,6 +6,13 @@
 // All markers of a break are one byte. It adds `ThematicBreak` around `ThematicBreakSequence`, one for each run of
 // markers, and `SpaceOrTab`.
 
+ghost use Rattle.std.specs.Prelude.{◌≡◌, ◌≢◌};
+ghost use Rattle.md_engine.specs.World.{world};
+ghost use Rattle.md_engine.specs.declared.state.Name.{Name as StateName};
+ghost use Rattle.md_engine.specs.declared.state.State.{State};
+ghost use Rattle.md_leaves.specs.Break.{BreakNeeds, at_break_went, before_went, sequence_went, start_went};
+ghost use Rattle.md_seam.specs.Went.{IsAt};
+
 use md_engine::event::Name;
 use md_engine::or_error;
 use md_engine::state::{Name as StateName, State};
@@ -21,7 +28,11 @@ const MARKERS: usize = 3;
 /// > | ***
 ///     ^
 /// ```
-pub fn start(tokenizer: &mut Tokenizer) -> State {
+pub fn start(tokenizer: &mut Tokenizer) -> State
+    requires { IsAt BreakNeeds StateName.ThematicBreakStart (world tokenizer.old) }
+    ensures to { result ≢ State.Error → result ≡ (start_went (world tokenizer.old)).to }
+    ensures world { result ≢ State.Error → world tokenizer.new ≡ (start_went (world tokenizer.old)).world }
+{
     if !tokenizer.options.constructs.thematic_break {
         return State::Nok;
     }
@@ -46,7 +57,11 @@ pub fn start(tokenizer: &mut Tokenizer) -> State {
 /// > | ***
 ///     ^
 /// ```
-pub fn before(tokenizer: &mut Tokenizer) -> State {
+pub fn before(tokenizer: &mut Tokenizer) -> State
+    requires { IsAt BreakNeeds StateName.ThematicBreakBefore (world tokenizer.old) }
+    ensures to { result ≡ (before_went (world tokenizer.old)).to }
+    ensures world { world tokenizer.new ≡ (before_went (world tokenizer.old)).world }
+{
     match tokenizer.current {
         Some(byte) if byte == b'*' || byte == b'-' || byte == b'_' => {
             tokenizer.scratch.marker = byte;
@@ -62,7 +77,11 @@ pub fn before(tokenizer: &mut Tokenizer) -> State {
 /// > | * * *
 ///     ^ ^ ^
 /// ```
-pub fn at_break(tokenizer: &mut Tokenizer) -> State {
+pub fn at_break(tokenizer: &mut Tokenizer) -> State
+    requires { IsAt BreakNeeds StateName.ThematicBreakAtBreak (world tokenizer.old) }
+    ensures to { result ≢ State.Error → result ≡ (at_break_went (world tokenizer.old)).to }
+    ensures world { result ≢ State.Error → world tokenizer.new ≡ (at_break_went (world tokenizer.old)).world }
+{
     if tokenizer.current == Some(tokenizer.scratch.marker) {
         or_error!(tokenizer.enter(Name::ThematicBreakSequence));
         return State::Retry(StateName::ThematicBreakSequence);
@@ -88,7 +107,11 @@ pub fn at_break(tokenizer: &mut Tokenizer) -> State {
 /// > | ***
 ///     ^^^
 /// ```
-pub fn sequence(tokenizer: &mut Tokenizer) -> State {
+pub fn sequence(tokenizer: &mut Tokenizer) -> State
+    requires { IsAt BreakNeeds StateName.ThematicBreakSequence (world tokenizer.old) }
+    ensures to { result ≢ State.Error → result ≡ (sequence_went (world tokenizer.old)).to }
+    ensures world { result ≢ State.Error → world tokenizer.new ≡ (sequence_went (world tokenizer.old)).world }
+{
     if tokenizer.current == Some(tokenizer.scratch.marker) {
         tokenizer.consume();
         tokenizer.scratch.size += 1;

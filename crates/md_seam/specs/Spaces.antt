@@ -1,11 +1,12 @@
 -- Spaces and tabs.
-use Rattle.std.specs.Prelude.{◌≡◌, ℕ, ◌+◌, ◌-◌, ◌^◌, ◌≤◌, Bool, true, false, ◌&&◌, if◌then◌else◌, nat_lt, nat_le, Option, Some, None}
+use Rattle.std.specs.Prelude.{◌≡◌, ℕ, ◌+◌, ◌-◌, ◌^◌, ◌≤◌, Bool, true, false, ◌&&◌, ◌==◌, if◌then◌else◌, nat_lt, nat_le, Option, Some, None}
 use Rattle.md_engine.specs.declared.event.Name.TheVariants.{SpaceOrTab}
 use Rattle.md_engine.specs.declared.state.Name.{Name as StateName}
 use Rattle.md_engine.specs.declared.state.Name.TheVariants.{SpaceOrTabStart, SpaceOrTabInside, SpaceOrTabAfter}
 use Rattle.md_engine.specs.declared.state.State.{State}
 use Rattle.md_engine.specs.declared.state.State.TheVariants.{Ok, Nok, Next, Retry}
 use Rattle.md_engine.specs.declared.tokenizer.Scratch.{Scratch}
+use Rattle.md_engine.specs.declared.tokenizer.TheConstants.Scratch.{REST}
 use Rattle.md_engine.specs.declared.configuration.ParseOptions.{ParseOptions}
 use Rattle.md_engine.specs.World.{World}
 use Rattle.md_engine.specs.Scheme.{Spot, After, Scheme, Ends, cells_before}
@@ -64,3 +65,34 @@ inside_went w = inside_code w (sees_white w.current && nat_lt w.scratch.whitespa
 
 abbrev pub after_went : World → Went
 after_went w = after_code w (nat_le w.scratch.whitespace.min w.scratch.whitespace.size)
+
+-- whether this byte stands here
+abbrev pub is_current : ℕ → Option ℕ → Bool
+is_current m None = false
+is_current m (Some b) = b == m
+
+-- whether the line ends here
+abbrev pub ends_line : Option ℕ → Bool
+ends_line None = true
+ends_line (Some b) = b == 10
+
+-- Readiness.
+
+-- whitespace leaves all but its own fields
+abbrev pub white_ready : StateName → Spot → After → Type 0
+white_ready n x K = (x.scratch.whitespace.size ≤ cells_before x.point) × Ends (λ s. s ≡ calmed x.scratch) (λ s. s ≡ calmed x.scratch) x K
+
+abbrev pub white_rank : StateName → Spot → ℕ
+white_rank SpaceOrTabStart x = 2
+white_rank SpaceOrTabInside x = 1
+white_rank _ x = 0
+
+abbrev pub white_scheme : Scheme
+white_scheme = record { ready = white_ready; level = λ n. 0; rank = white_rank; tries = λ n. 0 }
+
+-- a construct at rest, which ends at rest
+abbrev pub IsRest : Scratch → Type 0
+IsRest s = s ≡ REST
+
+abbrev pub rest_ready : Spot → After → Type 0
+rest_ready x K = IsRest x.scratch × Ends IsRest IsRest x K

@@ -36,3 +36,7 @@ taken w = record w { point = after w.setting w.point }
 -- an attempt has begun
 abbrev pub tried : World → State → State → World
 tried w ok nok = record w { frames = record { ok = ok; nok = nok; is_check = false; events_len = length w.events; point = w.point } ∷ w.frames }
+
+-- a state that needs no more than to see what stands at its point
+abbrev pub NeedsNothing : StateName → World → Type 0
+NeedsNothing name w = Unit {0}

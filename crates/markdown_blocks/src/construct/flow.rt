@@ -4,6 +4,13 @@
 //
 // Each line is tried in this order. It adds `BlankLineEnding` behind a blank line, and `LineEnding` behind any other.
 
+ghost use Rattle.std.specs.Prelude.{◌≡◌, ◌≢◌};
+ghost use Rattle.md_engine.specs.World.{looks, world};
+ghost use Rattle.md_engine.specs.declared.state.Name.{Name as StateName};
+ghost use Rattle.md_engine.specs.declared.state.State.{State};
+ghost use Rattle.markdown_blocks.specs.Flow.{after_went, before_content_went, before_thematic_break_went, blank_line_after_went, blank_line_before_went, ending_went, start_went};
+ghost use Rattle.md_seam.specs.Went.{IsAt, NeedsNothing};
+
 use crate::resolve;
 use md_content::content;
 use md_engine::event::Name;
@@ -23,7 +30,11 @@ use md_seam::space_or_tab;
 /// > | a
 ///     ^
 /// ```
-pub fn start(_tokenizer: &mut Tokenizer) -> State {
+pub fn start(_tokenizer: &mut Tokenizer) -> State
+    requires { IsAt NeedsNothing StateName.FlowStart (world _tokenizer.old) }
+    ensures to { result ≡ (start_went (world _tokenizer.old)).to }
+    ensures world { world _tokenizer.new ≡ (start_went (world _tokenizer.old)).world }
+{
     State::Retry(StateName::FlowBlankLineBefore)
 }
 
@@ -33,7 +44,11 @@ pub fn start(_tokenizer: &mut Tokenizer) -> State {
 /// > |
 ///     ^
 /// ```
-pub fn blank_line_before(tokenizer: &mut Tokenizer) -> State {
+pub fn blank_line_before(tokenizer: &mut Tokenizer) -> State
+    requires { IsAt NeedsNothing StateName.FlowBlankLineBefore (world tokenizer.old) }
+    ensures to { result ≢ State.Error → result ≡ (blank_line_before_went (world tokenizer.old)).to }
+    ensures world { result ≢ State.Error → world tokenizer.new ≡ (blank_line_before_went (world tokenizer.old)).world }
+{
     or_error!(tokenizer.attempt(
         State::Next(StateName::FlowBlankLineAfter),
         State::Next(StateName::FlowBeforeThematicBreak)
@@ -47,7 +62,11 @@ pub fn blank_line_before(tokenizer: &mut Tokenizer) -> State {
 /// > | ***
 ///     ^
 /// ```
-pub fn before_thematic_break(tokenizer: &mut Tokenizer) -> State {
+pub fn before_thematic_break(tokenizer: &mut Tokenizer) -> State
+    requires { IsAt NeedsNothing StateName.FlowBeforeThematicBreak (world tokenizer.old) }
+    ensures to { result ≢ State.Error → result ≡ (before_thematic_break_went (world tokenizer.old)).to }
+    ensures world { result ≢ State.Error → world tokenizer.new ≡ (before_thematic_break_went (world tokenizer.old)).world }
+{
     or_error!(tokenizer.attempt(
         State::Next(StateName::FlowAfter),
         State::Next(StateName::FlowBeforeContent)
@@ -61,13 +80,21 @@ pub fn before_thematic_break(tokenizer: &mut Tokenizer) -> State {
 /// > | a
 ///     ^
 /// ```
-pub fn before_content(tokenizer: &mut Tokenizer) -> State {
+pub fn before_content(tokenizer: &mut Tokenizer) -> State
+    requires { IsAt NeedsNothing StateName.FlowBeforeContent (world tokenizer.old) }
+    ensures to { result ≢ State.Error → result ≡ (before_content_went (world tokenizer.old)).to }
+    ensures world { result ≢ State.Error → world tokenizer.new ≡ (before_content_went (world tokenizer.old)).world }
+{
     or_error!(tokenizer.attempt(State::Next(StateName::FlowAfter), State::Nok));
     State::Retry(StateName::ContentChunkStart)
 }
 
 /// Takes the ending of a line as a part of this name, if one is here.
-fn ending(tokenizer: &mut Tokenizer, name: Name) -> State {
+fn ending(tokenizer: &mut Tokenizer, name: Name) -> State
+    requires { (world tokenizer.old).current ≡ looks (world tokenizer.old) }
+    ensures to { result ≢ State.Error → result ≡ (ending_went name (world tokenizer.old)).to }
+    ensures world { result ≢ State.Error → world tokenizer.new ≡ (ending_went name (world tokenizer.old)).world }
+{
     match tokenizer.current {
         None => State::Ok,
         Some(b'\n') => {
@@ -86,7 +113,11 @@ fn ending(tokenizer: &mut Tokenizer, name: Name) -> State {
 /// > |
 ///     ^
 /// ```
-pub fn blank_line_after(tokenizer: &mut Tokenizer) -> State {
+pub fn blank_line_after(tokenizer: &mut Tokenizer) -> State
+    requires { IsAt NeedsNothing StateName.FlowBlankLineAfter (world tokenizer.old) }
+    ensures to { result ≢ State.Error → result ≡ (blank_line_after_went (world tokenizer.old)).to }
+    ensures world { result ≢ State.Error → world tokenizer.new ≡ (blank_line_after_went (world tokenizer.old)).world }
+{
     if tokenizer.current.is_some() {
         tokenizer.flags.interrupt = false;
     }
@@ -99,7 +130,11 @@ pub fn blank_line_after(tokenizer: &mut Tokenizer) -> State {
 /// > | ***
 ///        ^
 /// ```
-pub fn after(tokenizer: &mut Tokenizer) -> State {
+pub fn after(tokenizer: &mut Tokenizer) -> State
+    requires { IsAt NeedsNothing StateName.FlowAfter (world tokenizer.old) }
+    ensures to { result ≢ State.Error → result ≡ (after_went (world tokenizer.old)).to }
+    ensures world { result ≢ State.Error → world tokenizer.new ≡ (after_went (world tokenizer.old)).world }
+{
     ending(tokenizer, Name::LineEnding)
 }
 
