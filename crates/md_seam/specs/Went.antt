@@ -1,5 +1,5 @@
 -- What a state of a construct does.
-use Rattle.std.specs.Prelude.{◌≡◌, ℕ, Bool, false, List, [], ◌∷◌, ◌++◌, length, Option}
+use Rattle.std.specs.Prelude.{◌≡◌, false, [], ◌∷◌, ◌++◌, length, Option, Some}
 use Rattle.md_engine.specs.declared.event.Link.{Link}
 use Rattle.md_engine.specs.declared.event.Name.{Name}
 use Rattle.md_engine.specs.declared.event.Kind.TheVariants.{Enter}
@@ -16,7 +16,7 @@ pub record Went : Type 0 where
 -- the tokenizer stands at a state: it sees what stands at its point, and has what the state needs
 pub record IsAt (needs : StateName → World → Type 0) (name : StateName) (w : World) : Type 0 where
   pub current : w.current ≡ looks w
-  pub needs : needs name w
+  pub has : needs name w
 
 -- a part begins or ends at the point
 abbrev pub entered : World → Name → World
@@ -27,7 +27,7 @@ exited w name = record w { events = w.events ++ exit name w.point ∷ [] }
 
 -- a part begins that is read later
 abbrev pub entered_link : World → Name → Link → World
-entered_link w name link = record w { events = w.events ++ record { kind = Enter; name = name; point = w.point; link = Option.Some link } ∷ [] }
+entered_link w name link = record w { events = w.events ++ record { kind = Enter; name = name; point = w.point; link = Some link } ∷ [] }
 
 -- what stands at the point is taken
 abbrev pub taken : World → World
