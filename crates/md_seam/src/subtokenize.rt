@@ -3,6 +3,8 @@
 // A linked part is a chunk of the text on one line. Chunks between which nothing but container prefixes stands are read as
 // one, and what is found there is put in the places of the chunks.
 
+ghost use Rattle.std.specs.Prelude.{◌+◌, ◌<◌, ◌≤◌, length};
+
 use crate::inline::Chunk;
 use md_engine::event::{Content, Event, Kind, Name};
 use md_engine::message::Message;
@@ -29,6 +31,7 @@ struct Found {
     placed: usize,
     /// How many chunks of the part are left.
     chunks: usize,
+    ghost within: { placed ≤ length events.items },
 }
 
 /// Whether this belongs to a container prefix, which may stand between two lines of a part.
@@ -55,7 +58,9 @@ fn chunks_from<R: Reader>(
     reader: &R,
     events: &[Event],
     first: usize,
-) -> Result<Vec<Chunk>, Message> {
+) -> Result<Vec<Chunk>, Message>
+    requires { first + 1 < length events.now }
+{
     let mut chunks = Vec::new(alloc);
     let mut at = first;
     while at + 1 < events.len() {
@@ -80,7 +85,11 @@ fn chunks_from<R: Reader>(
 
 /// How many of the events belong to a part that ends at the byte `end`, and to those before it: those that begin before
 /// it, and those that end there at last.
-fn placed_before(events: &[Event], from: usize, end: usize) -> usize {
+fn placed_before(events: &[Event], from: usize, end: usize) -> usize
+    requires { from ≤ length events.now }
+    ensures from { from ≤ result }
+    ensures within { result ≤ length events.now }
+{
     let mut at = from;
     while at < events.len() {
         let Event { kind, point, .. } = events[at];
@@ -98,7 +107,9 @@ fn placed_before(events: &[Event], from: usize, end: usize) -> usize {
 
 impl Found {
     /// Puts what belongs to the next chunk, which ends at the byte `end`, behind `events`.
-    fn place(&mut self, events: &mut Vec<Event>, end: usize) -> Result<(), Message> {
+    fn place(&mut self, events: &mut Vec<Event>, end: usize) -> Result<(), Message>
+        requires { 0 < self.old.chunks }
+    {
         let to = if self.chunks > 1 {
             placed_before(&self.events, self.placed, end)
         } else {
