@@ -13,7 +13,7 @@ use Rattle.md_content.specs.Chunks.{chunk_inside_code, chunk_scheme, chunk_start
 use Rattle.md_content.specs.Paragraph.{inside_code, line_start_went, paragraph_scheme, start_went, text_link}
 use Rattle.md_seam.specs.Spaces.{IsRest, rest_ready}
 use Rattle.md_seam.specs.Went.{entered, entered_link, exited, taken}
-use Rattle.md_seam.proofs.SpacesGoods.{Does}
+use Rattle.md_seam.proofs.SpacesGoods.{Does, seen-some}
 
 pub record ChunkFits (T : Scheme) : Type 1 where
   pub start : Fits T chunk_scheme n.ContentChunkStart
@@ -38,12 +38,12 @@ good_start T w has r = (turns T paragraph_scheme _ _ w (entered w parts.Paragrap
 pub good_line_start : (T : Scheme) (w : World) → ParagraphFits T → rest_ready (spot w) (after_all T w.frames) → Does T n.ParagraphLineStart w (line_start_went w)
 good_line_start T w has r = (turns T paragraph_scheme _ _ w (entered_link w parts.Data text_link).events w.scratch has.line_start has.inside r (omega arith) (omega arith), refl)
 
-pub good_inside : (T : Scheme) (w : World) (o : Option ℕ) → ParagraphFits T → rest_ready (spot w) (after_all T w.frames) → w.current ≡ o → seen (spot w) ≡ o → Does T n.ParagraphInside w (inside_code w o)
-good_inside T w None has r c e = (accepts T _ w _ _ (exited (exited w parts.Data) parts.Paragraph).events w.scratch r.1 r.0, refl)
-good_inside T w (Some b) has r c e = go (nat_eq b 10) refl
+pub good_inside : (T : Scheme) (w : World) (o : Option ℕ) → ParagraphFits T → rest_ready (spot w) (after_all T w.frames) → seen (spot w) ≡ o → Does T n.ParagraphInside w (inside_code w o)
+good_inside T w None has r e = (accepts T _ w _ _ (exited (exited w parts.Data) parts.Paragraph).events w.scratch r.1 r.0, refl)
+good_inside T w (Some b) has r e = go (nat_eq b 10) refl
   where
     inside : w.point.index < w.setting.limit
-    inside = ?
+    inside = seen-some (spot w) b e
     go : (x : Bool) → nat_eq b 10 ≡ x → Does T n.ParagraphInside w (inside_code w (Some b))
     go true k = rw k (consumes T paragraph_scheme _ _ w (exited (taken w) parts.Data).events w.scratch has.inside has.line_start inside (r.0, later _ _ (spot w) _ _ _ (takes w.setting w.point inside) r.1) (omega arith), refl)
     go false k = rw k (consumes T paragraph_scheme _ _ w w.events w.scratch has.inside has.inside inside (r.0, later _ _ (spot w) _ _ _ (takes w.setting w.point inside) r.1) (omega arith), refl)

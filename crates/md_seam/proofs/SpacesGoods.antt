@@ -1,5 +1,5 @@
 -- Whitespace stands and ends in any table that has it.
-use Rattle.std.proofs.Common.{◌≡◌, ℕ, ◌+◌, ◌%◌, ◌<◌, ◌≤◌, Bool, true, false, nat_lt, Option, Some, None, List, ◌∷◌, length, refl, arith, ap, sym, ◌∙◌}
+use Rattle.std.proofs.Common.{◌≡◌, ℕ, ◌+◌, ◌%◌, ◌<◌, ◌≤◌, Bool, true, false, nat_lt, Option, Some, None, List, ◌∷◌, length, refl, arith, ap, sym, ◌∙◌, subst}
 use Rattle.std.specs.Prelude.{nat_le}
 use Rattle.std.proofs.lemmas.Bool.Decides.{nat_tests}
 use Rattle.md_engine.specs.declared.event.Event.{Event}
@@ -10,17 +10,32 @@ use Rattle.md_engine.specs.declared.state.State.TheVariants.{Nok, Next}
 use Rattle.md_engine.specs.declared.state.State.{State}
 use Rattle.md_engine.specs.declared.event.Name.TheVariants.{SpaceOrTab}
 use Rattle.md_engine.specs.declared.tokenizer.Scratch.{Scratch}
-use Rattle.md_engine.specs.Scheme.{Ends, Fits, FitsState, Good, Grown, Reaches, Scheme, Spot, after_all, moved_to, seen, spot, spot_at}
+use Rattle.md_engine.specs.Scheme.{After, Ends, Fits, FitsState, Good, Grown, Reaches, Scheme, Spot, after_all, moved_to, seen, spot, spot_at, stands, work}
+use Rattle.md_engine.specs.Run.{plain}
 use Rattle.md_engine.specs.World.{Setting, World, after, looks}
 use Rattle.md_engine.proofs.Falls.{later, later_at, seen_grows}
 use Rattle.md_engine.proofs.Local.{accepts, begins_try, consumes, refuses, turns}
-use Rattle.md_engine.proofs.Points.{cells-grow, takes}
-use Rattle.md_seam.specs.Spaces.{after_code, asking, calmed, inside_code, sees_white, start_code, white_ready, white_scheme, white_then}
+use Rattle.md_engine.proofs.Points.{cells-grow, stays, takes}
+use Rattle.md_seam.specs.Spaces.{after_code, asking, calmed, inside_code, rest_ready, sees_white, start_code, white_ready, white_scheme, white_then}
 use Rattle.md_seam.specs.Went.{Went, entered, exited, tried}
 
 -- what a state does keeps what the table needs, and falls; no state changes the setting
 abbrev pub Does : Scheme → StateName → World → Went → Type 0
 Does T n w a = Good T n w a.to a.world × (a.world.setting ≡ w.setting)
+
+-- the same of a state and a world that are known to be those
+pub does-stands : (T : Scheme) (name : StateName) (w : World) (a : Went) (s : State) (w' : World) → s ≡ a.to → w' ≡ a.world → Does T name w a → stands T w' (plain s)
+does-stands T name w a s w' e k d =
+    let P : World → Type 0 = λ x. stands T x (plain s) in
+    subst P (sym k) (rw e d.0.0)
+
+pub does-fall : (T : Scheme) (name : StateName) (w : World) (a : Went) (s : State) (w' : World) → s ≡ a.to → w' ≡ a.world → Does T name w a → work T w' (plain s) < work T w (Next name)
+does-fall T name w a s w' e k d =
+    let P : World → Type 0 = λ x. work T x (plain s) < work T w (Next name) in
+    subst P (sym k) (rw e d.0.1)
+
+pub does-setting : (T : Scheme) (name : StateName) (w : World) (a : Went) (w' : World) → w' ≡ a.world → Does T name w a → w'.setting ≡ w.setting
+does-setting T name w a w' k d = ap (λ (x : World). x.setting) k ∙ d.1
 
 -- what stands here may be read, where a test that nothing passes holds of it
 pub seen-in : (x : Spot) (t : Option ℕ → Bool) → t None ≡ false → t (seen x) ≡ true → x.point.index < x.setting.limit
@@ -29,6 +44,20 @@ seen-in x t n e = go (nat_lt x.point.index x.setting.limit) refl
     go : (b : Bool) → nat_lt x.point.index x.setting.limit ≡ b → x.point.index < x.setting.limit
     go true k = grind (arith, nat_tests)
     go false k = let bad : t None ≡ true = rw k at e in let no : true ≡ false = sym bad ∙ n in cc
+
+pub seen-some : (x : Spot) (b : ℕ) → seen x ≡ Some b → x.point.index < x.setting.limit
+seen-some x b e = go (nat_lt x.point.index x.setting.limit) refl
+  where
+    go : (c : Bool) → nat_lt x.point.index x.setting.limit ≡ c → x.point.index < x.setting.limit
+    go true k = grind (arith, nat_tests)
+    go false k = let bad : (let o : Option ℕ = None in o) ≡ Some b = rw k at e in cc
+
+-- what a construct owes where it ends still holds when more may be read
+pub ends-grow : (P Q : Scratch → Type 0) (x : Spot) (K : After) (t : Setting) → Ends P Q x K → Grown x.setting t → Ends P Q (record x { setting = t }) K
+ends-grow P Q x K t e up = later_at P Q x K x.point t x.scratch up (stays t.limit x.point) e
+
+pub rest-grows : (x : Spot) (K : After) (t : Setting) → rest_ready x K → Grown x.setting t → rest_ready (record x { setting = t }) K
+rest-grows x K t r up = (r.0, ends-grow _ _ x K t r.1 up)
 
 pub record WhiteFits (T : Scheme) : Type 1 where
   pub start : Fits T white_scheme n.SpaceOrTabStart
