@@ -4,6 +4,7 @@
 pub mod configuration;
 pub mod event;
 pub mod message;
+pub mod parse_state;
 pub mod resolve;
 pub mod state;
 pub mod subtokenize;

@@ -1,3 +1,5 @@
+pub mod Went
+pub mod Spaces
 pub mod Inline
 pub mod Nested
 pub mod Places

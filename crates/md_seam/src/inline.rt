@@ -1,6 +1,9 @@
 // What the block parser hands to an inline layer: the text parts of a document, each as the chunks that it stands in.
 
-use md_engine::event::Point;
+use md_engine::event::{Event, Point};
+use md_engine::message::Message;
+use md_engine::parse_state::ParseState;
+use std::alloc::Global;
 
 /// What a text part may hold.
 #[derive(Clone, Copy, Debug, PartialEq, Eq)]
@@ -18,4 +21,16 @@ pub struct Chunk {
     pub first: Point,
     /// Where it has ended.
     pub after: Point,
+}
+
+/// Reads text parts.
+pub trait Inline {
+    /// The events of a text part that stands in these chunks.
+    fn read(
+        &self,
+        alloc: Global,
+        kind: PartKind,
+        chunks: &[Chunk],
+        state: &ParseState,
+    ) -> Result<Vec<Event>, Message>;
 }

@@ -1,0 +1,6 @@
+// The constructs, one module each.
+
+pub mod flow;
+
+pub use md_content::{content, paragraph};
+pub use md_leaves::{blank_line, thematic_break};

@@ -1,0 +1,192 @@
+// Flow: the leaf blocks of a document or a container (CommonMark 4).
+//
+//     flow ::= *( blank_line | thematic_break | content ) with an ending after each
+//
+// Each line is tried in this order. It adds `BlankLineEnding` behind a blank line, and `LineEnding` behind any other.
+
+ghost use Rattle.std.specs.Prelude.{◌≡◌, ◌≢◌};
+ghost use Rattle.md_engine.specs.Scheme.{stands};
+ghost use Rattle.md_engine.specs.World.{looks, world};
+ghost use Rattle.md_engine.specs.declared.resolve.Name.{Name as ResolveName};
+ghost use Rattle.markdown_blocks.specs.States.{flow_table_scheme, flow_went};
+ghost use Rattle.md_engine.specs.declared.state.Name.{Name as StateName};
+ghost use Rattle.md_engine.specs.declared.state.State.{State};
+ghost use Rattle.markdown_blocks.specs.Flow.{after_went, before_content_went, before_thematic_break_went, blank_line_after_went, blank_line_before_went, ending_went, start_went};
+ghost use Rattle.md_seam.specs.Went.{IsAt, NeedsNothing};
+
+use crate::resolve;
+use md_content::content;
+use md_engine::event::Name;
+use md_engine::message::Message;
+use md_engine::or_error;
+use md_engine::resolve::Name as ResolveName;
+use md_engine::state::{Name as StateName, State};
+use md_engine::subtokenize::Subresult;
+use md_engine::table::Table;
+use md_engine::tokenizer::Tokenizer;
+use md_leaves::{blank_line, thematic_break};
+use md_seam::space_or_tab;
+
+/// At the start of a line.
+///
+/// ```markdown
+/// > | a
+///     ^
+/// ```
+pub fn start(_tokenizer: &mut Tokenizer) -> State
+    requires { IsAt NeedsNothing StateName.FlowStart (world _tokenizer.old) }
+    ensures to { result ≡ (start_went (world _tokenizer.old)).to }
+    ensures world { world _tokenizer.new ≡ (start_went (world _tokenizer.old)).world }
+{
+    State::Retry(StateName::FlowBlankLineBefore)
+}
+
+/// Before a blank line.
+///
+/// ```markdown
+/// > |
+///     ^
+/// ```
+pub fn blank_line_before(tokenizer: &mut Tokenizer) -> State
+    requires { IsAt NeedsNothing StateName.FlowBlankLineBefore (world tokenizer.old) }
+    ensures to { result ≢ State.Error → result ≡ (blank_line_before_went (world tokenizer.old)).to }
+    ensures world { result ≢ State.Error → world tokenizer.new ≡ (blank_line_before_went (world tokenizer.old)).world }
+{
+    or_error!(tokenizer.attempt(
+        State::Next(StateName::FlowBlankLineAfter),
+        State::Next(StateName::FlowBeforeThematicBreak)
+    ));
+    State::Retry(StateName::BlankLineStart)
+}
+
+/// Before a thematic break.
+///
+/// ```markdown
+/// > | ***
+///     ^
+/// ```
+pub fn before_thematic_break(tokenizer: &mut Tokenizer) -> State
+    requires { IsAt NeedsNothing StateName.FlowBeforeThematicBreak (world tokenizer.old) }
+    ensures to { result ≢ State.Error → result ≡ (before_thematic_break_went (world tokenizer.old)).to }
+    ensures world { result ≢ State.Error → world tokenizer.new ≡ (before_thematic_break_went (world tokenizer.old)).world }
+{
+    or_error!(tokenizer.attempt(
+        State::Next(StateName::FlowAfter),
+        State::Next(StateName::FlowBeforeContent)
+    ));
+    State::Retry(StateName::ThematicBreakStart)
+}
+
+/// Before content.
+///
+/// ```markdown
+/// > | a
+///     ^
+/// ```
+pub fn before_content(tokenizer: &mut Tokenizer) -> State
+    requires { IsAt NeedsNothing StateName.FlowBeforeContent (world tokenizer.old) }
+    ensures to { result ≢ State.Error → result ≡ (before_content_went (world tokenizer.old)).to }
+    ensures world { result ≢ State.Error → world tokenizer.new ≡ (before_content_went (world tokenizer.old)).world }
+{
+    or_error!(tokenizer.attempt(State::Next(StateName::FlowAfter), State::Nok));
+    State::Retry(StateName::ContentChunkStart)
+}
+
+/// Takes the ending of a line as a part of this name, if one is here.
+fn ending(tokenizer: &mut Tokenizer, name: Name) -> State
+    requires { (world tokenizer.old).current ≡ looks (world tokenizer.old) }
+    ensures to { result ≢ State.Error → result ≡ (ending_went name (world tokenizer.old)).to }
+    ensures world { result ≢ State.Error → world tokenizer.new ≡ (ending_went name (world tokenizer.old)).world }
+{
+    match tokenizer.current {
+        None => State::Ok,
+        Some(b'\n') => {
+            or_error!(tokenizer.enter(name));
+            tokenizer.consume();
+            or_error!(tokenizer.exit(name));
+            State::Next(StateName::FlowStart)
+        }
+        _ => State::Nok,
+    }
+}
+
+/// Behind a blank line, at its ending or the end of the text.
+///
+/// ```markdown
+/// > |
+///     ^
+/// ```
+pub fn blank_line_after(tokenizer: &mut Tokenizer) -> State
+    requires { IsAt NeedsNothing StateName.FlowBlankLineAfter (world tokenizer.old) }
+    ensures to { result ≢ State.Error → result ≡ (blank_line_after_went (world tokenizer.old)).to }
+    ensures world { result ≢ State.Error → world tokenizer.new ≡ (blank_line_after_went (world tokenizer.old)).world }
+{
+    if tokenizer.current.is_some() {
+        tokenizer.flags.interrupt = false;
+    }
+    ending(tokenizer, Name::BlankLineEnding)
+}
+
+/// Behind any other line, at its ending or the end of the text.
+///
+/// ```markdown
+/// > | ***
+///        ^
+/// ```
+pub fn after(tokenizer: &mut Tokenizer) -> State
+    requires { IsAt NeedsNothing StateName.FlowAfter (world tokenizer.old) }
+    ensures to { result ≢ State.Error → result ≡ (after_went (world tokenizer.old)).to }
+    ensures world { result ≢ State.Error → world tokenizer.new ≡ (after_went (world tokenizer.old)).world }
+{
+    ending(tokenizer, Name::LineEnding)
+}
+
+/// Calls a state of flow.
+fn call_state(tokenizer: &mut Tokenizer, name: StateName) -> State
+    requires current { (world tokenizer.old).current ≡ looks (world tokenizer.old) }
+    requires stands { stands flow_table_scheme (world tokenizer.old) (State.Next name) }
+    ensures to { result ≢ State.Error → result ≡ (flow_went (λ other. ⟦<ResolveName as PartialEq>⟧.eq other ResolveName.Content) name (world tokenizer.old)).to }
+    ensures world { result ≢ State.Error → world tokenizer.new ≡ (flow_went (λ other. ⟦<ResolveName as PartialEq>⟧.eq other ResolveName.Content) name (world tokenizer.old)).world }
+{
+    match name {
+        StateName::BlankLineStart => blank_line::start(tokenizer),
+        StateName::BlankLineAfter => blank_line::after(tokenizer),
+        StateName::ContentChunkStart => content::chunk_start(tokenizer),
+        StateName::ContentChunkInside => content::chunk_inside(tokenizer),
+        StateName::FlowStart => start(tokenizer),
+        StateName::FlowBlankLineBefore => blank_line_before(tokenizer),
+        StateName::FlowBeforeThematicBreak => before_thematic_break(tokenizer),
+        StateName::FlowBeforeContent => before_content(tokenizer),
+        StateName::FlowBlankLineAfter => blank_line_after(tokenizer),
+        StateName::FlowAfter => after(tokenizer),
+        StateName::SpaceOrTabStart => space_or_tab::start(tokenizer),
+        StateName::SpaceOrTabInside => space_or_tab::inside(tokenizer),
+        StateName::SpaceOrTabAfter => space_or_tab::after(tokenizer),
+        StateName::ThematicBreakStart => thematic_break::start(tokenizer),
+        StateName::ThematicBreakBefore => thematic_break::before(tokenizer),
+        StateName::ThematicBreakAtBreak => thematic_break::at_break(tokenizer),
+        StateName::ThematicBreakSequence => thematic_break::sequence(tokenizer),
+        _ => State::Nok,
+    }
+}
+
+/// The states of flow.
+pub struct FlowTable;
+
+impl Table for FlowTable {
+    ghost use Rattle.markdown_blocks.specs.States.{FlowStep};
+
+    ghost step = { FlowStep (λ other. ⟦<ResolveName as PartialEq>⟧.eq other ResolveName.Content) };
+
+    ghost scheme = { flow_table_scheme };
+
+    ghost resolves = { λ name old found new. Unit {0} };
+
+    fn call(tokenizer: &mut Tokenizer, name: StateName) -> State {
+        call_state(tokenizer, name)
+    }
+
+    fn resolve(tokenizer: &mut Tokenizer, name: ResolveName) -> Result<Option<Subresult>, Message> {
+        resolve::call(tokenizer, name)
+    }
+}

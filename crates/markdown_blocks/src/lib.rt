@@ -1,0 +1,10 @@
+// A parser of Markdown blocks.
+#![tactic(auto)]
+
+pub mod construct;
+pub mod outline;
+pub mod parser;
+pub mod resolve;
+
+pub use md_engine::{configuration, event, message, state, subtokenize, table, tokenizer};
+pub use md_seam::{inline, plain};

@@ -1,0 +1,82 @@
+// From a text to events.
+
+use crate::construct::flow::FlowTable;
+use md_engine::configuration::ParseOptions;
+use md_engine::event::{Content, Event, Point};
+use md_engine::message::Message;
+pub use md_engine::parse_state::ParseState;
+use md_engine::state::{Name as StateName, State};
+use md_engine::table::{flush, push};
+use md_engine::tokenizer::Tokenizer;
+use md_seam::inline::{Chunk, Inline, PartKind};
+use md_seam::plain::Plain;
+use md_seam::subtokenize::{Reader, subtokenize};
+use std::alloc::Global;
+
+/// Where a text begins.
+const FIRST_POINT: Point = Point {
+    line: 1,
+    column: 1,
+    index: 0,
+    vs: 0,
+};
+
+/// Reads text parts by an inline layer.
+#[derive(Drop)]
+struct TextReader<'a, 'b, I: Inline> {
+    inline: &'b I,
+    state: &'b ParseState<'a>,
+}
+
+impl<I: Inline> Reader for TextReader<'_, '_, I> {
+    fn reads(&self, content: Content) -> bool {
+        content == Content::Text || content == Content::String
+    }
+
+    fn read(
+        &self,
+        alloc: Global,
+        content: Content,
+        chunks: &[Chunk],
+    ) -> Result<Vec<Event>, Message> {
+        let kind = if content == Content::Text {
+            PartKind::Text
+        } else {
+            PartKind::String
+        };
+        self.inline.read(alloc, kind, chunks, self.state)
+    }
+}
+
+/// Reads a text: its events, and what else is known of it.
+///
+/// The text has at most `usize::MAX / 8` bytes. An `Err` says that memory ran out; then nothing is handed out.
+pub fn parse<'a>(
+    alloc: Global,
+    value: &'a str,
+    options: &'a ParseOptions,
+) -> Result<(Vec<Event>, ParseState<'a>), Message> {
+    let bytes = value.as_bytes();
+    let mut tokenizer = Tokenizer::new(alloc, FIRST_POINT, bytes, options);
+    let end = push::<FlowTable>(
+        &mut tokenizer,
+        bytes.len(),
+        State::Next(StateName::FlowStart),
+    );
+    if end == State::Error {
+        return Err(Message);
+    }
+    let found = flush::<FlowTable>(&mut tokenizer, end, true)?;
+    let state = ParseState {
+        options,
+        bytes,
+        definitions: found.definitions,
+        gfm_footnote_definitions: found.gfm_footnote_definitions,
+    };
+    let reader = TextReader {
+        inline: &Plain,
+        state: &state,
+    };
+    let events = subtokenize(alloc, &reader, &tokenizer.events)?;
+    Ok((events, state))
+}

@@ -1,0 +1,200 @@
+// Content: lines that no other block takes (CommonMark 4.7 and 4.8).
+//
+//     content ::= 1*line
+//
+// Each line first stands as one linked `Content`. When all lines are known, those that follow one another are joined and
+// read as one.
+
+ghost use Rattle.std.specs.Prelude.{◌≡◌, ◌≢◌};
+ghost use Rattle.md_engine.specs.World.{looks, world};
+ghost use Rattle.md_engine.specs.declared.state.Name.{Name as StateName};
+ghost use Rattle.md_engine.specs.declared.state.State.{State};
+ghost use Rattle.md_content.specs.States.{content_went};
+ghost use Rattle.md_content.specs.Chunks.{chunk_inside_code, chunk_start_went};
+ghost use Rattle.md_seam.specs.Spaces.{ends_line};
+ghost use Rattle.md_seam.specs.Went.{IsAt, NeedsNothing};
+
+use crate::paragraph;
+use md_engine::configuration::ParseOptions;
+use md_engine::event::{Content, Event, Kind, Link, Name};
+use md_engine::message::Message;
+use md_engine::or_error;
+use md_engine::resolve::Name as ResolveName;
+use md_engine::state::{Name as StateName, State};
+use md_engine::subtokenize::Subresult;
+use md_engine::table::{Table, flush, push};
+use md_engine::tokenizer::Tokenizer;
+use md_seam::inline::Chunk;
+use md_seam::subtokenize::{Reader, is_prefix, subtokenize};
+use std::alloc::Global;
+use std::mem;
+
+/// Before a line.
+///
+/// ```markdown
+/// > | a
+///     ^
+/// ```
+pub fn chunk_start(tokenizer: &mut Tokenizer) -> State
+    requires { IsAt NeedsNothing StateName.ContentChunkStart (world tokenizer.old) }
+    ensures to { result ≢ State.Error → result ≡ (chunk_start_went (world tokenizer.old)).to }
+    ensures world { result ≢ State.Error → world tokenizer.new ≡ (chunk_start_went (world tokenizer.old)).world }
+{
+    let link = Link {
+        previous: None,
+        next: None,
+        content: Content::Content,
+    };
+    or_error!(tokenizer.enter_link(Name::Content, link));
+    State::Retry(StateName::ContentChunkInside)
+}
+
+/// In a line.
+///
+/// ```markdown
+/// > | ab
+///     ^^
+/// ```
+pub fn chunk_inside(tokenizer: &mut Tokenizer) -> State
+    requires { IsAt NeedsNothing StateName.ContentChunkInside (world tokenizer.old) }
+    ensures to { result ≢ State.Error → result ≡ (chunk_inside_code (λ name. ⟦<ResolveName as PartialEq>⟧.eq name ResolveName.Content) (world tokenizer.old) (ends_line tokenizer.old.current)).to }
+    ensures world { result ≢ State.Error → world tokenizer.new ≡ (chunk_inside_code (λ name. ⟦<ResolveName as PartialEq>⟧.eq name ResolveName.Content) (world tokenizer.old) (ends_line tokenizer.old.current)).world }
+{
+    match tokenizer.current {
+        None | Some(b'\n') => {
+            or_error!(tokenizer.exit(Name::Content));
+            or_error!(tokenizer.register_resolver_before(ResolveName::Content));
+            tokenizer.flags.interrupt = true;
+            State::Ok
+        }
+        _ => {
+            tokenizer.consume();
+            State::Next(StateName::ContentChunkInside)
+        }
+    }
+}
+
+/// Calls a state of content.
+fn call_state(tokenizer: &mut Tokenizer, name: StateName) -> State
+    requires { (world tokenizer.old).current ≡ looks (world tokenizer.old) }
+    ensures to { result ≢ State.Error → result ≡ (content_went name (world tokenizer.old)).to }
+    ensures world { result ≢ State.Error → world tokenizer.new ≡ (content_went name (world tokenizer.old)).world }
+{
+    match name {
+        StateName::ParagraphStart => paragraph::start(tokenizer),
+        StateName::ParagraphLineStart => paragraph::line_start(tokenizer),
+        StateName::ParagraphInside => paragraph::inside(tokenizer),
+        _ => State::Nok,
+    }
+}
+
+/// The states of content.
+pub struct ContentTable;
+
+impl Table for ContentTable {
+    ghost use Rattle.std.specs.Prelude.{None};
+    ghost use Rattle.md_content.specs.States.{ContentStep, content_scheme};
+
+    ghost step = { ContentStep };
+
+    ghost scheme = { content_scheme };
+
+    ghost resolves = { λ name old found new. (found ≡ None) × (new ≡ old) };
+
+    fn call(tokenizer: &mut Tokenizer, name: StateName) -> State {
+        call_state(tokenizer, name)
+    }
+
+    fn resolve(
+        _tokenizer: &mut Tokenizer,
+        _name: ResolveName,
+    ) -> Result<Option<Subresult>, Message> {
+        Ok(None)
+    }
+}
+
+/// Reads joined lines.
+#[derive(Drop)]
+struct ContentReader<'a> {
+    bytes: &'a [u8],
+    options: &'a ParseOptions,
+}
+
+impl Reader for ContentReader<'_> {
+    fn reads(&self, content: Content) -> bool {
+        content == Content::Content
+    }
+
+    fn read(
+        &self,
+        alloc: Global,
+        _content: Content,
+        chunks: &[Chunk],
+    ) -> Result<Vec<Event>, Message> {
+        let mut tokenizer = Tokenizer::new(alloc, chunks[0].first, self.bytes, self.options);
+        for chunk in chunks {
+            tokenizer.define_skip(chunk.first)?;
+        }
+        let mut state = State::Next(StateName::ParagraphStart);
+        for chunk in chunks {
+            state = push::<ContentTable>(&mut tokenizer, chunk.after.index, state);
+            if state == State::Error {
+                return Err(Message);
+            }
+        }
+        flush::<ContentTable>(&mut tokenizer, state, true)?;
+        Ok(mem::replace(&mut tokenizer.events, Vec::new(alloc)))
+    }
+}
+
+/// Whether the part that begins here is a line of content.
+fn begins_line(event: &Event) -> bool {
+    event.kind == Kind::Enter && event.name == Name::Content
+}
+
+/// Whether a line of content that ends before `at` goes on: its ending stands at `at`, and behind the prefixes of the next
+/// line a line of content.
+fn goes_on(events: &[Event], at: usize) -> bool {
+    if at + 2 >= events.len() || events[at].name != Name::LineEnding {
+        return false;
+    }
+    let mut next = at + 2;
+    while next < events.len() && is_prefix(events[next].name) {
+        next += 1;
+    }
+    next < events.len() && begins_line(&events[next])
+}
+
+/// The events with the ending of each line of content that goes on in that line.
+fn join(alloc: Global, events: &[Event]) -> Result<Vec<Event>, Message> {
+    let mut joined = Vec::new(alloc);
+    let mut at = 0;
+    while at < events.len() {
+        let mut event = events[at];
+        at += 1;
+        if event.kind == Kind::Exit && event.name == Name::Content && goes_on(events, at) {
+            event.point = events[at + 1].point;
+            at += 2;
+        }
+        if joined.push(event).is_err() {
+            return Err(Message);
+        }
+    }
+    Ok(joined)
+}
+
+/// Joins the lines of content that follow one another, and reads them.
+pub fn resolve(tokenizer: &mut Tokenizer) -> Result<Option<Subresult>, Message> {
+    let alloc = tokenizer.alloc;
+    let reader = ContentReader {
+        bytes: tokenizer.bytes,
+        options: tokenizer.options,
+    };
+    let joined = join(alloc, &tokenizer.events)?;
+    tokenizer.events = subtokenize(alloc, &reader, &joined)?;
+    Ok(Some(Subresult {
+        done: !tokenizer.events.iter().any(|event| event.link.is_some()),
+        gfm_footnote_definitions: Vec::new(alloc),
+        definitions: Vec::new(alloc),
+    }))
+}

@@ -1,0 +1,5 @@
+// Content: lines that no other block takes, and what they hold.
+#![tactic(auto)]
+
+pub mod content;
+pub mod paragraph;

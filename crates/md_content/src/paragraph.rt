@@ -1,0 +1,84 @@
+// Paragraphs (CommonMark 4.8).
+//
+//     paragraph ::= 1*line
+//
+// It adds `Paragraph` around one linked `Data` a line, which reaches over the line's ending where the paragraph goes on.
+
+ghost use Rattle.std.specs.Prelude.{◌≡◌, ◌≢◌};
+ghost use Rattle.md_engine.specs.World.{world};
+ghost use Rattle.md_engine.specs.declared.state.Name.{Name as StateName};
+ghost use Rattle.md_engine.specs.declared.state.State.{State};
+ghost use Rattle.md_content.specs.Paragraph.{inside_went, line_start_went, start_went};
+ghost use Rattle.md_seam.specs.Went.{IsAt, NeedsNothing};
+
+use md_engine::event::{Content, Link, Name};
+use md_engine::or_error;
+use md_engine::state::{Name as StateName, State};
+use md_engine::tokenizer::Tokenizer;
+
+/// Before a paragraph.
+///
+/// ```markdown
+/// > | a
+///     ^
+///   | b
+/// ```
+pub fn start(tokenizer: &mut Tokenizer) -> State
+    requires { IsAt NeedsNothing StateName.ParagraphStart (world tokenizer.old) }
+    ensures to { result ≢ State.Error → result ≡ (start_went (world tokenizer.old)).to }
+    ensures world { result ≢ State.Error → world tokenizer.new ≡ (start_went (world tokenizer.old)).world }
+{
+    or_error!(tokenizer.enter(Name::Paragraph));
+    State::Retry(StateName::ParagraphLineStart)
+}
+
+/// Before a line.
+///
+/// ```markdown
+/// > | a
+///     ^
+/// > | b
+///     ^
+/// ```
+pub fn line_start(tokenizer: &mut Tokenizer) -> State
+    requires { IsAt NeedsNothing StateName.ParagraphLineStart (world tokenizer.old) }
+    ensures to { result ≢ State.Error → result ≡ (line_start_went (world tokenizer.old)).to }
+    ensures world { result ≢ State.Error → world tokenizer.new ≡ (line_start_went (world tokenizer.old)).world }
+{
+    let link = Link {
+        previous: None,
+        next: None,
+        content: Content::Text,
+    };
+    or_error!(tokenizer.enter_link(Name::Data, link));
+    State::Retry(StateName::ParagraphInside)
+}
+
+/// In a line.
+///
+/// ```markdown
+/// > | ab
+///     ^^
+/// ```
+pub fn inside(tokenizer: &mut Tokenizer) -> State
+    requires { IsAt NeedsNothing StateName.ParagraphInside (world tokenizer.old) }
+    ensures to { result ≢ State.Error → result ≡ (inside_went (world tokenizer.old)).to }
+    ensures world { result ≢ State.Error → world tokenizer.new ≡ (inside_went (world tokenizer.old)).world }
+{
+    match tokenizer.current {
+        None => {
+            or_error!(tokenizer.exit(Name::Data));
+            or_error!(tokenizer.exit(Name::Paragraph));
+            State::Ok
+        }
+        Some(b'\n') => {
+            tokenizer.consume();
+            or_error!(tokenizer.exit(Name::Data));
+            State::Next(StateName::ParagraphLineStart)
+        }
+        _ => {
+            tokenizer.consume();
+            State::Next(StateName::ParagraphInside)
+        }
+    }
+}

@@ -1,0 +1,86 @@
+-- The thematic break.
+use Rattle.std.specs.Prelude.{◌≡◌, ℕ, ◌+◌, ◌≤◌, Bool, true, false, ◌&&◌, ◌||◌, ◌==◌, if◌then◌else◌, nat_le, Option, Some, None}
+use Rattle.md_engine.specs.declared.event.Name.TheVariants.{ThematicBreak, ThematicBreakSequence}
+use Rattle.md_engine.specs.declared.state.Name.{Name as StateName}
+use Rattle.md_engine.specs.declared.state.Name.TheVariants.{ThematicBreakStart, ThematicBreakBefore, ThematicBreakAtBreak, ThematicBreakSequence as Sequence}
+use Rattle.md_engine.specs.declared.state.State.TheVariants.{Ok, Nok, Next, Retry}
+use Rattle.md_engine.specs.declared.tokenizer.Scratch.{Scratch}
+use Rattle.md_engine.specs.Scheme.{After, Ends, Scheme, Spot, cells_before, seen}
+use Rattle.md_engine.specs.World.{World}
+use Rattle.md_seam.specs.Spaces.{any_size, ends_line, IsRest, is_current, rest_ready, sees_white, small_indent, white_then}
+use Rattle.md_seam.specs.Went.{Went, entered, exited, taken}
+
+-- a marker of a break (CommonMark 4.1)
+abbrev pub is_marker : ℕ → Bool
+is_marker b = (b == 42) || (b == 45) || (b == 95)
+
+abbrev pub sees_marker : Option ℕ → Bool
+sees_marker None = false
+sees_marker (Some b) = is_marker b
+
+abbrev pub without_marker : Scratch → Scratch
+without_marker s = record s { marker = 0; size = 0 }
+
+-- by whether breaks are on, and whether whitespace stands here
+abbrev pub start_code : World → Bool → Bool → Went
+start_code w false white = record { to = Nok; world = w }
+start_code w true true = white_then (entered w ThematicBreak) 0 (small_indent w.setting.options) (Next ThematicBreakBefore) Nok
+start_code w true false = record { to = Retry ThematicBreakBefore; world = entered w ThematicBreak }
+
+-- by what stands here
+abbrev pub before_code : World → Option ℕ → Went
+before_code w None = record { to = Nok; world = w }
+before_code w (Some b) = if is_marker b then record { to = Retry ThematicBreakAtBreak; world = record w { scratch = record w.scratch { marker = b } } } else record { to = Nok; world = w }
+
+-- by whether the marker stands here, and whether the line ends here with enough of it
+abbrev pub at_break_code : World → Bool → Bool → Went
+at_break_code w true done = record { to = Retry Sequence; world = entered w ThematicBreakSequence }
+at_break_code w false true = record { to = Ok; world = record (exited w ThematicBreak) { scratch = without_marker w.scratch; flags = record w.flags { interrupt = false } } }
+at_break_code w false false = record { to = Nok; world = record w { scratch = without_marker w.scratch } }
+
+-- by whether the marker stands here, and whether whitespace does
+abbrev pub sequence_code : World → Bool → Bool → Went
+sequence_code w true white = record { to = Next Sequence; world = record (taken w) { scratch = record w.scratch { size = w.scratch.size + 1 } } }
+sequence_code w false true = white_then (exited w ThematicBreakSequence) 0 any_size (Next ThematicBreakAtBreak) Nok
+sequence_code w false false = record { to = Retry ThematicBreakAtBreak; world = exited w ThematicBreakSequence }
+
+-- each state with what it does, where there is memory
+abbrev pub start_went : World → Went
+start_went w = start_code w w.setting.options.constructs.thematic_break (sees_white w.current)
+
+abbrev pub before_went : World → Went
+before_went w = before_code w w.current
+
+abbrev pub at_break_went : World → Went
+at_break_went w = at_break_code w (is_current w.scratch.marker w.current) (ends_line w.current && nat_le 3 w.scratch.size)
+
+abbrev pub sequence_went : World → Went
+sequence_went w = sequence_code w (is_current w.scratch.marker w.current) (sees_white w.current)
+
+-- Behind the indent there is a marker, and those that were taken lie before the point.
+pub record IsMarked (x : Spot) : Type 0 where
+  pub marker : is_marker x.scratch.marker ≡ true
+  pub size : x.scratch.size ≤ cells_before x.point
+  pub rest : IsRest (without_marker x.scratch)
+
+abbrev pub BreakNeeds : StateName → World → Type 0
+BreakNeeds Sequence w = w.scratch.size ≤ cells_before w.point
+BreakNeeds _ w = Unit {0}
+
+abbrev pub break_ready : StateName → Spot → After → Type 0
+break_ready ThematicBreakAtBreak x K = IsMarked x × Ends IsRest IsRest x K
+break_ready Sequence x K = IsMarked x × Ends IsRest IsRest x K
+break_ready _ x K = rest_ready x K
+
+abbrev pub break_rank : StateName → Spot → ℕ
+break_rank ThematicBreakStart x = 5
+break_rank ThematicBreakBefore x = 3
+break_rank ThematicBreakAtBreak x = if is_current x.scratch.marker (seen x) then 2 else 0
+break_rank _ x = if is_current x.scratch.marker (seen x) then 1 else 2
+
+abbrev pub break_tries : StateName → ℕ
+break_tries ThematicBreakBefore = 4
+break_tries _ = 1
+
+abbrev pub break_scheme : Scheme
+break_scheme = record { ready = break_ready; level = λ n. 1; rank = break_rank; tries = break_tries }

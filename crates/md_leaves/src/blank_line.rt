@@ -1,0 +1,55 @@
+// Blank lines (CommonMark 4.9).
+//
+//     blank_line ::= *space_or_tab
+//
+// It adds the `SpaceOrTab` of its whitespace, if there is any. The line's ending is not a part of it.
+
+ghost use Rattle.std.specs.Prelude.{◌≡◌, ◌≢◌};
+ghost use Rattle.md_engine.specs.World.{world};
+ghost use Rattle.md_engine.specs.declared.state.Name.{Name as StateName};
+ghost use Rattle.md_engine.specs.declared.state.State.{State};
+ghost use Rattle.md_leaves.specs.Blank.{after_went, start_went};
+ghost use Rattle.md_seam.specs.Went.{IsAt, NeedsNothing};
+
+use md_engine::state::{Name as StateName, State};
+use md_engine::tokenizer::Tokenizer;
+use md_seam::space_or_tab::{is_space_or_tab, space_or_tab};
+
+/// Before a blank line.
+///
+/// ```markdown
+/// > |
+///     ^
+/// ```
+pub fn start(tokenizer: &mut Tokenizer) -> State
+    requires { IsAt NeedsNothing StateName.BlankLineStart (world tokenizer.old) }
+    ensures to { result ≢ State.Error → result ≡ (start_went (world tokenizer.old)).to }
+    ensures world { result ≢ State.Error → world tokenizer.new ≡ (start_went (world tokenizer.old)).world }
+{
+    if is_space_or_tab(tokenizer.current) {
+        space_or_tab(
+            tokenizer,
+            State::Next(StateName::BlankLineAfter),
+            State::Nok,
+        )
+    } else {
+        State::Retry(StateName::BlankLineAfter)
+    }
+}
+
+/// Behind the whitespace.
+///
+/// ```markdown
+/// > | a
+///     ^
+/// ```
+pub fn after(tokenizer: &mut Tokenizer) -> State
+    requires { IsAt NeedsNothing StateName.BlankLineAfter (world tokenizer.old) }
+    ensures to { result ≡ (after_went (world tokenizer.old)).to }
+    ensures world { world tokenizer.new ≡ (after_went (world tokenizer.old)).world }
+{
+    match tokenizer.current {
+        None | Some(b'\n') => State::Ok,
+        _ => State::Nok,
+    }
+}

@@ -1,0 +1,5 @@
+// Small leaf blocks.
+#![tactic(auto)]
+
+pub mod blank_line;
+pub mod thematic_break;

@@ -1,0 +1,132 @@
+// Thematic breaks (CommonMark 4.1).
+//
+//     thematic_break ::= small_indent marker 2*( *space_or_tab marker ) *space_or_tab
+//     marker         ::= '*' | '-' | '_'
+//
+// All markers of a break are one byte. It adds `ThematicBreak` around `ThematicBreakSequence`, one for each run of
+// markers, and `SpaceOrTab`.
+
+ghost use Rattle.std.specs.Prelude.{◌≡◌, ◌≢◌};
+ghost use Rattle.md_engine.specs.World.{world};
+ghost use Rattle.md_engine.specs.declared.state.Name.{Name as StateName};
+ghost use Rattle.md_engine.specs.declared.state.State.{State};
+ghost use Rattle.md_leaves.specs.Break.{BreakNeeds, at_break_went, before_went, sequence_went, start_went};
+ghost use Rattle.md_seam.specs.Went.{IsAt};
+
+use md_engine::event::Name;
+use md_engine::or_error;
+use md_engine::state::{Name as StateName, State};
+use md_engine::tokenizer::Tokenizer;
+use md_seam::space_or_tab::{is_space_or_tab, small_indent, space_or_tab_min_max};
+
+/// A break has at least so many markers.
+const MARKERS: usize = 3;
+
+/// Before a break.
+///
+/// ```markdown
+/// > | ***
+///     ^
+/// ```
+pub fn start(tokenizer: &mut Tokenizer) -> State
+    requires { IsAt BreakNeeds StateName.ThematicBreakStart (world tokenizer.old) }
+    ensures to { result ≢ State.Error → result ≡ (start_went (world tokenizer.old)).to }
+    ensures world { result ≢ State.Error → world tokenizer.new ≡ (start_went (world tokenizer.old)).world }
+{
+    if !tokenizer.options.constructs.thematic_break {
+        return State::Nok;
+    }
+    or_error!(tokenizer.enter(Name::ThematicBreak));
+    if is_space_or_tab(tokenizer.current) {
+        let max = small_indent(tokenizer);
+        space_or_tab_min_max(
+            tokenizer,
+            0,
+            max,
+            State::Next(StateName::ThematicBreakBefore),
+            State::Nok,
+        )
+    } else {
+        State::Retry(StateName::ThematicBreakBefore)
+    }
+}
+
+/// Behind the indent, at a marker.
+///
+/// ```markdown
+/// > | ***
+///     ^
+/// ```
+pub fn before(tokenizer: &mut Tokenizer) -> State
+    requires { IsAt BreakNeeds StateName.ThematicBreakBefore (world tokenizer.old) }
+    ensures to { result ≡ (before_went (world tokenizer.old)).to }
+    ensures world { world tokenizer.new ≡ (before_went (world tokenizer.old)).world }
+{
+    match tokenizer.current {
+        Some(byte) if byte == b'*' || byte == b'-' || byte == b'_' => {
+            tokenizer.scratch.marker = byte;
+            State::Retry(StateName::ThematicBreakAtBreak)
+        }
+        _ => State::Nok,
+    }
+}
+
+/// Before a run of markers, or at the end.
+///
+/// ```markdown
+/// > | * * *
+///     ^ ^ ^
+/// ```
+pub fn at_break(tokenizer: &mut Tokenizer) -> State
+    requires { IsAt BreakNeeds StateName.ThematicBreakAtBreak (world tokenizer.old) }
+    ensures to { result ≢ State.Error → result ≡ (at_break_went (world tokenizer.old)).to }
+    ensures world { result ≢ State.Error → world tokenizer.new ≡ (at_break_went (world tokenizer.old)).world }
+{
+    if tokenizer.current == Some(tokenizer.scratch.marker) {
+        or_error!(tokenizer.enter(Name::ThematicBreakSequence));
+        return State::Retry(StateName::ThematicBreakSequence);
+    }
+    let is_break = match tokenizer.current {
+        None | Some(b'\n') => tokenizer.scratch.size >= MARKERS,
+        _ => false,
+    };
+    tokenizer.scratch.marker = 0;
+    tokenizer.scratch.size = 0;
+    if is_break {
+        or_error!(tokenizer.exit(Name::ThematicBreak));
+        tokenizer.flags.interrupt = false;
+        State::Ok
+    } else {
+        State::Nok
+    }
+}
+
+/// In a run of markers.
+///
+/// ```markdown
+/// > | ***
+///     ^^^
+/// ```
+pub fn sequence(tokenizer: &mut Tokenizer) -> State
+    requires { IsAt BreakNeeds StateName.ThematicBreakSequence (world tokenizer.old) }
+    ensures to { result ≢ State.Error → result ≡ (sequence_went (world tokenizer.old)).to }
+    ensures world { result ≢ State.Error → world tokenizer.new ≡ (sequence_went (world tokenizer.old)).world }
+{
+    if tokenizer.current == Some(tokenizer.scratch.marker) {
+        tokenizer.consume();
+        tokenizer.scratch.size += 1;
+        return State::Next(StateName::ThematicBreakSequence);
+    }
+    or_error!(tokenizer.exit(Name::ThematicBreakSequence));
+    if is_space_or_tab(tokenizer.current) {
+        space_or_tab_min_max(
+            tokenizer,
+            0,
+            usize::MAX,
+            State::Next(StateName::ThematicBreakAtBreak),
+            State::Nok,
+        )
+    } else {
+        State::Retry(StateName::ThematicBreakAtBreak)
+    }
+}

@@ -1,0 +1,98 @@
+-- Spaces and tabs.
+use Rattle.std.specs.Prelude.{◌≡◌, ℕ, ◌+◌, ◌-◌, ◌^◌, ◌<◌, ◌≤◌, Bool, true, false, ◌&&◌, ◌==◌, if◌then◌else◌, nat_lt, nat_le, Option, Some, None}
+use Rattle.md_engine.specs.declared.event.Name.TheVariants.{SpaceOrTab}
+use Rattle.md_engine.specs.declared.state.Name.{Name as StateName}
+use Rattle.md_engine.specs.declared.state.Name.TheVariants.{SpaceOrTabStart, SpaceOrTabInside, SpaceOrTabAfter}
+use Rattle.md_engine.specs.declared.state.State.{State}
+use Rattle.md_engine.specs.declared.state.State.TheVariants.{Ok, Nok, Next, Retry}
+use Rattle.md_engine.specs.declared.tokenizer.Scratch.{Scratch}
+use Rattle.md_engine.specs.declared.tokenizer.TheConstants.Scratch.{REST}
+use Rattle.md_engine.specs.declared.configuration.ParseOptions.{ParseOptions}
+use Rattle.md_engine.specs.World.{World}
+use Rattle.md_engine.specs.Scheme.{Spot, After, Scheme, Ends, cells_before}
+use Rattle.md_seam.specs.Texts.{is_white}
+use Rattle.md_seam.specs.Went.{Went, entered, exited, taken, tried}
+
+-- whether a space or a column of a tab stands here
+abbrev pub sees_white : Option ℕ → Bool
+sees_white None = false
+sees_white (Some b) = is_white b
+
+-- no limit
+abbrev pub any_size : ℕ
+any_size = 2 ^ 64 - 1
+
+-- the greatest small indent, in columns
+abbrev pub small_indent : ParseOptions → ℕ
+small_indent options = if options.constructs.code_indented then 3 else any_size
+
+-- so much whitespace is asked for, of which so much was taken
+abbrev pub asking : ℕ → ℕ → ℕ → Scratch → Scratch
+asking min max size s = record s { whitespace = record { min = min; max = max; size = size } }
+
+abbrev pub calmed : Scratch → Scratch
+calmed s = asking 0 0 0 s
+
+-- an attempt at so much whitespace begins
+abbrev pub white_then : World → ℕ → ℕ → State → State → Went
+white_then w min max ok nok = record { to = Retry SpaceOrTabStart; world = record (tried w ok nok) { scratch = asking min max 0 w.scratch } }
+
+-- by whether whitespace stands here, and there is room for it
+abbrev pub start_code : World → Bool → Went
+start_code w true = record { to = Retry SpaceOrTabInside; world = entered w SpaceOrTab }
+start_code w false = record { to = Retry SpaceOrTabAfter; world = w }
+
+abbrev pub inside_code : World → Bool → Went
+inside_code w true = record { to = Next SpaceOrTabInside; world = record (taken w) { scratch = asking w.scratch.whitespace.min w.scratch.whitespace.max (w.scratch.whitespace.size + 1) w.scratch } }
+inside_code w false = record { to = Retry SpaceOrTabAfter; world = exited w SpaceOrTab }
+
+-- by whether it is enough
+abbrev pub after_code : World → Bool → Went
+after_code w true = record { to = Ok; world = record w { scratch = calmed w.scratch } }
+after_code w false = record { to = Nok; world = record w { scratch = calmed w.scratch } }
+
+-- what is taken lies before the point
+abbrev pub WhiteNeeds : StateName → World → Type 0
+WhiteNeeds SpaceOrTabInside w = w.scratch.whitespace.size ≤ cells_before w.point
+WhiteNeeds _ w = Unit {0}
+
+-- each state with what it does, where there is memory
+abbrev pub start_went : World → Went
+start_went w = start_code w (sees_white w.current && nat_lt 0 w.scratch.whitespace.max)
+
+abbrev pub inside_went : World → Went
+inside_went w = inside_code w (sees_white w.current && nat_lt w.scratch.whitespace.size w.scratch.whitespace.max)
+
+abbrev pub after_went : World → Went
+after_went w = after_code w (nat_le w.scratch.whitespace.min w.scratch.whitespace.size)
+
+-- whether this byte stands here
+abbrev pub is_current : ℕ → Option ℕ → Bool
+is_current m None = false
+is_current m (Some b) = b == m
+
+-- whether the line ends here
+abbrev pub ends_line : Option ℕ → Bool
+ends_line None = true
+ends_line (Some b) = b == 10
+
+-- Readiness.
+
+-- whitespace leaves all but its own fields, and refuses only where some is asked for
+abbrev pub white_ready : StateName → Spot → After → Type 0
+white_ready n x K = (x.scratch.whitespace.size ≤ cells_before x.point) × Ends (λ s. s ≡ calmed x.scratch) (λ s. (s ≡ calmed x.scratch) × (0 < x.scratch.whitespace.min)) x K
+
+abbrev pub white_rank : StateName → Spot → ℕ
+white_rank SpaceOrTabStart x = 2
+white_rank SpaceOrTabInside x = 1
+white_rank _ x = 0
+
+abbrev pub white_scheme : Scheme
+white_scheme = record { ready = white_ready; level = λ n. 0; rank = white_rank; tries = λ n. 0 }
+
+-- a construct at rest, which ends at rest
+abbrev pub IsRest : Scratch → Type 0
+IsRest s = s ≡ REST
+
+abbrev pub rest_ready : Spot → After → Type 0
+rest_ready x K = IsRest x.scratch × Ends IsRest IsRest x K

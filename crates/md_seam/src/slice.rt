@@ -1,0 +1,53 @@
+// Parts of the text, lent from it.
+
+use md_engine::event::Point;
+
+/// Where a part begins, and where it has ended.
+#[derive(Clone, Copy, Debug, PartialEq, Eq)]
+pub struct Position {
+    pub start: Point,
+    pub end: Point,
+}
+
+/// What stands between two points.
+#[derive(Clone, Copy, Debug)]
+pub struct Slice<'a> {
+    /// The virtual spaces before the bytes: columns of a tab that begins before the part.
+    pub before: usize,
+    pub bytes: &'a [u8],
+    /// The virtual spaces behind the bytes: columns of a tab that ends behind the part.
+    pub after: usize,
+}
+
+impl<'a> Slice<'a> {
+    /// What stands at a position of the text; nothing if the text has no such position.
+    pub fn from_position(bytes: &'a [u8], position: Position) -> Slice<'a> {
+        let Position { start, end } = position;
+        if start.vs > 0 && start.index == end.index {
+            return Slice {
+                before: end.vs.saturating_sub(start.vs),
+                bytes: &[],
+                after: 0,
+            };
+        }
+        let first = if start.vs > 0 {
+            start.index.saturating_add(1)
+        } else {
+            start.index
+        };
+        Slice {
+            before: if start.vs > 0 {
+                columns_left(start.column)
+            } else {
+                0
+            },
+            bytes: bytes.get(first..end.index).unwrap_or(&[]),
+            after: end.vs,
+        }
+    }
+}
+
+/// The columns from this one, counted from 1, to the end of the tab that it lies in.
+fn columns_left(column: usize) -> usize {
+    4 - column.wrapping_sub(1) % 4
+}

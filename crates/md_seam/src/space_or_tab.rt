@@ -1,0 +1,127 @@
+// Spaces and tabs (CommonMark 2.2).
+//
+//     space_or_tab ::= min*max ( space | column of a tab )
+//
+// It adds one `SpaceOrTab` around them, and nothing where there are none.
+
+ghost use Rattle.std.specs.Prelude.{◌≡◌, ◌≢◌};
+ghost use Rattle.md_engine.specs.World.{world};
+ghost use Rattle.md_engine.specs.declared.state.Name.{Name as StateName};
+ghost use Rattle.md_engine.specs.declared.state.State.{State};
+ghost use Rattle.md_seam.specs.Spaces.{WhiteNeeds, after_went, any_size, inside_went, sees_white, small_indent, start_went, white_then};
+ghost use Rattle.md_seam.specs.Went.{IsAt};
+
+use md_engine::event::Name;
+use md_engine::or_error;
+use md_engine::state::{Name as StateName, State};
+use md_engine::tokenizer::{Tokenizer, Whitespace};
+
+/// The greatest small indent: 3 columns.
+const SMALL_INDENT: usize = 3;
+
+/// Whether this is a space or a tab.
+pub fn is_space_or_tab(current: Option<u8>) -> bool
+    ensures { result ≡ sees_white current }
+{
+    match current {
+        Some(byte) => byte == b' ' || byte == b'\t',
+        None => false,
+    }
+}
+
+/// The greatest small indent, in columns: 3, or any where there is no indented code.
+pub fn small_indent(tokenizer: &Tokenizer) -> usize
+    ensures { result ≡ small_indent (world tokenizer.now).setting.options }
+{
+    if tokenizer.options.constructs.code_indented {
+        SMALL_INDENT
+    } else {
+        usize::MAX
+    }
+}
+
+/// Tries whitespace of at least `min` and at most `max` columns, and goes on with `ok` where it is there, else with `nok`.
+/// No limit is the greatest `usize`.
+pub fn space_or_tab_min_max(
+    tokenizer: &mut Tokenizer,
+    min: usize,
+    max: usize,
+    ok: State,
+    nok: State,
+) -> State
+    ensures to { result ≢ State.Error → result ≡ (white_then (world tokenizer.old) min max ok nok).to }
+    ensures world { result ≢ State.Error → world tokenizer.new ≡ (white_then (world tokenizer.old) min max ok nok).world }
+{
+    or_error!(tokenizer.attempt(ok, nok));
+    tokenizer.scratch.whitespace = Whitespace { min, max, size: 0 };
+    State::Retry(StateName::SpaceOrTabStart)
+}
+
+/// Tries at least one space or tab, and goes on with `ok` where it is there, else with `nok`.
+pub fn space_or_tab(tokenizer: &mut Tokenizer, ok: State, nok: State) -> State
+    ensures to { result ≢ State.Error → result ≡ (white_then (world tokenizer.old) 1 any_size ok nok).to }
+    ensures world { result ≢ State.Error → world tokenizer.new ≡ (white_then (world tokenizer.old) 1 any_size ok nok).world }
+{
+    space_or_tab_min_max(tokenizer, 1, usize::MAX, ok, nok)
+}
+
+/// Before whitespace.
+///
+/// ```markdown
+/// > |   a
+///     ^
+/// ```
+pub fn start(tokenizer: &mut Tokenizer) -> State
+    requires { IsAt WhiteNeeds StateName.SpaceOrTabStart (world tokenizer.old) }
+    ensures to { result ≢ State.Error → result ≡ (start_went (world tokenizer.old)).to }
+    ensures world { result ≢ State.Error → world tokenizer.new ≡ (start_went (world tokenizer.old)).world }
+{
+    if is_space_or_tab(tokenizer.current) && tokenizer.scratch.whitespace.max > 0 {
+        or_error!(tokenizer.enter(Name::SpaceOrTab));
+        State::Retry(StateName::SpaceOrTabInside)
+    } else {
+        State::Retry(StateName::SpaceOrTabAfter)
+    }
+}
+
+/// In whitespace.
+///
+/// ```markdown
+/// > |   a
+///      ^
+/// ```
+pub fn inside(tokenizer: &mut Tokenizer) -> State
+    requires { IsAt WhiteNeeds StateName.SpaceOrTabInside (world tokenizer.old) }
+    ensures to { result ≢ State.Error → result ≡ (inside_went (world tokenizer.old)).to }
+    ensures world { result ≢ State.Error → world tokenizer.new ≡ (inside_went (world tokenizer.old)).world }
+{
+    let Whitespace { max, size, .. } = tokenizer.scratch.whitespace;
+    if is_space_or_tab(tokenizer.current) && size < max {
+        tokenizer.consume();
+        tokenizer.scratch.whitespace.size += 1;
+        State::Next(StateName::SpaceOrTabInside)
+    } else {
+        or_error!(tokenizer.exit(Name::SpaceOrTab));
+        State::Retry(StateName::SpaceOrTabAfter)
+    }
+}
+
+/// Behind whitespace.
+///
+/// ```markdown
+/// > |   a
+///       ^
+/// ```
+pub fn after(tokenizer: &mut Tokenizer) -> State
+    requires { IsAt WhiteNeeds StateName.SpaceOrTabAfter (world tokenizer.old) }
+    ensures to { result ≡ (after_went (world tokenizer.old)).to }
+    ensures world { world tokenizer.new ≡ (after_went (world tokenizer.old)).world }
+{
+    let Whitespace { min, size, .. } = tokenizer.scratch.whitespace;
+    tokenizer.scratch.whitespace = Whitespace {
+        min: 0,
+        max: 0,
+        size: 0,
+    };
+    if size >= min { State::Ok } else { State::Nok }
+}
