@@ -1,6 +1,7 @@
 pub mod Went
 pub mod Spaces
 pub mod Inline
+pub mod Parts
 pub mod Nested
 pub mod Places
 pub mod Spelled

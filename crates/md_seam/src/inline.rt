@@ -1,5 +1,8 @@
 // What the block parser hands to an inline layer: the text parts of a document, each as the chunks that it stands in.
 
+ghost use Rattle.std.specs.Prelude.{IfOk};
+ghost use Rattle.md_seam.specs.Parts.{AreChunks, ArePlaced};
+
 use md_engine::event::{Event, Point};
 use md_engine::message::Message;
 use md_engine::parse_state::ParseState;
@@ -32,5 +35,7 @@ pub trait Inline {
         kind: PartKind,
         chunks: &[Chunk],
         state: &ParseState,
-    ) -> Result<Vec<Event>, Message>;
+    ) -> Result<Vec<Event>, Message>
+        requires { AreChunks state.now.bytes.now chunks.now }
+        ensures { IfOk result (λ events. ArePlaced state.now.bytes.now events.items) };
 }

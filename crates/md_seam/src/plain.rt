@@ -1,12 +1,15 @@
 // The plainest inline layer.
 
+ghost use Rattle.std.specs.Prelude.{◌≡◌, OnOk};
+ghost use Rattle.md_engine.specs.World.{world};
+ghost use Rattle.md_seam.specs.Parts.{IsChunk};
+
 use crate::inline::{Chunk, Inline, PartKind};
 use md_engine::event::{Event, Name};
 use md_engine::message::Message;
 use md_engine::parse_state::ParseState;
 use md_engine::tokenizer::Tokenizer;
 use std::alloc::Global;
-use std::mem;
 
 /// Reads a text part as lines: `Data` over each line, if it is not empty, and `LineEnding` over its ending.
 pub struct Plain;
@@ -17,7 +20,10 @@ fn ends_line(byte: u8) -> bool {
 }
 
 /// Reads the line of a chunk, and its ending.
-fn read_chunk(tokenizer: &mut Tokenizer, chunk: &Chunk) -> Result<(), Message> {
+fn read_chunk(tokenizer: &mut Tokenizer, chunk: &Chunk) -> Result<(), Message>
+    requires { IsChunk (world tokenizer.old).setting.bytes chunk.now }
+    ensures { OnOk result ((world tokenizer.new).setting ≡ (world tokenizer.old).setting) }
+{
     tokenizer.point = chunk.first;
     let end = chunk.after.index;
     if tokenizer.point.index < end && !ends_line(tokenizer.bytes[tokenizer.point.index]) {
@@ -47,6 +53,6 @@ impl Inline for Plain {
         for chunk in chunks {
             read_chunk(&mut tokenizer, chunk)?;
         }
-        Ok(mem::replace(&mut tokenizer.events, Vec::new(alloc)))
+        Ok(tokenizer.events)
     }
 }

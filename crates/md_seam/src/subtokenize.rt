@@ -3,7 +3,8 @@
 // A linked part is a chunk of the text on one line. Chunks between which nothing but container prefixes stands are read as
 // one, and what is found there is put in the places of the chunks.
 
-ghost use Rattle.std.specs.Prelude.{◌+◌, ◌<◌, ◌≤◌, length};
+ghost use Rattle.std.specs.Prelude.{◌≡◌, ℕ, ◌+◌, ◌<◌, ◌≤◌, ◌++◌, All, IfOk, List, OnOk, [], length, slice_range};
+ghost use Rattle.md_seam.specs.Parts.{AreChunks, ArePlaced, IsChunk};
 
 use crate::inline::Chunk;
 use md_engine::event::{Content, Event, Kind, Name};
@@ -12,16 +13,16 @@ use std::alloc::Global;
 
 /// Reads parts of some contents.
 pub trait Reader {
+    /// The text that the parts stand in.
+    ghost text: { Self → List ℕ };
+
     /// Whether it reads parts of this content.
     fn reads(&self, content: Content) -> bool;
 
     /// The events of a part that stands in these chunks.
-    fn read(
-        &self,
-        alloc: Global,
-        content: Content,
-        chunks: &[Chunk],
-    ) -> Result<Vec<Event>, Message>;
+    fn read(&self, alloc: Global, content: Content, chunks: &[Chunk]) -> Result<Vec<Event>, Message>
+        requires { AreChunks (text self.now) chunks.now }
+        ensures { IfOk result (λ events. ArePlaced (text self.now) events.items) };
 }
 
 /// What was found in a part, and how much of it stands in its place.
@@ -52,6 +53,21 @@ fn chunk_content<R: Reader>(reader: &R, event: &Event) -> Option<Content> {
     }
 }
 
+/// Appends the chunk that begins at `at`, or changes nothing.
+fn push_chunk(chunks: &mut Vec<Chunk>, events: &[Event], at: usize) -> Result<(), Message>
+    requires { at + 1 < length events.now }
+    ensures { OnOk result ((bytes : List ℕ) → ArePlaced bytes events.now → All (IsChunk bytes) chunks.old.items → AreChunks bytes chunks.new.items) }
+{
+    let chunk = Chunk {
+        first: events[at].point,
+        after: events[at + 1].point,
+    };
+    match chunks.push(chunk) {
+        Ok(()) => Ok(()),
+        Err(_) => Err(Message),
+    }
+}
+
 /// The chunks of the part whose first chunk begins at `first`.
 fn chunks_from<R: Reader>(
     alloc: Global,
@@ -59,22 +75,18 @@ fn chunks_from<R: Reader>(
     events: &[Event],
     first: usize,
 ) -> Result<Vec<Chunk>, Message>
-    requires { first + 1 < length events.now }
+    requires within { first + 1 < length events.now }
+    requires placed { ArePlaced (R.text reader.now) events.now }
+    ensures { IfOk result (λ chunks. AreChunks (R.text reader.now) chunks.items) }
 {
     let mut chunks = Vec::new(alloc);
-    let mut at = first;
+    push_chunk(&mut chunks, events, first)?;
+    let mut at = first + 2;
     while at + 1 < events.len() {
-        let event = events[at];
-        if chunk_content(reader, &event).is_some() {
-            let chunk = Chunk {
-                first: event.point,
-                after: events[at + 1].point,
-            };
-            if chunks.push(chunk).is_err() {
-                return Err(Message);
-            }
+        if chunk_content(reader, &events[at]).is_some() {
+            push_chunk(&mut chunks, events, at)?;
             at += 2;
-        } else if is_prefix(event.name) {
+        } else if is_prefix(events[at].name) {
             at += 1;
         } else {
             break;
@@ -106,9 +118,48 @@ fn placed_before(events: &[Event], from: usize, end: usize) -> usize
 }
 
 impl Found {
+    /// Nothing, found in no chunk.
+    fn nothing(alloc: Global) -> Found
+        ensures { result.events.items ≡ [] }
+    {
+        Found {
+            events: Vec::new(alloc),
+            placed: 0,
+            chunks: 0,
+        }
+    }
+
+    /// What is found in the part whose first chunk begins at `at`, unless chunks of another part are left.
+    fn or_read<R: Reader>(
+        self,
+        alloc: Global,
+        reader: &R,
+        content: Content,
+        events: &[Event],
+        at: usize,
+    ) -> Result<Found, Message>
+        requires within { at + 1 < length events.now }
+        requires placed { ArePlaced (R.text reader.now) events.now }
+        requires found { ArePlaced (R.text reader.now) self.events.items }
+        ensures chunks { IfOk result (λ found. 0 < found.chunks) }
+        ensures placed { IfOk result (λ found. ArePlaced (R.text reader.now) found.events.items) }
+    {
+        if self.chunks > 0 {
+            return Ok(self);
+        }
+        let chunks = chunks_from(alloc, reader, events, at)?;
+        Ok(Found {
+            events: reader.read(alloc, content, &chunks)?,
+            placed: 0,
+            chunks: chunks.len(),
+        })
+    }
+
     /// Puts what belongs to the next chunk, which ends at the byte `end`, behind `events`.
     fn place(&mut self, events: &mut Vec<Event>, end: usize) -> Result<(), Message>
         requires { 0 < self.old.chunks }
+        ensures same { self.new.events ≡ self.old.events }
+        ensures placed { OnOk result (events.new.items ≡ events.old.items ++ slice_range self.old.events.items self.old.placed self.new.placed) }
     {
         let to = if self.chunks > 1 {
             placed_before(&self.events, self.placed, end)
@@ -132,26 +183,18 @@ pub fn subtokenize<R: Reader>(
     alloc: Global,
     reader: &R,
     events: &[Event],
-) -> Result<Vec<Event>, Message> {
+) -> Result<Vec<Event>, Message>
+    requires { ArePlaced (R.text reader.now) events.now }
+    ensures { IfOk result (λ all. ArePlaced (R.text reader.now) all.items) }
+{
     let mut all = Vec::new(alloc);
-    let mut found = Found {
-        events: Vec::new(alloc),
-        placed: 0,
-        chunks: 0,
-    };
+    let mut found = Found::nothing(alloc);
     let mut at = 0;
     while at < events.len() {
         let event = events[at];
         match chunk_content(reader, &event) {
             Some(content) if at + 1 < events.len() => {
-                if found.chunks == 0 {
-                    let chunks = chunks_from(alloc, reader, events, at)?;
-                    found = Found {
-                        events: reader.read(alloc, content, &chunks)?,
-                        placed: 0,
-                        chunks: chunks.len(),
-                    };
-                }
+                found = found.or_read(alloc, reader, content, events, at)?;
                 found.place(&mut all, events[at + 1].point.index)?;
                 at += 2;
             }
