@@ -1,3 +1,7 @@
 pub mod PieceLemmas
 pub mod RestLemmas
 pub mod LinesLemmas
+pub mod TreeLemmas
+pub mod LabelLemmas
+pub mod PathLemmas
+pub mod ParagraphLemmas

@@ -1,5 +1,9 @@
 // Link reference definitions (CommonMark 4.7).
 
+ghost use Rattle.std.specs.Prelude.{◌≡◌, IfOk};
+ghost use Rattle.md_seam.specs.Definition as definition;
+ghost use Rattle.md_plain.specs.Definitions as m;
+
 use md_engine::message::Message;
 use std::alloc::Global;
 
@@ -19,7 +23,9 @@ pub struct Cut<'a> {
     pub remaining: Vec<&'a [u8]>,
 }
 
-pub fn cut_definitions<'a>(alloc: Global, lines: &[&'a [u8]]) -> Result<Cut<'a>, Message> {
+pub fn cut_definitions<'a>(alloc: Global, lines: &[&'a [u8]]) -> Result<Cut<'a>, Message>
+    ensures { IfOk result (λ cut. m.cut_meaning cut ≡ definition.cut_definitions (m.texts lines.now)) }
+{
     let mut remaining = Vec::new(alloc);
     for line in lines {
         memory::push(&mut remaining, *line)?;
