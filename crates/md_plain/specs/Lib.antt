@@ -2,3 +2,4 @@ pub mod Trees
 pub mod Rests
 pub mod States
 pub mod Pieces
+pub mod Definitions
