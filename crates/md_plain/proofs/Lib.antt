@@ -1,2 +1,3 @@
+pub mod DefinitionLemmas
 pub mod PieceLemmas
 pub mod RestLemmas

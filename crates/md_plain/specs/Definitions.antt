@@ -1,5 +1,5 @@
 -- What the parts of definitions mean.
-use Rattle.std.specs.Prelude.{ℕ, List, [], ◌∷◌, map, drop, Option, Some, None}
+use Rattle.std.specs.Prelude.{ℕ, ◌+◌, ◌-◌, Bool, ◌&&◌, not, ◌==◌, if◌then◌else◌, List, [], ◌∷◌, map, drop, Option, Some, None}
 use Rattle.std.specs.Borrow.{Bor}
 use Rattle.std.specs.Option.{option_map}
 use Rattle.md_seam.specs.Enclosed as e
@@ -46,3 +46,14 @@ found_meaning lines x = record { defined = defined_meaning x.defined; rest = tex
 
 abbrev pub cut_meaning : Cut → List d.Defined × List (List ℕ)
 cut_meaning x = (map defined_meaning x.definitions.items, texts x.remaining.items)
+
+-- whether this byte is the mark, and no backslash takes it
+abbrev pub is_bare : Bool → ℕ → ℕ → Bool
+is_bare escaped byte mark = not escaped && (byte == mark)
+
+-- how many parentheses are open behind this byte; none if it closes one too many
+abbrev pub depth_behind : Bool → ℕ → ℕ → Option ℕ
+depth_behind escaped depth byte =
+    if is_bare escaped byte 41 then (if depth == 0 then None else Some (depth - 1))
+    else if is_bare escaped byte 40 then Some (depth + 1)
+    else Some depth

@@ -1,7 +1,8 @@
 // Link reference definitions (CommonMark 4.7).
-ghost use Rattle.std.specs.Prelude.{◌≡◌, ℕ, ◌≤◌, false, List, length, drop, nat_le, sum_by, option_map, IfOk};
+ghost use Rattle.std.specs.Prelude.{◌≡◌, ℕ, ◌+◌, ◌^◌, ◌<◌, ◌≤◌, ◌&&◌, not, false, List, length, drop, nat_le, sum_by, option_map, IfOk};
 ghost use Rattle.std.specs.Borrow.{Bor};
 ghost use Rattle.std.specs.List.{list_all, prefix_len};
+ghost use Rattle.md_seam.specs.Bytes.{is_end};
 ghost use Rattle.md_seam.specs.Definition as definition;
 ghost use Rattle.md_seam.specs.Enclosed as text;
 ghost use Rattle.md_seam.specs.Rest.{is_blank};
@@ -10,6 +11,7 @@ ghost use Rattle.md_plain.specs.Definitions as m;
 use md_engine::message::Message;
 use std::alloc::Global;
 
+use crate::ahead::{after_optional, begins_with};
 use crate::bytes::{is_blank, is_parted, trim_start};
 use crate::memory;
 
@@ -74,6 +76,13 @@ struct Found<'a> {
     next: usize,
 }
 
+/// Whether this byte is the mark, and no backslash takes it.
+fn is_bare(escaped: bool, byte: u8, mark: u8) -> bool
+    ensures { result ≡ m.is_bare escaped byte mark }
+{
+    !escaped && byte == mark
+}
+
 /// The text up to the closing mark. A backslash takes the byte that is next.
 fn up_to_mark<'a>(opener: u8, closer: u8, line: &'a [u8]) -> Enclosed<'a>
     ensures { m.enclosed_meaning result ≡ text.enclosed opener closer false line.now }
@@ -81,15 +90,13 @@ fn up_to_mark<'a>(opener: u8, closer: u8, line: &'a [u8]) -> Enclosed<'a>
     let mut rest = line;
     let mut escaped = false;
     while let Some((first, others)) = rest.split_first() {
-        if escaped {
-            escaped = false;
-        } else if *first == closer {
+        if is_bare(escaped, *first, closer) {
             return Enclosed::Closed(line.split_at(line.len() - rest.len()).0, others);
-        } else if *first == opener {
-            return Enclosed::Broken;
-        } else {
-            escaped = *first == b'\\';
         }
+        if is_bare(escaped, *first, opener) {
+            return Enclosed::Broken;
+        }
+        escaped = is_bare(escaped, *first, b'\\');
         rest = others;
     }
     Enclosed::Open
@@ -146,29 +153,37 @@ fn are_blank(lines: &[&[u8]]) -> bool
     lines.iter().all(|line| is_blank(line))
 }
 
+/// Whether these lines are a label: not blank, and not too long.
+#[tactic(auto, using(crate::proofs::DefinitionLemmas::list_all_texts))]
+fn is_label(lines: &[&[u8]]) -> bool
+    ensures { result ≡ definition.is_label (m.texts lines.now) }
+{
+    !are_blank(lines) && is_short(lines)
+}
+
 /// The label whose `[` comes first, and what follows its `]` (CommonMark 6.3).
+#[tactic(auto, unfolding(md_seam::specs::Definition::label_at))]
 fn label_at<'a>(alloc: Global, lines: &[&'a [u8]], ahead: Ahead<'a>) -> Result<Option<Text<'a>>, Message>
     ensures { IfOk result (λ found. option_map (m.text_meaning lines.now) found ≡ definition.label_at (m.ahead_meaning lines.now ahead.entry)) }
 {
-    let [b'[', rest @ ..] = ahead.rest else {
+    if !begins_with(b'[', ahead.rest) {
         return Ok(None);
-    };
+    }
+    let rest = after_optional(b'[', ahead.rest);
     let Some(label) = enclosed_lines(alloc, b'[', b']', lines, Ahead { rest, next: ahead.next })? else {
         return Ok(None);
     };
-    if are_blank(&label.lines) || !is_short(&label.lines) {
-        return Ok(None);
-    }
-    Ok(Some(label))
+    if is_label(&label.lines) { Ok(Some(label)) } else { Ok(None) }
 }
 
 /// What follows the `:` that comes first.
 fn after_colon<'a>(ahead: Ahead<'a>) -> Option<Ahead<'a>>
     ensures { (lines : List (Bor (List ℕ))) → option_map (m.ahead_meaning lines) result ≡ definition.after_colon (m.ahead_meaning lines ahead.entry) }
 {
-    match ahead.rest {
-        [b':', rest @ ..] => Some(Ahead { rest, next: ahead.next }),
-        _ => None,
+    if begins_with(b':', ahead.rest) {
+        Some(Ahead { rest: after_optional(b':', ahead.rest), next: ahead.next })
+    } else {
+        None
     }
 }
 
@@ -199,6 +214,20 @@ fn raw_len(rest: &[u8]) -> usize
     rest.iter().take_while(|b| is_raw_byte(**b)).count()
 }
 
+/// How many parentheses are open behind this byte, with so many open before it; none if it closes one too many.
+fn depth_behind(escaped: bool, depth: usize, byte: u8) -> Option<usize>
+    requires { depth + 1 < 2 ^ 64 }
+    ensures { result ≡ m.depth_behind escaped depth byte }
+{
+    if is_bare(escaped, byte, b')') {
+        depth.checked_sub(1)
+    } else if is_bare(escaped, byte, b'(') {
+        Some(depth + 1)
+    } else {
+        Some(depth)
+    }
+}
+
 /// Whether the parentheses nest that no backslash takes.
 fn is_balanced(text: &[u8]) -> bool
     ensures { result ≡ definition.balanced 0 false text.now }
@@ -207,39 +236,39 @@ fn is_balanced(text: &[u8]) -> bool
     let mut escaped = false;
     let mut rest = text;
     while let Some((first, others)) = rest.split_first() {
-        if escaped {
-            escaped = false;
-        } else {
-            if *first == b')' && depth == 0 {
-                return false;
-            }
-            if *first == b'(' {
-                depth += 1;
-            } else if *first == b')' {
-                depth -= 1;
-            }
-            escaped = *first == b'\\';
-        }
+        let Some(behind) = depth_behind(escaped, depth, *first) else {
+            return false;
+        };
+        depth = behind;
+        escaped = is_bare(escaped, *first, b'\\');
         rest = others;
     }
     depth == 0
 }
 
+/// Whether these bytes are a destination without angle brackets.
+fn is_raw(text: &[u8]) -> bool
+    ensures { result ≡ not (is_end text.now) && definition.balanced 0 false text.now }
+{
+    match text {
+        [] => false,
+        [..] => is_balanced(text),
+    }
+}
+
 /// The destination that comes first (CommonMark 6.3).
+#[tactic(auto, unfolding(md_seam::specs::Definition::destination_at))]
 fn destination_at(line: &[u8]) -> Option<Destination<'_>>
     ensures { option_map m.destination_meaning result ≡ definition.destination_at line.now }
 {
-    if let [b'<', inner @ ..] = line {
-        return match up_to_mark(b'<', b'>', inner) {
+    if begins_with(b'<', line) {
+        return match up_to_mark(b'<', b'>', after_optional(b'<', line)) {
             Enclosed::Closed(text, rest) => Some(Destination { text, rest }),
             Enclosed::Open | Enclosed::Broken => None,
         };
     }
     let (text, rest) = line.split_at(raw_len(line));
-    if text.is_empty() || !is_balanced(text) {
-        return None;
-    }
-    Some(Destination { text, rest })
+    if is_raw(text) { Some(Destination { text, rest }) } else { None }
 }
 
 /// The mark that closes a title which begins with this byte.
@@ -254,6 +283,7 @@ fn title_closer(b: u8) -> Option<u8>
 }
 
 /// The title that comes first, and the lines behind it (CommonMark 6.3).
+#[tactic(auto, unfolding(md_seam::specs::Definition::title_at))]
 fn title_at<'a>(alloc: Global, lines: &[&'a [u8]], ahead: Ahead<'a>) -> Result<Option<Title<'a>>, Message>
     ensures { IfOk result (λ found. option_map (m.title_meaning lines.now) found ≡ definition.title_at (m.ahead_meaning lines.now ahead.entry)) }
 {
@@ -273,6 +303,7 @@ fn title_at<'a>(alloc: Global, lines: &[&'a [u8]], ahead: Ahead<'a>) -> Result<O
 }
 
 /// The title behind a destination, after whitespace with at most one line ending.
+#[tactic(auto, unfolding(md_seam::specs::Definition::title_at))]
 fn title_after<'a>(alloc: Global, lines: &[&'a [u8]], ahead: Ahead<'a>) -> Result<Option<Title<'a>>, Message>
     ensures { IfOk result (λ found. option_map (m.title_meaning lines.now) found ≡ definition.title_after ahead.entry.rest.now (m.texts (drop ahead.entry.next lines.now))) }
 {
@@ -312,6 +343,7 @@ fn with_destination<'a>(
 }
 
 /// The definition that begins with this line.
+#[tactic(auto, unfolding(md_seam::specs::Definition::definition_at))]
 fn definition_at<'a>(alloc: Global, lines: &[&'a [u8]], next: usize) -> Result<Option<Found<'a>>, Message>
     ensures { IfOk result (λ found. option_map (m.found_meaning lines.now) found ≡ definition.definition_at (m.texts (drop next lines.now))) }
 {
