@@ -1,14 +1,17 @@
 -- Texts, parentheses and lines, one byte or one line at a time.
-use Rattle.std.proofs.Common.{◌≡◌, ℕ, suc, ◌+◌, ◌-◌, ◌<◌, ◌≤◌, Bool, true, false, ◌&&◌, not, ◌==◌, nat_le, if◌then◌else◌, List, [], ◌∷◌, ◌++◌, map, length, take, drop, sum_by, Option, Some, None, Bor, refl, sym, ap, subst, eqb-true, ◌∙◌, get_or, add-one, drop-cons, arith, rules, append_assoc, append-nil}
+use Rattle.std.proofs.Common.{◌≡◌, ℕ, suc, ◌+◌, ◌-◌, ◌<◌, ◌≤◌, Bool, true, false, ◌&&◌, not, ◌==◌, nat_le, if◌then◌else◌, List, [], ◌∷◌, ◌++◌, map, length, take, drop, sum_by, Option, Some, None, option_map, Bor, refl, sym, ap, subst, eqb-true, ◌∙◌, get_or, add-one, drop-cons, arith, rules, append_assoc, append-nil}
 use Rattle.std.specs.List.{list_all}
 use Rattle.std.proofs.Math.Seq.{take-append_seam}
 use Rattle.std.proofs.lemmas.List.Folds.{list_all-map}
 use Rattle.std.proofs.Math.ListN.{drop_of_length-le}
-use Rattle.std.proofs.lemmas.List.{length-append, map-append}
+use Rattle.std.proofs.lemmas.List.{length-append, length-drop, length-map, map-append}
 use Rattle.std.proofs.lemmas.Bool.Decides.{nat_tests}
 use Rattle.md_seam.specs.Enclosed.{Enclosed, Closed, Open, Broken, with_byte, enclosed, Lines, with_line, enclosed_lines}
-use Rattle.md_seam.specs.Definition.{depth_after, balanced}
-use Rattle.md_plain.specs.Definitions.{texts, is_bare, depth_behind}
+use Rattle.md_seam.specs.Definition.{Defined, depth_after, balanced, definition_at, with_definition, cut_definitions}
+use Rattle.md_seam.proofs.DefinitionLemmas.{length-definition_at, cut_definitions-some, cut_definitions-none}
+use Rattle.md_plain.specs.declared.definition.Found.{Found}
+use Rattle.md_plain.specs.declared.definition.Defined as plain
+use Rattle.md_plain.specs.Definitions.{texts, defined_meaning, found_meaning, is_bare, depth_behind}
 
 -- with these bytes before the text
 abbrev pub with_bytes : List ℕ → Enclosed → Enclosed
@@ -174,3 +177,33 @@ with_lines-open seen opener closer line lines e = ap (with_lines seen) (enclosed
 
 pub with_lines-end : (seen : List (List ℕ)) (opener closer : ℕ) (line : List ℕ) (lines : List (List ℕ)) → lines ≡ [] → Open ≡ enclosed opener closer false line → with_lines seen (enclosed_lines opener closer (line ∷ lines)) ≡ None
 with_lines-end seen opener closer line lines none e = with_lines-open seen opener closer line lines e ∙ ap (λ ls. with_lines (seen ++ line ∷ []) (enclosed_lines opener closer ls)) none ∙ ap (with_lines (seen ++ line ∷ [])) (enclosed_lines-nil opener closer)
+
+-- with these definitions before the others
+abbrev pub with_definitions : List Defined → List Defined × List (List ℕ) → List Defined × List (List ℕ)
+with_definitions seen cut = (seen ++ cut.0, cut.1)
+
+pub with_definitions-push : (old new : List plain.Defined) (defined : plain.Defined) (cut : List Defined × List (List ℕ)) → new ≡ old ++ defined ∷ [] → with_definitions (map defined_meaning new) cut ≡ with_definitions (map defined_meaning old) (with_definition (defined_meaning defined) cut)
+with_definitions-push old new defined cut e =
+    ap (λ ds. with_definitions (map defined_meaning ds) cut) e
+    ∙ ap (λ ds. with_definitions ds cut) (map-append defined_meaning old (defined ∷ []))
+    ∙ ap (λ ds. (ds, cut.1)) (append_assoc (map defined_meaning old) (defined_meaning defined ∷ []) cut.0)
+
+pub length-texts-drop : (i : ℕ) (lines : List (Bor (List ℕ))) → length (texts (drop i lines)) ≡ length lines - i
+length-texts-drop i lines = length-map (drop i lines) (λ line. line.now) ∙ length-drop i lines
+
+-- the definition that begins with this line, if one does
+next_definition : (lines : List (Bor (List ℕ))) (i : ℕ) (found : Option Found) (first : Found) → option_map (found_meaning lines) found ≡ definition_at (texts (drop i lines)) → found ≡ Some first → definition_at (texts (drop i lines)) ≡ Some (found_meaning lines first)
+next_definition lines i found first e f = sym e ∙ ap (option_map (found_meaning lines)) f
+
+pub definition-smaller : (lines : List (Bor (List ℕ))) (i : ℕ) (found : Option Found) (first : Found) → option_map (found_meaning lines) found ≡ definition_at (texts (drop i lines)) → found ≡ Some first → length lines - first.next < length lines - i
+definition-smaller lines i found first e f =
+    omega (arith, length-definition_at (texts (drop i lines)) (found_meaning lines first) (next_definition lines i found first e f), length-texts-drop i lines, length-texts-drop first.next lines)
+
+pub definition-more : (lines : List (Bor (List ℕ))) (i : ℕ) (found : Option Found) (first : Found) → option_map (found_meaning lines) found ≡ definition_at (texts (drop i lines)) → found ≡ Some first → cut_definitions (texts (drop i lines)) ≡ with_definition (defined_meaning first.defined) (cut_definitions (texts (drop first.next lines)))
+definition-more lines i found first e f = cut_definitions-some (texts (drop i lines)) (found_meaning lines first) (next_definition lines i found first e f)
+
+pub definition-none : (lines : List (Bor (List ℕ))) (i : ℕ) (found : Option Found) → option_map (found_meaning lines) found ≡ definition_at (texts (drop i lines)) → found ≡ None → cut_definitions (texts (drop i lines)) ≡ ([], texts (drop i lines))
+definition-none lines i found e f = cut_definitions-none (texts (drop i lines)) (sym e ∙ ap (option_map (found_meaning lines)) f)
+
+pub texts-moved : (old new lines : List (Bor (List ℕ))) (i : ℕ) (d : Bor (List ℕ)) → new ≡ old ++ get_or lines i d ∷ [] → i < length lines → texts new ++ texts (drop (i + 1) lines) ≡ texts old ++ texts (drop i lines)
+texts-moved old new lines i d e h = rw (texts-push old new (get_or lines i d) e, append_assoc) (ap (λ ls. texts old ++ ls) (sym (texts-drop lines i d h)))
