@@ -1,12 +1,14 @@
 -- The first line of a text, and the others.
-use Rattle.std.proofs.Common.{◌≡◌, ℕ, suc, ◌+◌, Bool, true, false, cond, not, ◌==◌, ◌&&◌, ◌||◌, List, [], ◌∷◌, map, length, take, drop, refl, sym, ◌∙◌, ap, subst, arith}
+use Rattle.std.proofs.Common.{◌≡◌, ℕ, suc, ◌+◌, Bool, true, false, cond, not, ◌==◌, ◌&&◌, ◌||◌, List, [], ◌∷◌, map, length, take, drop, refl, sym, ◌∙◌, ap, subst, append_assoc, ◌++◌, arith}
 use Rattle.std.proofs.lemmas.Bool.{eqb-true}
+use Rattle.std.proofs.lemmas.List.{map-append}
 use Rattle.std.proofs.lemmas.List.Sums.{take_while-cons}
 use Rattle.std.specs.List.{prefix_len, onto_first}
 use Rattle.md_seam.specs.Lines.{is_ending, begins_with, ends_line, full_lines_of, without_ending, lines_of}
 use Rattle.md_seam.specs.Rest as r
 use Rattle.md_seam.specs.Preamble.{rest_at, rests_at}
-use Rattle.md_plain.specs.Rests.{after_ending}
+use Rattle.md_plain.specs.declared.rest.Rest.{Rest}
+use Rattle.md_plain.specs.Rests.{after_ending, rest_meaning, rest_meanings}
 
 abbrev line_len : List ℕ → ℕ
 line_len text = prefix_len (λ b. not (is_ending b)) text
@@ -63,6 +65,33 @@ splits : (text : List ℕ) → Splits text
 splits [] = tt
 splits (b ∷ bytes) = splits-next b bytes (splits bytes)
 
-pub lines_of-first : (text : List ℕ) → (0 ≡ length text → ⊥) → lines_of text ≡ take (line_len text) text ∷ lines_of (after_ending (drop (line_len text) text))
-lines_of-first [] h = absurd (h refl)
+pub lines_of-first : (text : List ℕ) → (length text == 0) ≡ false → lines_of text ≡ take (line_len text) text ∷ lines_of (after_ending (drop (line_len text) text))
+lines_of-first [] h = absurd (cc)
 lines_of-first (b ∷ bytes) h = splits (b ∷ bytes)
+
+rests_at-zero : (ls : List (List ℕ)) → rests_at 0 ls ≡ map (rest_at 0) ls
+rests_at-zero [] = refl
+rests_at-zero (l ∷ ls) = refl
+
+-- one line read, and those behind its ending
+pub rests_at-next : (before : List r.Rest) (c : ℕ) (text : List ℕ) → (length text == 0) ≡ false →
+    before ++ rests_at c (lines_of text) ≡ (before ++ rest_at c (take (line_len text) text) ∷ []) ++ rests_at 0 (lines_of (after_ending (drop (line_len text) text)))
+rests_at-next before c text h =
+    let left : List (List ℕ) = lines_of (after_ending (drop (line_len text) text)) in
+    let front : r.Rest = rest_at c (take (line_len text) text) in
+    ap (λ ls. before ++ rests_at c ls) (lines_of-first text h)
+        ∙ ap (λ xs. before ++ front ∷ xs) (sym (rests_at-zero left))
+        ∙ sym (append_assoc before (front ∷ []) (rests_at 0 left))
+
+-- the loop that reads them
+pub rests_of-next : (items items' : List Rest) (x : Rest) (begins n : ℕ) (left line ending left' : List ℕ) →
+    (length left == 0) ≡ false → n ≡ line_len left → line ≡ take n left → ending ≡ drop n left → left' ≡ after_ending ending →
+    rest_meaning x ≡ rest_at begins line → items' ≡ items ++ x ∷ [] →
+    rest_meanings items ++ rests_at begins (lines_of left) ≡ rest_meanings items' ++ rests_at 0 (lines_of left')
+rests_of-next items items' x begins n left line ending left' some en eline eending eleft ex eitems =
+    let front : rest_meaning x ≡ rest_at begins (take (line_len left) left) = ex ∙ ap (rest_at begins) (eline ∙ ap (λ k. take k left) en) in
+    let behind : left' ≡ after_ending (drop (line_len left) left) = eleft ∙ ap after_ending (eending ∙ ap (λ k. drop k left) en) in
+    let read : rest_meanings items' ≡ rest_meanings items ++ rest_at begins (take (line_len left) left) ∷ [] =
+        ap rest_meanings eitems ∙ map-append rest_meaning items (x ∷ []) ∙ ap (λ y. rest_meanings items ++ y ∷ []) front in
+    rests_at-next (rest_meanings items) begins left some
+        ∙ sym (ap (λ xs. xs ++ rests_at 0 (lines_of left')) read ∙ ap (λ t. (rest_meanings items ++ rest_at begins (take (line_len left) left) ∷ []) ++ rests_at 0 (lines_of t)) behind)

@@ -1,6 +1,11 @@
 // Closing what is open, from the inside out.
 
-ghost use Rattle.std.specs.Prelude.{◌≡◌, IfOk};
+ghost use Rattle.std.specs.Prelude.{◌≡◌, ◌≤◌, length, take, drop, IfOk};
+ghost use Rattle.std.specs.List.{suffix_len};
+ghost use Rattle.md_seam.specs.Rest.{is_blank};
+ghost use Rattle.md_seam.specs.State as state;
+ghost use Rattle.md_plain.specs.Trees.{meaning, meanings, line_meanings};
+ghost use Rattle.md_plain.specs.States.{container_meaning, spot_meaning, path_meaning, within};
 
 use md_engine::configuration::ParseOptions;
 use md_engine::message::Message;
@@ -13,16 +18,29 @@ use crate::paragraph::shut_paragraph;
 use crate::state::{Container, Frame, Leaf, Path, Spot};
 use crate::tree::{Block, Line};
 
+/// How many blank lines stand at the end.
+fn blank_len(lines: &[Line]) -> usize
+    ensures value { result ≡ suffix_len (λ l. is_blank l.text.now) lines.now }
+    ensures bound { result ≤ length lines.now }
+{
+    lines.iter().rev().take_while(|line| is_blank(line.text)).count()
+}
+
 /// Blank lines at the end do not belong to indented code (CommonMark 4.4).
-fn without_trailing_blank<'a>(lines: Vec<Line<'a>>) -> Vec<Line<'a>> {
+fn without_trailing_blank<'a>(lines: Vec<Line<'a>>) -> Vec<Line<'a>>
+    ensures { line_meanings result.items ≡ state.without_trailing_blank (line_meanings lines.entry.items) }
+{
     let mut lines = lines;
-    let count = lines.iter().rev().take_while(|line| is_blank(line.text)).count();
+    let count = blank_len(&lines);
     lines.truncate(lines.len() - count);
     lines
 }
 
 /// The blocks of the innermost container, with its leaf closed.
-pub fn shut<'a>(alloc: Global, options: &ParseOptions, spot: Spot<'a>) -> Result<Vec<Block<'a>>, Message> {
+#[tactic(auto, using(crate::proofs::TreeLemmas::meanings_push))]
+pub fn shut<'a>(alloc: Global, options: &ParseOptions, spot: Spot<'a>) -> Result<Vec<Block<'a>>, Message>
+    ensures { IfOk result (λ bs. meanings bs.items ≡ state.shut options.now (spot_meaning spot.entry)) }
+{
     let Spot { mut here, leaf } = spot;
     let block = match leaf {
         Leaf::None => return Ok(here),
@@ -39,7 +57,9 @@ pub fn shut<'a>(alloc: Global, options: &ParseOptions, spot: Spot<'a>) -> Result
     Ok(here)
 }
 
-fn container_block<'a>(container: Container<'a>, blocks: Vec<Block<'a>>) -> Block<'a> {
+fn container_block<'a>(container: Container<'a>, blocks: Vec<Block<'a>>) -> Block<'a>
+    ensures { meaning result ≡ state.container_block (container_meaning container.entry) (meanings blocks.entry.items) }
+{
     match container {
         Container::Quote => Block::Quote(blocks),
         Container::Item { digits, marker, .. } => Block::Item(marker, digits, blocks),
@@ -54,10 +74,13 @@ pub fn close_to<'a>(
     options: &ParseOptions,
     path: Path<'a>,
     count: usize,
-) -> Result<(Vec<Frame<'a>>, Vec<Block<'a>>), Message> {
+) -> Result<(Vec<Frame<'a>>, Vec<Block<'a>>), Message>
+    ensures outer { IfOk result (λ r. r.0.items ≡ take count path.entry.frames.items) }
+    ensures blocks { IfOk result (λ r. meanings r.1.items ≡ state.closed options.now (within (drop count path.entry.frames.items) (state.At (spot_meaning path.entry.spot)))) }
+{
     let Path { mut frames, spot } = path;
     let mut here = shut(alloc, options, spot)?;
-    for _ in count..frames.len() {
+    while frames.len() > count {
         let Some(Frame { before, container }) = frames.pop() else {
             break;
         };
@@ -69,7 +92,9 @@ pub fn close_to<'a>(
 }
 
 /// Closes everything that is open.
-pub fn closed<'a>(alloc: Global, options: &ParseOptions, path: Path<'a>) -> Result<Vec<Block<'a>>, Message> {
+pub fn closed<'a>(alloc: Global, options: &ParseOptions, path: Path<'a>) -> Result<Vec<Block<'a>>, Message>
+    ensures { IfOk result (λ bs. meanings bs.items ≡ state.closed options.now (path_meaning path.entry)) }
+{
     let (_, here) = close_to(alloc, options, path, 0)?;
     Ok(here)
 }

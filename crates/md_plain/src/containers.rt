@@ -1,6 +1,7 @@
 // Containers: block quotes, list items and footnote definitions.
 
 ghost use Rattle.std.specs.Prelude.{◌≡◌, ◌+◌, ◌≤◌, false, length, IfSome};
+ghost use Rattle.std.specs.List.{prefix_len};
 ghost use Rattle.md_seam.specs.Containers as containers;
 ghost use Rattle.md_plain.specs.Rests.{rest_meaning};
 ghost use Rattle.md_plain.specs.States.{container_meaning, taken_option};
@@ -8,7 +9,8 @@ ghost use Rattle.md_plain.specs.Markers.{marker_meaning, marker_option, label_sp
 
 use md_engine::configuration::ParseOptions;
 
-use crate::bytes::{is_blank, is_parted, run_len};
+use crate::ahead::begins_with;
+use crate::bytes::{is_blank, is_parted, is_white};
 use crate::leaves::is_rule;
 use crate::rest::Rest;
 use crate::state::{Container, Taken};
@@ -91,23 +93,50 @@ struct Marker<'a> {
     byte: u8,
 }
 
+/// Whether this is a digit of ASCII.
+fn is_digit(byte: u8) -> bool
+    ensures { result ≡ containers.is_digit byte }
+{
+    b'0' <= byte && byte <= b'9'
+}
+
+/// How many digits stand at the front.
+fn digits_len(bytes: &[u8]) -> usize
+    ensures value { result ≡ prefix_len containers.is_digit bytes.now }
+    ensures bound { result ≤ length bytes.now }
+{
+    bytes.iter().take_while(|byte| is_digit(**byte)).count()
+}
+
+/// The `.` or `)` behind digits.
+fn marker_behind<'a>(digits: &'a [u8], bytes: &[u8]) -> Option<Marker<'a>>
+    ensures value { marker_option result ≡ containers.marker_behind digits.now bytes.now }
+    ensures same { IfSome result (λ m. m.digits.now ≡ digits.now) }
+    ensures bound { IfSome result (λ _. 1 ≤ length bytes.now) }
+{
+    match bytes {
+        [byte, ..] if *byte == b'.' || *byte == b')' => Some(Marker { digits, byte: *byte }),
+        _ => None,
+    }
+}
+
 /// A bullet, or 1 to 9 digits and then `.` or `)` (CommonMark 5.2).
 fn list_marker(bytes: &[u8]) -> Option<Marker<'_>>
     ensures value { marker_option result ≡ containers.list_marker bytes.now }
     ensures bound { IfSome result (λ m. length m.digits.now + 1 ≤ length bytes.now) }
     ensures few { IfSome result (λ m. length m.digits.now ≤ 9) }
 {
-    let first = *bytes.first()?;
-    if first == b'*' || first == b'+' || first == b'-' {
-        return Some(Marker { digits: bytes.split_at(0).0, byte: first });
+    let [first, ..] = bytes else {
+        return None;
+    };
+    if *first == b'*' || *first == b'+' || *first == b'-' {
+        return Some(Marker { digits: bytes.split_at(0).0, byte: *first });
     }
-    let count = bytes.iter().take_while(|byte| byte.is_ascii_digit()).count();
-    if count < 1 || count > 9 {
+    let (digits, behind) = bytes.split_at(digits_len(bytes));
+    if digits.len() < 1 || digits.len() > 9 {
         return None;
     }
-    let (digits, behind) = bytes.split_at(count);
-    let byte = *behind.first()?;
-    if byte == b'.' || byte == b')' { Some(Marker { digits, byte }) } else { None }
+    marker_behind(digits, behind)
 }
 
 /// The columns after the marker that belong to the item: none before a blank rest, 1 of 5 or more.
@@ -155,17 +184,28 @@ fn opens_item<'a>(options: &ParseOptions, interrupting: bool, rest: &Rest<'a>) -
     })
 }
 
-/// How many bytes stand before the first `]` that no backslash takes, if none of them may not stand in a label.
+/// Whether a backslash takes this byte of a label.
+fn is_label_mark(byte: u8) -> bool
+    ensures { result ≡ containers.is_label_mark byte }
+{
+    byte == b'[' || byte == b'\\' || byte == b']'
+}
+
+/// How many bytes stand before the first `]` that no backslash takes, if all of them may stand in a label.
 fn label_len(bytes: &[u8]) -> Option<usize>
-    ensures { label_split result bytes.now ≡ containers.footnote_label false bytes.now }
+    ensures value { label_split result bytes.now ≡ containers.footnote_label false bytes.now }
+    ensures bound { IfSome result (λ n. n + 1 ≤ length bytes.now) }
 {
     let mut escaped = false;
     for (index, byte) in bytes.iter().enumerate() {
-        match *byte {
-            b'[' | b'\\' | b']' if escaped => escaped = false,
-            b']' => return Some(index),
-            b' ' | b'\t' | b'[' => return None,
-            other => escaped = other == b'\\',
+        if escaped && is_label_mark(*byte) {
+            escaped = false;
+        } else if *byte == b']' {
+            return Some(index);
+        } else if is_white(*byte) || *byte == b'[' {
+            return None;
+        } else {
+            escaped = *byte == b'\\';
         }
     }
     None
@@ -182,8 +222,9 @@ fn opens_footnote<'a>(options: &ParseOptions, rest: &Rest<'a>) -> Option<Taken<'
     }
     let bytes = from.bytes.split_at(2).1;
     let len = label_len(bytes)?;
-    let (label, after) = bytes.split_at(len);
-    if len < 1 || len > 999 || !after.starts_with(b"]:") {
+    let label = bytes.split_at(len).0;
+    let after = bytes.split_at(len + 1).1;
+    if len < 1 || len > 999 || !begins_with(b':', after) {
         return None;
     }
     Some(Taken {

@@ -1,12 +1,14 @@
 // Leaf blocks: where they start, and how they go on.
 
-ghost use Rattle.std.specs.Prelude.{◌≡◌, IfOk};
+ghost use Rattle.std.specs.Prelude.{◌≡◌, ◌≤◌, ◌==◌, ◌||◌, not, length, reverse, count_by, if◌then◌else◌, IsFalse, IfOk};
+ghost use Rattle.std.specs.List.{list_all, prefix_len, suffix_len};
 ghost use Rattle.std.specs.Option.{option_copied};
 ghost use Rattle.md_seam.specs.Leaves as leaves;
-ghost use Rattle.md_seam.specs.State.{fence_block};
+ghost use Rattle.md_seam.specs.Rest.{is_white, is_parted};
+ghost use Rattle.md_seam.specs.State.{fence_block, OpenCode};
 ghost use Rattle.md_plain.specs.Rests.{rest_meaning};
 ghost use Rattle.md_plain.specs.Trees.{meaning, line_meanings};
-ghost use Rattle.md_plain.specs.States.{kind_meaning, opening_meaning, came_meaning, came_option, against_meaning};
+ghost use Rattle.md_plain.specs.States.{kind_meaning, opening_meaning, came_meaning, came_option, against_meaning, leaf_meaning, went_option, HandsBack};
 
 use md_engine::configuration::ParseOptions;
 use md_engine::message::Message;
@@ -20,16 +22,32 @@ use crate::state::{Against, Came, Leaf, Opening};
 use crate::table::row_cells;
 use crate::tree::{Block, Line};
 
+/// Whether a line has only this byte, spaces and tabs.
+fn has_only(marker: u8, bytes: &[u8]) -> bool
+    ensures { result ≡ list_all (λ b. (b == marker) || is_white b) bytes.now }
+{
+    bytes.iter().all(|byte| *byte == marker || is_white(*byte))
+}
+
+/// How many of this byte there are.
+fn count_of(marker: u8, bytes: &[u8]) -> usize
+    ensures { result ≡ count_by (λ b. b == marker) bytes.now }
+{
+    bytes.iter().filter(|byte| **byte == marker).count()
+}
+
 /// Three or more of one of `*`, `-` and `_`, with spaces and tabs between and after (CommonMark 4.1).
 pub fn is_rule(bytes: &[u8]) -> bool
     ensures { result ≡ leaves.is_rule bytes.now }
 {
-    let [marker, others @ ..] = bytes else {
-        return false;
-    };
-    (*marker == b'*' || *marker == b'-' || *marker == b'_')
-        && others.iter().all(|byte| *byte == *marker || is_white(*byte))
-        && others.iter().filter(|byte| **byte == *marker).count() >= 2
+    match bytes {
+        [] => false,
+        [marker, others @ ..] => {
+            (*marker == b'*' || *marker == b'-' || *marker == b'_')
+                && has_only(*marker, others)
+                && 2 <= count_of(*marker, others)
+        }
+    }
 }
 
 /// A thematic break (CommonMark 4.1).
@@ -44,19 +62,32 @@ fn break_at<'a>(options: &ParseOptions, rest: &Rest<'a>) -> Option<Came<'a>>
     }
 }
 
+/// How many `#` stand at the end.
+fn closing_len(text: &[u8]) -> usize
+    ensures value { result ≡ suffix_len (λ b. b == 35) text.now }
+    ensures bound { result ≤ length text.now }
+{
+    text.iter().rev().take_while(|byte| **byte == b'#').count()
+}
+
+/// Whether nothing is here, or a space or a tab stands last.
+fn ends_parted(text: &[u8]) -> bool
+    ensures { result ≡ is_parted (reverse text.now) }
+{
+    match text.last() {
+        None => true,
+        Some(byte) => is_white(*byte),
+    }
+}
+
 /// The text of a heading, from what follows its opening run: without a closing run that is all of it or stands behind
 /// whitespace (CommonMark 4.2).
 fn heading_text(after: &[u8]) -> &[u8]
     ensures { result.now ≡ leaves.heading_text after.now }
 {
     let text = trim(after);
-    let closing = text.iter().rev().take_while(|byte| **byte == b'#').count();
-    let front = text.split_at(text.len() - closing).0;
-    match front {
-        [] => front,
-        [.., last] if is_white(*last) => trim_end(front),
-        _ => text,
-    }
+    let front = text.split_at(text.len() - closing_len(text)).0;
+    if ends_parted(front) { trim_end(front) } else { text }
 }
 
 /// An ATX heading: a small indent, 1 to 6 `#`, and then whitespace or the end of the line (CommonMark 4.2).
@@ -102,7 +133,11 @@ fn code_at<'a>(
 }
 
 /// A line of indented code; a line that is neither blank nor indented by 4 columns ends it.
-fn code_goes_on<'a>(lines: &mut Vec<Line<'a>>, rest: &Rest<'a>) -> Result<bool, Message> {
+#[tactic(auto, unfolding(md_seam::specs::Leaves::code_goes_on))]
+fn code_goes_on<'a>(lines: &mut Vec<Line<'a>>, rest: &Rest<'a>) -> Result<bool, Message>
+    ensures on { IfOk result (λ b. (if b then Some (leaves.Opened (OpenCode (line_meanings lines.new.items))) else None) ≡ leaves.code_goes_on (line_meanings lines.old.items) (rest_meaning rest.now)) }
+    ensures off { IfOk result (λ b. IsFalse b → lines.new.items ≡ lines.old.items) }
+{
     if !is_blank(rest.bytes) && rest.indent() < 4 {
         return Ok(false);
     }
@@ -127,6 +162,14 @@ fn nonempty(bytes: &[u8]) -> Option<&[u8]>
     if bytes.is_empty() { None } else { Some(bytes) }
 }
 
+/// How many bytes the first word has.
+fn word_len(text: &[u8]) -> usize
+    ensures value { result ≡ prefix_len (λ b. not (is_white b)) text.now }
+    ensures bound { result ≤ length text.now }
+{
+    text.iter().take_while(|byte| !is_white(**byte)).count()
+}
+
 /// An opening fence with this text behind it: the first word is `info`, and the others are `meta`; math has no `info`.
 fn opening<'a>(marker: u8, size: usize, indent: usize, text: &'a [u8]) -> Opening<'a>
     ensures { opening_meaning result ≡ leaves.opening marker size indent text.now }
@@ -134,8 +177,7 @@ fn opening<'a>(marker: u8, size: usize, indent: usize, text: &'a [u8]) -> Openin
     if marker == b'$' {
         return Opening { marker, size, indent, info: None, meta: nonempty(text) };
     }
-    let count = text.iter().take_while(|byte| !is_white(**byte)).count();
-    let (word, others) = text.split_at(count);
+    let (word, others) = text.split_at(word_len(text));
     Opening { marker, size, indent, info: nonempty(word), meta: nonempty(trim_start(others)) }
 }
 
@@ -172,7 +214,9 @@ fn closes(options: &ParseOptions, opening: &Opening, rest: &Rest) -> bool
 }
 
 /// Fenced code or math, and whether it has a closing fence.
-pub fn fence_block<'a>(opening: &Opening<'a>, lines: Vec<Line<'a>>, closed: bool) -> Block<'a> {
+pub fn fence_block<'a>(opening: &Opening<'a>, lines: Vec<Line<'a>>, closed: bool) -> Block<'a>
+    ensures { meaning result ≡ fence_block (opening_meaning opening.now) (line_meanings lines.entry.items) closed }
+{
     if opening.marker == b'$' {
         Block::Math(opening.meta, lines, closed)
     } else {
@@ -181,12 +225,15 @@ pub fn fence_block<'a>(opening: &Opening<'a>, lines: Vec<Line<'a>>, closed: bool
 }
 
 /// A line of fenced code or math: the closing fence, or a line that loses at most the indent of the opening one.
+#[tactic(auto, unfolding(md_seam::specs::Leaves::fence_goes_on))]
 pub fn fence_goes_on<'a>(
     options: &ParseOptions,
     opening: &Opening<'a>,
     lines: Vec<Line<'a>>,
     rest: &Rest<'a>,
-) -> Result<Came<'a>, Message> {
+) -> Result<Came<'a>, Message>
+    ensures { IfOk result (λ x. came_meaning x ≡ leaves.fence_goes_on options.now (opening_meaning opening.now) (line_meanings lines.entry.items) (rest_meaning rest.now)) }
+{
     if closes(options, opening, rest) {
         return Ok(Came::Finished(fence_block(opening, lines, true)));
     }
@@ -196,7 +243,9 @@ pub fn fence_goes_on<'a>(
 }
 
 /// A line of HTML, which may hold its end.
-fn html_line<'a>(kind: HtmlKind, lines: Vec<Line<'a>>, rest: &Rest<'a>) -> Result<Came<'a>, Message> {
+fn html_line<'a>(kind: HtmlKind, lines: Vec<Line<'a>>, rest: &Rest<'a>) -> Result<Came<'a>, Message>
+    ensures { IfOk result (λ x. came_meaning x ≡ leaves.html_line (kind_meaning kind) (line_meanings lines.entry.items) (rest_meaning rest.now)) }
+{
     let mut lines = lines;
     memory::push(&mut lines, rest.line())?;
     if html_ends(kind, rest.bytes) {
@@ -207,12 +256,15 @@ fn html_line<'a>(kind: HtmlKind, lines: Vec<Line<'a>>, rest: &Rest<'a>) -> Resul
 }
 
 /// HTML: a small indent, and then one of the seven beginnings (CommonMark 4.6).
+#[tactic(auto, unfolding(md_seam::specs::Leaves::html_at))]
 fn html_at<'a>(
     alloc: Global,
     options: &ParseOptions,
     against: Against,
     rest: &Rest<'a>,
-) -> Result<Option<Came<'a>>, Message> {
+) -> Result<Option<Came<'a>>, Message>
+    ensures { IfOk result (λ o. came_option o ≡ leaves.html_at options.now (against_meaning against) (rest_meaning rest.now)) }
+{
     if !options.constructs.html_flow || !rest.has_small_indent(options) {
         return Ok(None);
     }
@@ -258,12 +310,16 @@ pub enum Went<'a> {
 }
 
 /// How an open leaf goes on.
+#[tactic(auto, unfolding(md_seam::specs::Leaves::html_goes_on, md_seam::specs::Leaves::table_goes_on))]
 pub fn goes_on<'a>(
     alloc: Global,
     options: &ParseOptions,
     leaf: Leaf<'a>,
     rest: &Rest<'a>,
-) -> Result<Went<'a>, Message> {
+) -> Result<Went<'a>, Message>
+    ensures value { IfOk result (λ w. went_option w ≡ leaves.goes_on options.now (leaf_meaning leaf.entry) (rest_meaning rest.now)) }
+    ensures ends { IfOk result (λ w. HandsBack w (leaf_meaning leaf.entry)) }
+{
     match leaf {
         Leaf::Code(mut lines) => {
             if code_goes_on(&mut lines, rest)? {

@@ -39,12 +39,12 @@ pub fn rests_of<'a>(alloc: Global, column: usize, text: &'a [u8]) -> Result<Vec<
 {
     let mut rests = Vec::new(alloc);
     let mut left = text;
-    let mut column = column;
+    let mut begins = column;
     while !left.is_empty() {
         let (bytes, ending) = left.split_at(line_len(left));
-        memory::push(&mut rests, Rest { column, spaces: 0, bytes })?;
+        memory::push(&mut rests, Rest { column: begins, spaces: 0, bytes })?;
         left = behind_ending(ending);
-        column = 0;
+        begins = 0;
     }
     Ok(rests)
 }

@@ -3,7 +3,8 @@
 use Rattle.std.specs.Prelude.{ℕ, zero, suc, ◌+◌, ◌-◌, Bool, true, false, ◌&&◌, ◌||◌, not, nat_lt, nat_le, ◌==◌, if◌then◌else◌, List, [], ◌∷◌, length, sum_by, Option, Some, None}
 use Rattle.std.specs.List.{list_all, take_while}
 use Rattle.md_seam.specs.Rest.{is_blank, is_parted, trim_start}
-use Rattle.md_seam.specs.Bytes.{after}
+use Rattle.md_seam.specs.Lines.{begins_with}
+use Rattle.md_seam.specs.Bytes.{is_end, after, after_optional}
 use Rattle.md_seam.specs.Enclosed.{Closed, Open, Broken, enclosed, Lines, enclosed_lines}
 
 pub record Defined : Type 0 where
@@ -21,16 +22,15 @@ is_label lines = not (list_all is_blank lines) && nat_le (sum_by length lines) 9
 -- the label whose `[` is next, and what follows its `]` (CommonMark 6.3)
 unfoldable pub label_at : List (List ℕ) → Option Lines
 label_at [] = None
-label_at ([] ∷ lines) = None
-label_at ((b ∷ bs) ∷ lines) =
-    if b == 91 then elim (enclosed_lines 91 93 (bs ∷ lines)) [ Some label ↦ (if is_label label.text then Some label else None) | None ↦ None ]
+label_at (rest ∷ lines) =
+    if begins_with 91 rest
+    then elim (enclosed_lines 91 93 (after_optional 91 rest ∷ lines)) [ Some label ↦ (if is_label label.text then Some label else None) | None ↦ None ]
     else None
 
 -- what follows the `:` that is next
 abbrev pub after_colon : List (List ℕ) → Option (List (List ℕ))
 after_colon [] = None
-after_colon ([] ∷ lines) = None
-after_colon ((b ∷ bs) ∷ lines) = if b == 58 then Some (bs ∷ lines) else None
+after_colon (rest ∷ lines) = if begins_with 58 rest then Some (after_optional 58 rest ∷ lines) else None
 
 -- what follows spaces and tabs with at most one line ending
 abbrev pub after_gap : List (List ℕ) → List (List ℕ)
@@ -58,10 +58,10 @@ balanced depth false (b ∷ bs) = not ((b == 41) && (depth == 0)) && balanced (d
 
 -- the destination that is next (CommonMark 6.3)
 unfoldable pub destination_at : List ℕ → Option Destination
-destination_at [] = None
-destination_at (b ∷ bs) =
-    if b == 60 then elim (enclosed 60 62 false bs) [ Closed text rest ↦ Some (record { text = text; rest = rest }) | Open ↦ None | Broken ↦ None ]
-    else if is_raw_byte b && balanced 0 false (take_while is_raw_byte (b ∷ bs)) then Some (record { text = take_while is_raw_byte (b ∷ bs); rest = after is_raw_byte (b ∷ bs) })
+destination_at line =
+    let raw = take_while is_raw_byte line in
+    if begins_with 60 line then elim (enclosed 60 62 false (after_optional 60 line)) [ Closed text rest ↦ Some (record { text = text; rest = rest }) | Open ↦ None | Broken ↦ None ]
+    else if not (is_end raw) && balanced 0 false raw then Some (record { text = raw; rest = after is_raw_byte line })
     else None
 
 -- the mark that closes a title which begins with this byte
