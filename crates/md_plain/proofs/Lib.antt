@@ -1,3 +1,4 @@
 pub mod DefinitionLemmas
 pub mod PieceLemmas
 pub mod RestLemmas
+pub mod WordLemmas

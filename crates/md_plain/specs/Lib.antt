@@ -3,3 +3,4 @@ pub mod Rests
 pub mod States
 pub mod Pieces
 pub mod Definitions
+pub mod Words
