@@ -2,3 +2,8 @@ pub mod DefinitionLemmas
 pub mod PieceLemmas
 pub mod RestLemmas
 pub mod WordLemmas
+pub mod LinesLemmas
+pub mod TreeLemmas
+pub mod LabelLemmas
+pub mod PathLemmas
+pub mod ParagraphLemmas

@@ -1,6 +1,9 @@
 pub mod Trees
 pub mod Rests
 pub mod States
+pub mod Markers
 pub mod Pieces
 pub mod Definitions
 pub mod Words
+pub mod Paragraphs
+pub mod Steps

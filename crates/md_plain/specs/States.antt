@@ -1,5 +1,5 @@
 -- What the states of the program mean.
-use Rattle.std.specs.Prelude.{ℕ, List, [], ◌∷◌, map, Option}
+use Rattle.std.specs.Prelude.{◌≡◌, ℕ, List, [], ◌∷◌, map, Option, Some, None}
 use Rattle.std.specs.Option.{option_copied, option_map}
 use Rattle.md_seam.specs.Html as h
 use Rattle.md_seam.specs.State as s
@@ -18,6 +18,8 @@ use Rattle.md_plain.specs.declared.state.Frame.{Frame}
 use Rattle.md_plain.specs.declared.state.Path.{Path}
 use Rattle.md_plain.specs.declared.state.Came.{Came}
 use Rattle.md_plain.specs.declared.state.Came.TheVariants as came
+use Rattle.md_plain.specs.declared.leaves.Went.{Went}
+use Rattle.md_plain.specs.declared.leaves.Went.TheVariants as went
 use Rattle.md_plain.specs.declared.state.Against.{Against}
 use Rattle.md_plain.specs.declared.state.Against.TheVariants as against
 use Rattle.md_plain.specs.declared.state.Taken.{Taken}
@@ -83,3 +85,13 @@ taken_meaning t = record { container = container_meaning t.container; rest = res
 
 abbrev pub taken_option : Option Taken → Option c.Taken
 taken_option o = option_map taken_meaning o
+
+-- what a leaf that goes on has come to
+abbrev pub went_option : Went → Option l.Came
+went_option (went.On c) = Some (came_meaning c)
+went_option (went.Ends x) = None
+
+-- a leaf that ends is handed back
+abbrev pub HandsBack : Went → s.Leaf → Type 0
+HandsBack (went.On c) x = Unit {0}
+HandsBack (went.Ends y) x = leaf_meaning y ≡ x

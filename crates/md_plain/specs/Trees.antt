@@ -1,5 +1,6 @@
 -- What the trees of the program mean.
 use Rattle.std.specs.Prelude.{ℕ, List, [], ◌∷◌, map, Option, Some, None}
+use Rattle.std.specs.Borrow.{Bor}
 use Rattle.std.specs.Option.{option_copied, option_map}
 use Rattle.md_seam.specs.Tree as t
 use Rattle.md_plain.specs.declared.tree.Line.{Line}
@@ -13,6 +14,9 @@ line_meaning l = record { spaces = l.spaces; text = l.text.now }
 
 abbrev pub line_meanings : List Line → List t.Line
 line_meanings lines = map line_meaning lines
+
+abbrev pub slices : List (Bor (List ℕ)) → List (List ℕ)
+slices xs = map (λ x. x.now) xs
 
 abbrev pub blocks_of : List t.Block → t.Blocks
 blocks_of [] = t.End

@@ -20,7 +20,8 @@ pub fn is_blank(bytes: &[u8]) -> bool
 
 /// How many of this byte stand at the front.
 pub fn run_len(marker: u8, bytes: &[u8]) -> usize
-    ensures { result ≡ rest.run_len marker bytes.now }
+    ensures value { result ≡ rest.run_len marker bytes.now }
+    ensures bound { result ≤ length bytes.now }
 {
     bytes.iter().take_while(|byte| **byte == marker).count()
 }

@@ -3,13 +3,25 @@
 
 pub mod ahead;
 pub mod bytes;
+pub mod close;
 pub mod columns;
+pub mod containers;
 pub mod definition;
+pub mod grouped;
 pub mod html;
 pub mod label;
+pub mod leaves;
 pub mod lines;
+pub mod meaning;
 pub mod memory;
+pub mod outline_lines;
+pub mod paragraph;
+pub mod preamble;
 pub mod rest;
 pub mod state;
+pub mod step;
 pub mod table;
 pub mod tree;
+
+#[cfg(test)]
+mod tests;

@@ -1,6 +1,6 @@
 // The lines of a text (CommonMark 2.1).
 
-ghost use Rattle.std.specs.Prelude.{◌≡◌, ◌≤◌, ◌<◌, ◌+◌, ◌*◌, ◌^◌, length, not, IfOk};
+ghost use Rattle.std.specs.Prelude.{◌≡◌, ◌≤◌, ◌<◌, ◌+◌, ◌-◌, ◌*◌, ◌^◌, length, not, IfOk};
 ghost use Rattle.std.specs.List.{prefix_len};
 ghost use Rattle.md_seam.specs.Lines as lines;
 ghost use Rattle.md_seam.specs.Preamble.{rests_at};
@@ -23,7 +23,7 @@ fn line_len(text: &[u8]) -> usize
 /// What follows the line ending that comes first: LF, CR or CRLF.
 fn behind_ending(bytes: &[u8]) -> &[u8]
     ensures value { result.now ≡ after_ending bytes.now }
-    ensures bound { length result.now ≤ length bytes.now }
+    ensures bound { length result.now ≤ length bytes.now - 1 }
 {
     match bytes {
         [b'\r', b'\n', rest @ ..] | [_, rest @ ..] => rest,
@@ -39,12 +39,12 @@ pub fn rests_of<'a>(alloc: Global, column: usize, text: &'a [u8]) -> Result<Vec<
 {
     let mut rests = Vec::new(alloc);
     let mut left = text;
-    let mut column = column;
+    let mut begins = column;
     while !left.is_empty() {
         let (bytes, ending) = left.split_at(line_len(left));
-        memory::push(&mut rests, Rest { column, spaces: 0, bytes })?;
+        memory::push(&mut rests, Rest { column: begins, spaces: 0, bytes })?;
         left = behind_ending(ending);
-        column = 0;
+        begins = 0;
     }
     Ok(rests)
 }

@@ -5,7 +5,7 @@ use crate::rest::Rest;
 use crate::tree::{Block, Line};
 
 /// An open container.
-#[derive(Clone, Copy, Debug, PartialEq, Eq)]
+#[derive(Clone, Copy)]
 pub enum Container<'a> {
     Quote,
     Item {
@@ -22,14 +22,14 @@ pub enum Container<'a> {
 }
 
 /// A line of an open paragraph: the columns of its indent, and the text behind it.
-#[derive(Clone, Copy, Debug, PartialEq, Eq)]
+#[derive(Clone, Copy)]
 pub struct Kept<'a> {
     pub indent: usize,
     pub text: &'a [u8],
 }
 
 /// An opening fence.
-#[derive(Clone, Copy, Debug, PartialEq, Eq)]
+#[derive(Clone, Copy)]
 pub struct Opening<'a> {
     pub marker: u8,
     /// How many of them.
@@ -93,7 +93,7 @@ pub enum Against {
 }
 
 /// A container that continued or opened, and the rest of the line in it.
-#[derive(Clone, Copy, Debug, PartialEq, Eq)]
+#[derive(Clone, Copy)]
 pub struct Taken<'a> {
     pub container: Container<'a>,
     pub rest: Rest<'a>,

@@ -20,7 +20,7 @@ pub enum Block<'a> {
     /// The label, and the blocks.
     Footnote(&'a [u8], Vec<Block<'a>>),
     /// The depth, and the lines.
-    Heading(usize, Vec<&'a [u8]>),
+    Heading(u8, Vec<&'a [u8]>),
     Break,
     Code(Vec<Line<'a>>),
     Html(Vec<Line<'a>>),

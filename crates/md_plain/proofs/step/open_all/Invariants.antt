@@ -1,0 +1,10 @@
+use Rattle.std.proofs.Common.{◌≡◌, ◌-◌, length}
+use Rattle.md_seam.specs.Step.{opened}
+use Rattle.md_plain.specs.Rests.{rest_meaning}
+use Rattle.md_plain.specs.States.{within}
+use Rattle.md_plain.proofs.step.open_all.Given as goal
+
+abbrev pub invariant-loop-count : goal.invariant-loop-count
+invariant-loop-count l =
+    within l.frames.items (opened l.options (length l.rest.bytes - l.count) (rest_meaning l.left))
+        ≡ within l.fn.frames.items (opened l.options (length l.rest.bytes) (rest_meaning l.rest))

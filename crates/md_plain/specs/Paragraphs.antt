@@ -1,0 +1,27 @@
+-- The parts of what turns a paragraph.
+use Rattle.std.specs.Prelude.{ℕ, ◌&&◌, if◌then◌else◌, List, [], ◌∷◌, map, Option, Some, None}
+use Rattle.md_engine.specs.declared.configuration.ParseOptions.{ParseOptions}
+use Rattle.md_seam.specs.Tree.{Blocks}
+use Rattle.md_seam.specs.Rest.{Rest, has_small_indent, trim}
+use Rattle.md_seam.specs.Table.{delimiter_columns, row_cells}
+use Rattle.md_seam.specs.Definition as d
+use Rattle.md_seam.specs.State.{Kept, OpenTable, Spot, shut_paragraph, texts}
+use Rattle.md_seam.specs.Leaves.{is_head_of}
+use Rattle.md_plain.specs.declared.definition.Defined.{Defined}
+use Rattle.md_plain.specs.Definitions.{defined_meaning}
+
+abbrev pub definitions_of : List Defined → List d.Defined
+definitions_of ds = map defined_meaning ds
+
+abbrev pub head_by : ParseOptions → Kept → Option ℕ → Option (List (List ℕ))
+head_by options k None = None
+head_by options k (Some columns) = if is_head_of options k columns then Some (row_cells k.text) else None
+
+-- the cells of a head that is this line, if the rest is its delimiter row
+abbrev pub head_of : ParseOptions → Kept → Rest → Option (List (List ℕ))
+head_of options k r =
+    if options.constructs.gfm_table && has_small_indent options r then head_by options k (delimiter_columns (trim r.bytes)) else None
+
+-- the table behind what is left of a paragraph
+abbrev pub table_spot : ParseOptions → Blocks → List Kept → List (List ℕ) → Rest → Spot
+table_spot options bs earlier cells r = record { here = shut_paragraph options bs (texts earlier); leaf = OpenTable (trim r.bytes) (cells ∷ []) }

@@ -1,0 +1,190 @@
+// Paragraphs, and the lines that turn them into headings and tables.
+
+ghost use Rattle.std.specs.Prelude.{◌≡◌, length, OnOk, IfOk};
+ghost use Rattle.md_seam.specs.State as state;
+ghost use Rattle.md_seam.specs.Leaves as leaves;
+ghost use Rattle.md_plain.specs.Definitions.{cut_meaning, defined_meaning};
+ghost use Rattle.md_plain.specs.Rests.{rest_meaning};
+ghost use Rattle.md_plain.specs.Trees.{meanings, slices};
+ghost use Rattle.md_plain.specs.States.{kept_meaning, kept_meanings, spot_meaning};
+ghost use Rattle.md_plain.specs.Paragraphs.{definitions_of, head_of, table_spot};
+ghost use Rattle.md_seam.specs.Table as table;
+ghost use Rattle.std.specs.Option.{option_map};
+
+use md_engine::configuration::ParseOptions;
+use md_engine::message::Message;
+use std::alloc::Global;
+
+use crate::bytes::trim;
+use crate::columns::is_small;
+use crate::definition::{Cut, Defined, cut_definitions};
+use crate::memory;
+use crate::rest::Rest;
+use crate::state::{Kept, Leaf, Spot};
+use crate::table::{delimiter_columns, is_head, row_cells};
+use crate::tree::Block;
+
+/// The texts of these lines.
+fn texts<'a>(alloc: Global, lines: &[Kept<'a>]) -> Result<Vec<&'a [u8]>, Message>
+    ensures { IfOk result (λ v. slices v.items ≡ state.texts (kept_meanings lines.now)) }
+{
+    let mut texts = Vec::new(alloc);
+    for kept in lines {
+        memory::push(&mut texts, kept.text)?;
+    }
+    Ok(texts)
+}
+
+/// The definitions at the front of a paragraph, and the lines that remain (CommonMark 4.7).
+fn cut<'a>(alloc: Global, options: &ParseOptions, lines: &[Kept<'a>]) -> Result<Cut<'a>, Message>
+    ensures { IfOk result (λ c. cut_meaning c ≡ state.cut options.now (state.texts (kept_meanings lines.now))) }
+{
+    let texts = texts(alloc, lines)?;
+    if options.constructs.definition {
+        cut_definitions(alloc, &texts)
+    } else {
+        Ok(Cut { definitions: Vec::new(alloc), remaining: texts })
+    }
+}
+
+fn push_definitions<'a>(blocks: &mut Vec<Block<'a>>, definitions: Vec<Defined<'a>>) -> Result<(), Message>
+    ensures { OnOk result (meanings blocks.new.items ≡ state.then_definitions (meanings blocks.old.items) (definitions_of definitions.entry.items)) }
+{
+    for defined in definitions {
+        memory::push(
+            blocks,
+            Block::Definition(defined.label, defined.destination, defined.title),
+        )?;
+    }
+    Ok(())
+}
+
+/// Closes a paragraph: its definitions, and then what remains, if anything does.
+#[tactic(auto, unfolding(md_seam::specs::State::shut_paragraph))]
+pub fn shut_paragraph<'a>(
+    alloc: Global,
+    options: &ParseOptions,
+    blocks: &mut Vec<Block<'a>>,
+    lines: &[Kept<'a>],
+) -> Result<(), Message>
+    ensures { OnOk result (meanings blocks.new.items ≡ state.shut_paragraph options.now (meanings blocks.old.items) (state.texts (kept_meanings lines.now))) }
+{
+    let cut = cut(alloc, options, lines)?;
+    push_definitions(blocks, cut.definitions)?;
+    if !cut.remaining.is_empty() {
+        memory::push(blocks, Block::Paragraph(cut.remaining))?;
+    }
+    Ok(())
+}
+
+/// A line of a paragraph, from the rest that it is.
+pub fn kept<'a>(rest: &Rest<'a>) -> Kept<'a>
+    ensures { kept_meaning result ≡ state.kept (rest_meaning rest.now) }
+{
+    Kept { indent: rest.indent(), text: rest.text() }
+}
+
+/// An open paragraph with one line more.
+pub fn with_line<'a>(here: Vec<Block<'a>>, lines: Vec<Kept<'a>>, rest: &Rest<'a>) -> Result<Spot<'a>, Message>
+    ensures { IfOk result (λ s. spot_meaning s ≡ leaves.with_line (meanings here.entry.items) (kept_meanings lines.entry.items) (rest_meaning rest.now)) }
+{
+    let mut lines = lines;
+    memory::push(&mut lines, kept(rest))?;
+    Ok(Spot { here, leaf: Leaf::Paragraph(lines) })
+}
+
+/// Whether these bytes are this one alone, at least once.
+fn is_run(marker: u8, bytes: &[u8]) -> bool
+    ensures { result ≡ leaves.is_run marker bytes.now }
+{
+    !bytes.is_empty() && bytes.iter().all(|byte| *byte == marker)
+}
+
+/// The depth of the heading that this line underlines (CommonMark 4.3).
+#[tactic(auto, unfolding(md_seam::specs::Leaves::underline_depth))]
+pub fn underline_depth(options: &ParseOptions, rest: &Rest) -> Option<u8>
+    ensures { result ≡ leaves.underline_depth options.now (rest_meaning rest.now) }
+{
+    let text = trim(rest.bytes);
+    if !options.constructs.heading_setext || !rest.has_small_indent(options) {
+        None
+    } else if is_run(b'=', text) {
+        Some(1)
+    } else if is_run(b'-', text) {
+        Some(2)
+    } else {
+        None
+    }
+}
+
+/// A paragraph with an underline: what remains after its definitions becomes a heading; an underline with nothing to
+/// underline is an ordinary line.
+#[tactic(auto, unfolding(md_seam::specs::Leaves::underlined))]
+pub fn underlined<'a>(
+    alloc: Global,
+    options: &ParseOptions,
+    here: Vec<Block<'a>>,
+    lines: Vec<Kept<'a>>,
+    rest: &Rest<'a>,
+    depth: u8,
+) -> Result<Spot<'a>, Message>
+    ensures { IfOk result (λ s. spot_meaning s ≡ leaves.underlined options.now (meanings here.entry.items) (kept_meanings lines.entry.items) (rest_meaning rest.now) depth) }
+{
+    let cut = cut(alloc, options, &lines)?;
+    if cut.remaining.is_empty() {
+        return with_line(here, lines, rest);
+    }
+    let mut here = here;
+    push_definitions(&mut here, cut.definitions)?;
+    memory::push(&mut here, Block::Heading(depth, cut.remaining))?;
+    Ok(Spot { here, leaf: Leaf::None })
+}
+
+/// Whether this line is the head of a table of so many columns.
+fn is_head_of(options: &ParseOptions, kept: &Kept, count: usize, columns: usize) -> bool
+    requires { count ≡ length (table.row_cells kept.now.text.now) }
+    ensures { result ≡ leaves.is_head_of options.now (kept_meaning kept.now) columns }
+{
+    is_small(options, kept.indent) && is_head(kept.text) && count == columns
+}
+
+/// The cells of the head that this line is for this rest, if the rest is a delimiter row (GFM 4.10).
+pub fn head_cells<'a>(
+    alloc: Global,
+    options: &ParseOptions,
+    head: &Kept<'a>,
+    rest: &Rest<'a>,
+) -> Result<Option<Vec<&'a [u8]>>, Message>
+    ensures { IfOk result (λ cells. option_map (λ v. slices v.items) cells ≡ head_of options.now (kept_meaning head.now) (rest_meaning rest.now)) }
+{
+    if !options.constructs.gfm_table || !rest.has_small_indent(options) {
+        return Ok(None);
+    }
+    let Some(columns) = delimiter_columns(alloc, trim(rest.bytes))? else {
+        return Ok(None);
+    };
+    let cells = row_cells(alloc, head.text)?;
+    if is_head_of(options, head, cells.len(), columns) {
+        Ok(Some(cells))
+    } else {
+        Ok(None)
+    }
+}
+
+/// A table behind these blocks, with these cells in its head; the lines before the head are closed as a paragraph.
+pub fn with_table<'a>(
+    alloc: Global,
+    options: &ParseOptions,
+    here: Vec<Block<'a>>,
+    earlier: &[Kept<'a>],
+    cells: Vec<&'a [u8]>,
+    rest: &Rest<'a>,
+) -> Result<Spot<'a>, Message>
+    ensures { IfOk result (λ s. spot_meaning s ≡ table_spot options.now (meanings here.entry.items) (kept_meanings earlier.now) (slices cells.entry.items) (rest_meaning rest.now)) }
+{
+    let mut here = here;
+    shut_paragraph(alloc, options, &mut here, earlier)?;
+    let mut rows = Vec::new(alloc);
+    memory::push(&mut rows, cells)?;
+    Ok(Spot { here, leaf: Leaf::Table(trim(rest.bytes), rows) })
+}

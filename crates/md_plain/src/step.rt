@@ -1,0 +1,248 @@
+// The step of one line: what is open after it (CommonMark, appendix).
+
+ghost use Rattle.std.specs.Prelude.{◌≡◌, ◌<◌, length, take, drop, is_some, IfOk};
+ghost use Rattle.md_seam.specs.Tree.{End};
+ghost use Rattle.md_seam.specs.State as state;
+ghost use Rattle.md_seam.specs.Step as definition;
+ghost use Rattle.md_plain.specs.Rests.{rest_meaning};
+ghost use Rattle.md_plain.specs.Trees.{meanings};
+ghost use Rattle.md_plain.specs.States.{kept_meanings, leaf_meaning, spot_meaning, container_meaning, came_meaning, taken_meaning, path_meaning, within};
+ghost use Rattle.md_plain.specs.Steps.{stopped_at};
+
+use md_engine::configuration::ParseOptions;
+use md_engine::message::Message;
+use std::alloc::Global;
+
+use crate::bytes::is_blank;
+use crate::close::{close_to, shut};
+use crate::containers::{continues, opens};
+use crate::leaves::{Went, goes_on, starts};
+use crate::memory;
+use crate::paragraph::{head_cells, kept, shut_paragraph, underline_depth, underlined, with_line, with_table};
+use crate::rest::Rest;
+use crate::state::{Against, Came, Frame, Kept, Leaf, Path, Spot, Taken};
+use crate::tree::Block;
+
+/// What a leaf came to, behind these blocks.
+#[tactic(auto, using(crate::proofs::TreeLemmas::meanings_push))]
+fn came<'a>(here: Vec<Block<'a>>, came: Came<'a>) -> Result<Spot<'a>, Message>
+    ensures { IfOk result (λ s. spot_meaning s ≡ definition.came (meanings here.entry.items) (came_meaning came.entry)) }
+{
+    match came {
+        Came::Opened(leaf) => Ok(Spot { here, leaf }),
+        Came::Finished(block) => {
+            let mut here = here;
+            memory::push(&mut here, block)?;
+            Ok(Spot { here, leaf: Leaf::None })
+        }
+    }
+}
+
+/// A rest where no leaf is open: a blank one does nothing, and what starts no other leaf is a paragraph.
+#[tactic(auto, unfolding(md_seam::specs::Step::fresh_line))]
+fn fresh_line<'a>(
+    alloc: Global,
+    options: &ParseOptions,
+    here: Vec<Block<'a>>,
+    rest: &Rest<'a>,
+) -> Result<Spot<'a>, Message>
+    ensures { IfOk result (λ s. spot_meaning s ≡ definition.fresh_line options.now (meanings here.entry.items) (rest_meaning rest.now)) }
+{
+    if is_blank(rest.bytes) {
+        return Ok(Spot { here, leaf: Leaf::None });
+    }
+    match starts(alloc, options, Against::NoText, rest)? {
+        Some(started) => came(here, started),
+        None => with_line(here, Vec::new(alloc), rest),
+    }
+}
+
+/// A rest where a paragraph is open: a blank one closes it. Otherwise it is an underline, another leaf, a delimiter row
+/// or a line of the paragraph.
+#[tactic(auto, unfolding(md_seam::specs::Step::text_line, md_seam::specs::Leaves::table_at))]
+fn text_line<'a>(
+    alloc: Global,
+    options: &ParseOptions,
+    here: Vec<Block<'a>>,
+    lines: Vec<Kept<'a>>,
+    rest: &Rest<'a>,
+) -> Result<Spot<'a>, Message>
+    ensures { IfOk result (λ s. spot_meaning s ≡ definition.text_line options.now (meanings here.entry.items) (kept_meanings lines.entry.items) (rest_meaning rest.now)) }
+{
+    let mut here = here;
+    if is_blank(rest.bytes) {
+        shut_paragraph(alloc, options, &mut here, &lines)?;
+        return Ok(Spot { here, leaf: Leaf::None });
+    }
+    if let Some(depth) = underline_depth(options, rest) {
+        return underlined(alloc, options, here, lines, rest, depth);
+    }
+    if let Some(started) = starts(alloc, options, Against::Text, rest)? {
+        shut_paragraph(alloc, options, &mut here, &lines)?;
+        return came(here, started);
+    }
+    if let Some((head, earlier)) = lines.split_last() {
+        if let Some(cells) = head_cells(alloc, options, head, rest)? {
+            return with_table(alloc, options, here, earlier, cells, rest);
+        }
+    }
+    with_line(here, lines, rest)
+}
+
+/// A rest in the innermost container, where all containers continued and none opened.
+fn leaf_line<'a>(
+    alloc: Global,
+    options: &ParseOptions,
+    spot: Spot<'a>,
+    rest: &Rest<'a>,
+) -> Result<Spot<'a>, Message>
+    ensures { IfOk result (λ s. spot_meaning s ≡ definition.leaf_line options.now (spot_meaning spot.entry) (rest_meaning rest.now)) }
+{
+    let Spot { here, leaf } = spot;
+    match leaf {
+        Leaf::None => fresh_line(alloc, options, here, rest),
+        Leaf::Paragraph(lines) => text_line(alloc, options, here, lines, rest),
+        leaf => match goes_on(alloc, options, leaf, rest)? {
+            Went::On(went) => came(here, went),
+            Went::Ends(leaf) => {
+                let here = shut(alloc, options, Spot { here, leaf })?;
+                fresh_line(alloc, options, here, rest)
+            }
+        },
+    }
+}
+
+/// Containers open as often as they do, each in the one before: all that are open then, and the rest in the innermost.
+fn open_all<'a>(
+    alloc: Global,
+    options: &ParseOptions,
+    frames: Vec<Frame<'a>>,
+    rest: Rest<'a>,
+) -> Result<(Vec<Frame<'a>>, Rest<'a>), Message>
+    ensures { IfOk result (λ r. within r.0.items (state.At (definition.fresh_line options.now End (rest_meaning r.1))) ≡ within frames.entry.items (definition.opened options.now (length rest.entry.bytes.now) (rest_meaning rest.entry))) }
+{
+    let mut frames = frames;
+    let mut left = rest;
+    for count in 0..rest.bytes.len() {
+        let Some(next) = opens(options, false, &left) else {
+            return Ok((frames, left));
+        };
+        memory::push(&mut frames, Frame { before: Vec::new(alloc), container: next.container })?;
+        left = next.rest;
+    }
+    Ok((frames, left))
+}
+
+/// Opens a container behind these blocks, then as many more as open, each in the one before, and then a leaf.
+fn enter<'a>(
+    alloc: Global,
+    options: &ParseOptions,
+    frames: Vec<Frame<'a>>,
+    here: Vec<Block<'a>>,
+    taken: Taken<'a>,
+) -> Result<Path<'a>, Message>
+    ensures { IfOk result (λ p. path_meaning p ≡ within frames.entry.items (definition.entered options.now (meanings here.entry.items) (taken_meaning taken.entry))) }
+{
+    let mut frames = frames;
+    memory::push(&mut frames, Frame { before: here, container: taken.container })?;
+    let (frames, rest) = open_all(alloc, options, frames, taken.rest)?;
+    let spot = fresh_line(alloc, options, Vec::new(alloc), &rest)?;
+    Ok(Path { frames, spot })
+}
+
+/// All containers continued.
+#[tactic(auto, unfolding(md_seam::specs::Step::all_continued))]
+fn all_continued<'a>(
+    alloc: Global,
+    options: &ParseOptions,
+    path: Path<'a>,
+    rest: &Rest<'a>,
+) -> Result<Path<'a>, Message>
+    ensures { IfOk result (λ p. path_meaning p ≡ within path.entry.frames.items (definition.all_continued options.now (spot_meaning path.entry.spot) (rest_meaning rest.now))) }
+{
+    let Path { frames, spot } = path;
+    let opened = match spot.leaf {
+        Leaf::Fence(_, _) | Leaf::Html(_, _) => None,
+        Leaf::Paragraph(_) => opens(options, true, rest),
+        _ => opens(options, false, rest),
+    };
+    match opened {
+        Some(taken) => {
+            let here = shut(alloc, options, spot)?;
+            enter(alloc, options, frames, here, taken)
+        }
+        None => {
+            let spot = leaf_line(alloc, options, spot, rest)?;
+            Ok(Path { frames, spot })
+        }
+    }
+}
+
+/// Whether an open paragraph takes this lazy line (CommonMark 5.1, "laziness").
+fn takes_lazy<'a>(alloc: Global, options: &ParseOptions, leaf: &Leaf<'a>, rest: &Rest<'a>) -> Result<bool, Message>
+    ensures { IfOk result (λ b. b ≡ is_some (definition.with_lazy options.now (leaf_meaning leaf.now) (rest_meaning rest.now))) }
+{
+    match leaf {
+        Leaf::Paragraph(_) => {
+            Ok(!is_blank(rest.bytes) && starts(alloc, options, Against::LazyText, rest)?.is_none())
+        }
+        _ => Ok(false),
+    }
+}
+
+/// The container behind so many others does not continue.
+#[tactic(auto, unfolding(md_seam::specs::Step::stopped))]
+fn stopped<'a>(
+    alloc: Global,
+    options: &ParseOptions,
+    path: Path<'a>,
+    count: usize,
+    rest: &Rest<'a>,
+) -> Result<Path<'a>, Message>
+    requires { count < length path.frames.items }
+    ensures { IfOk result (λ p. path_meaning p ≡ within (take count path.entry.frames.items) (stopped_at options.now (drop count path.entry.frames.items) (spot_meaning path.entry.spot) (rest_meaning rest.now))) }
+{
+    if let Some(taken) = opens(options, false, rest) {
+        let (frames, here) = close_to(alloc, options, path, count)?;
+        return enter(alloc, options, frames, here, taken);
+    }
+    if takes_lazy(alloc, options, &path.spot.leaf, rest)? {
+        let Path { frames, spot } = path;
+        let spot = with_lazy(spot, rest)?;
+        return Ok(Path { frames, spot });
+    }
+    let (frames, here) = close_to(alloc, options, path, count)?;
+    let spot = fresh_line(alloc, options, here, rest)?;
+    Ok(Path { frames, spot })
+}
+
+/// A lazy line goes on the open paragraph.
+fn with_lazy<'a>(spot: Spot<'a>, rest: &Rest<'a>) -> Result<Spot<'a>, Message> {
+    let Spot { here, leaf } = spot;
+    match leaf {
+        Leaf::Paragraph(lines) => with_line(here, lines, rest),
+        leaf => Ok(Spot { here, leaf }),
+    }
+}
+
+/// What is open after a line: each container is asked, from the outermost in, whether it continues.
+pub fn step<'a>(
+    alloc: Global,
+    options: &ParseOptions,
+    path: Path<'a>,
+    rest: &Rest<'a>,
+) -> Result<Path<'a>, Message>
+    ensures { IfOk result (λ p. path_meaning p ≡ definition.step options.now (path_meaning path.entry) (rest_meaning rest.now)) }
+{
+    let mut path = path;
+    let mut rest = *rest;
+    for index in 0..path.frames.len() {
+        let Some(taken) = continues(options, &path.frames[index].container, &rest) else {
+            return stopped(alloc, options, path, index, &rest);
+        };
+        let frame = &mut path.frames[index];
+        frame.container = taken.container;
+        rest = taken.rest;
+    }
+    all_continued(alloc, options, path, &rest)
+}
