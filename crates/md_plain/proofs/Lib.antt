@@ -1,6 +1,7 @@
 pub mod DefinitionLemmas
 pub mod PieceLemmas
 pub mod RestLemmas
+pub mod WordLemmas
 pub mod LinesLemmas
 pub mod TreeLemmas
 pub mod LabelLemmas

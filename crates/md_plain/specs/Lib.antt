@@ -4,5 +4,6 @@ pub mod States
 pub mod Markers
 pub mod Pieces
 pub mod Definitions
+pub mod Words
 pub mod Paragraphs
 pub mod Steps
