@@ -2,7 +2,7 @@
 use Rattle.std.proofs.Common.{◌≡◌, true, refl}
 use Rattle.md_engine.specs.declared.configuration.ParseOptions.{ParseOptions}
 use Rattle.md_engine.specs.declared.configuration.TheConstants.ParseOptions as given
-use Rattle.md_seam.specs.Html.{begins_raw, begins_basic, after_value, after_assignment, after_attribute, ends_opening, begins_complete, kind_after, html_kind, html_ends}
+use Rattle.md_seam.specs.Html.{begins_raw, begins_basic, after_value, after_assignment, after_attribute, ends_opening, begins_complete, kind_after, html_kind, html_ends, is_raw_name}
 use Rattle.md_seam.specs.Enclosed.{enclosed, enclosed_lines}
 use Rattle.md_seam.specs.Definition.{label_at, balanced, destination_at, title_at, definition_at, cut_at_most, cut_definitions}
 use Rattle.md_seam.specs.Table.{pieces, row_cells, delimiter_columns, is_head}
@@ -47,5 +47,5 @@ record Meant : Type 0 where
   footnote_means : tree extended footnote_text ≡ footnote_tree
 
 meant : Meant
-unfolding begins_raw begins_basic after_value after_assignment after_attribute ends_opening begins_complete kind_after html_kind html_ends enclosed enclosed_lines label_at balanced destination_at title_at definition_at cut_at_most cut_definitions pieces row_cells is_head delimiter_columns shut_paragraph front_of quote_taken item_continues footnote_continues opens_quote opens_item opens_footnote break_at heading_at code_at code_goes_on fence_at fence_goes_on html_at html_goes_on starts table_goes_on underline_depth underlined table_at fresh_line text_line all_continued stopped
+unfolding begins_raw begins_basic after_value after_assignment after_attribute ends_opening begins_complete kind_after html_kind html_ends enclosed enclosed_lines label_at balanced destination_at title_at definition_at cut_at_most cut_definitions pieces row_cells is_head delimiter_columns shut_paragraph front_of quote_taken item_continues footnote_continues opens_quote opens_item opens_footnote break_at heading_at code_at code_goes_on fence_at fence_goes_on html_at html_goes_on starts table_goes_on underline_depth underlined table_at fresh_line text_line all_continued stopped is_raw_name
 meant = record { empty_means = refl; blank_means = refl; mark_means = refl; paragraph_means = refl; break_means = refl; heading_means = refl; empty_heading_means = refl; underlined_means = refl; lazy_means = refl; prefix_means = refl; ordered_means = refl; nested_means = refl; fence_means = refl; open_fence_means = refl; left_fence_means = refl; shared_tab_means = refl; code_means = refl; tabs_means = refl; html_means = refl; math_means = refl; frontmatter_means = refl; definition_means = refl; empty_parts_means = refl; empty_lines_means = refl; table_means = refl; footnote_means = refl }

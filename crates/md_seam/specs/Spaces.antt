@@ -10,7 +10,7 @@ use Rattle.md_engine.specs.declared.tokenizer.TheConstants.Scratch.{REST}
 use Rattle.md_engine.specs.declared.configuration.ParseOptions.{ParseOptions}
 use Rattle.md_engine.specs.World.{World}
 use Rattle.md_engine.specs.Scheme.{Spot, After, Scheme, Ends, cells_before}
-use Rattle.md_seam.specs.Texts.{is_white}
+use Rattle.md_seam.specs.Rest.{is_white}
 use Rattle.md_seam.specs.Went.{Went, entered, exited, taken, tried}
 
 -- whether a space or a column of a tab stands here
