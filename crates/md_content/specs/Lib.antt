@@ -1,2 +1,3 @@
 pub mod Paragraph
 pub mod Chunks
+pub mod States

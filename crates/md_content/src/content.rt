@@ -6,9 +6,10 @@
 // read as one.
 
 ghost use Rattle.std.specs.Prelude.{◌≡◌, ◌≢◌};
-ghost use Rattle.md_engine.specs.World.{world};
+ghost use Rattle.md_engine.specs.World.{looks, world};
 ghost use Rattle.md_engine.specs.declared.state.Name.{Name as StateName};
 ghost use Rattle.md_engine.specs.declared.state.State.{State};
+ghost use Rattle.md_content.specs.States.{content_went};
 ghost use Rattle.md_content.specs.Chunks.{chunk_inside_code, chunk_start_went};
 ghost use Rattle.md_seam.specs.Spaces.{ends_line};
 ghost use Rattle.md_seam.specs.Went.{IsAt, NeedsNothing};
@@ -73,26 +74,35 @@ pub fn chunk_inside(tokenizer: &mut Tokenizer) -> State
     }
 }
 
+/// Calls a state of content.
+fn call_state(tokenizer: &mut Tokenizer, name: StateName) -> State
+    requires { (world tokenizer.old).current ≡ looks (world tokenizer.old) }
+    ensures to { result ≢ State.Error → result ≡ (content_went name (world tokenizer.old)).to }
+    ensures world { result ≢ State.Error → world tokenizer.new ≡ (content_went name (world tokenizer.old)).world }
+{
+    match name {
+        StateName::ParagraphStart => paragraph::start(tokenizer),
+        StateName::ParagraphLineStart => paragraph::line_start(tokenizer),
+        StateName::ParagraphInside => paragraph::inside(tokenizer),
+        _ => State::Nok,
+    }
+}
+
 /// The states of content.
 pub struct ContentTable;
 
 impl Table for ContentTable {
-    ghost use Rattle.std.specs.Prelude.{Unit};
-    ghost use Rattle.md_engine.specs.Scheme.{nowhere};
+    ghost use Rattle.std.specs.Prelude.{None};
+    ghost use Rattle.md_content.specs.States.{ContentStep, content_scheme};
 
-    ghost step = { λ n w s x. Unit {0} };
+    ghost step = { ContentStep };
 
-    ghost scheme = { nowhere };
+    ghost scheme = { content_scheme };
 
-    ghost resolves = { λ n w f x. Unit {0} };
+    ghost resolves = { λ name old found new. (found ≡ None) × (new ≡ old) };
 
     fn call(tokenizer: &mut Tokenizer, name: StateName) -> State {
-        match name {
-            StateName::ParagraphStart => paragraph::start(tokenizer),
-            StateName::ParagraphLineStart => paragraph::line_start(tokenizer),
-            StateName::ParagraphInside => paragraph::inside(tokenizer),
-            _ => State::Nok,
-        }
+        call_state(tokenizer, name)
     }
 
     fn resolve(

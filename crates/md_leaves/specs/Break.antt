@@ -41,7 +41,7 @@ at_break_code w false false = record { to = Nok; world = record w { scratch = wi
 -- by whether the marker stands here, and whether whitespace does
 abbrev pub sequence_code : World → Bool → Bool → Went
 sequence_code w true white = record { to = Next Sequence; world = record (taken w) { scratch = record w.scratch { size = w.scratch.size + 1 } } }
-sequence_code w false true = white_then (exited w ThematicBreakSequence) 1 any_size (Next ThematicBreakAtBreak) Nok
+sequence_code w false true = white_then (exited w ThematicBreakSequence) 0 any_size (Next ThematicBreakAtBreak) Nok
 sequence_code w false false = record { to = Retry ThematicBreakAtBreak; world = exited w ThematicBreakSequence }
 
 -- each state with what it does, where there is memory

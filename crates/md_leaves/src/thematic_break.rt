@@ -17,7 +17,7 @@ use md_engine::event::Name;
 use md_engine::or_error;
 use md_engine::state::{Name as StateName, State};
 use md_engine::tokenizer::Tokenizer;
-use md_seam::space_or_tab::{is_space_or_tab, small_indent, space_or_tab, space_or_tab_min_max};
+use md_seam::space_or_tab::{is_space_or_tab, small_indent, space_or_tab_min_max};
 
 /// A break has at least so many markers.
 const MARKERS: usize = 3;
@@ -119,8 +119,10 @@ pub fn sequence(tokenizer: &mut Tokenizer) -> State
     }
     or_error!(tokenizer.exit(Name::ThematicBreakSequence));
     if is_space_or_tab(tokenizer.current) {
-        space_or_tab(
+        space_or_tab_min_max(
             tokenizer,
+            0,
+            usize::MAX,
             State::Next(StateName::ThematicBreakAtBreak),
             State::Nok,
         )

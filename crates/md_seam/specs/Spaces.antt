@@ -1,5 +1,5 @@
 -- Spaces and tabs.
-use Rattle.std.specs.Prelude.{◌≡◌, ℕ, ◌+◌, ◌-◌, ◌^◌, ◌≤◌, Bool, true, false, ◌&&◌, ◌==◌, if◌then◌else◌, nat_lt, nat_le, Option, Some, None}
+use Rattle.std.specs.Prelude.{◌≡◌, ℕ, ◌+◌, ◌-◌, ◌^◌, ◌<◌, ◌≤◌, Bool, true, false, ◌&&◌, ◌==◌, if◌then◌else◌, nat_lt, nat_le, Option, Some, None}
 use Rattle.md_engine.specs.declared.event.Name.TheVariants.{SpaceOrTab}
 use Rattle.md_engine.specs.declared.state.Name.{Name as StateName}
 use Rattle.md_engine.specs.declared.state.Name.TheVariants.{SpaceOrTabStart, SpaceOrTabInside, SpaceOrTabAfter}
@@ -78,9 +78,9 @@ ends_line (Some b) = b == 10
 
 -- Readiness.
 
--- whitespace leaves all but its own fields
+-- whitespace leaves all but its own fields, and refuses only where some is asked for
 abbrev pub white_ready : StateName → Spot → After → Type 0
-white_ready n x K = (x.scratch.whitespace.size ≤ cells_before x.point) × Ends (λ s. s ≡ calmed x.scratch) (λ s. s ≡ calmed x.scratch) x K
+white_ready n x K = (x.scratch.whitespace.size ≤ cells_before x.point) × Ends (λ s. s ≡ calmed x.scratch) (λ s. (s ≡ calmed x.scratch) × (0 < x.scratch.whitespace.min)) x K
 
 abbrev pub white_rank : StateName → Spot → ℕ
 white_rank SpaceOrTabStart x = 2

@@ -5,7 +5,10 @@
 // Each line is tried in this order. It adds `BlankLineEnding` behind a blank line, and `LineEnding` behind any other.
 
 ghost use Rattle.std.specs.Prelude.{◌≡◌, ◌≢◌};
+ghost use Rattle.md_engine.specs.Scheme.{stands};
 ghost use Rattle.md_engine.specs.World.{looks, world};
+ghost use Rattle.md_engine.specs.declared.resolve.Name.{Name as ResolveName};
+ghost use Rattle.markdown_blocks.specs.States.{flow_table_scheme, flow_went};
 ghost use Rattle.md_engine.specs.declared.state.Name.{Name as StateName};
 ghost use Rattle.md_engine.specs.declared.state.State.{State};
 ghost use Rattle.markdown_blocks.specs.Flow.{after_went, before_content_went, before_thematic_break_went, blank_line_after_went, blank_line_before_went, ending_went, start_went};
@@ -138,40 +141,49 @@ pub fn after(tokenizer: &mut Tokenizer) -> State
     ending(tokenizer, Name::LineEnding)
 }
 
+/// Calls a state of flow.
+fn call_state(tokenizer: &mut Tokenizer, name: StateName) -> State
+    requires current { (world tokenizer.old).current ≡ looks (world tokenizer.old) }
+    requires stands { stands flow_table_scheme (world tokenizer.old) (State.Next name) }
+    ensures to { result ≢ State.Error → result ≡ (flow_went (λ other. ⟦<ResolveName as PartialEq>⟧.eq other ResolveName.Content) name (world tokenizer.old)).to }
+    ensures world { result ≢ State.Error → world tokenizer.new ≡ (flow_went (λ other. ⟦<ResolveName as PartialEq>⟧.eq other ResolveName.Content) name (world tokenizer.old)).world }
+{
+    match name {
+        StateName::BlankLineStart => blank_line::start(tokenizer),
+        StateName::BlankLineAfter => blank_line::after(tokenizer),
+        StateName::ContentChunkStart => content::chunk_start(tokenizer),
+        StateName::ContentChunkInside => content::chunk_inside(tokenizer),
+        StateName::FlowStart => start(tokenizer),
+        StateName::FlowBlankLineBefore => blank_line_before(tokenizer),
+        StateName::FlowBeforeThematicBreak => before_thematic_break(tokenizer),
+        StateName::FlowBeforeContent => before_content(tokenizer),
+        StateName::FlowBlankLineAfter => blank_line_after(tokenizer),
+        StateName::FlowAfter => after(tokenizer),
+        StateName::SpaceOrTabStart => space_or_tab::start(tokenizer),
+        StateName::SpaceOrTabInside => space_or_tab::inside(tokenizer),
+        StateName::SpaceOrTabAfter => space_or_tab::after(tokenizer),
+        StateName::ThematicBreakStart => thematic_break::start(tokenizer),
+        StateName::ThematicBreakBefore => thematic_break::before(tokenizer),
+        StateName::ThematicBreakAtBreak => thematic_break::at_break(tokenizer),
+        StateName::ThematicBreakSequence => thematic_break::sequence(tokenizer),
+        _ => State::Nok,
+    }
+}
+
 /// The states of flow.
 pub struct FlowTable;
 
 impl Table for FlowTable {
-    ghost use Rattle.std.specs.Prelude.{Unit};
-    ghost use Rattle.md_engine.specs.Scheme.{nowhere};
+    ghost use Rattle.markdown_blocks.specs.States.{FlowStep};
 
-    ghost step = { λ n w s x. Unit {0} };
+    ghost step = { FlowStep (λ other. ⟦<ResolveName as PartialEq>⟧.eq other ResolveName.Content) };
 
-    ghost scheme = { nowhere };
+    ghost scheme = { flow_table_scheme };
 
-    ghost resolves = { λ n w f x. Unit {0} };
+    ghost resolves = { λ name old found new. Unit {0} };
 
     fn call(tokenizer: &mut Tokenizer, name: StateName) -> State {
-        match name {
-            StateName::BlankLineStart => blank_line::start(tokenizer),
-            StateName::BlankLineAfter => blank_line::after(tokenizer),
-            StateName::ContentChunkStart => content::chunk_start(tokenizer),
-            StateName::ContentChunkInside => content::chunk_inside(tokenizer),
-            StateName::FlowStart => start(tokenizer),
-            StateName::FlowBlankLineBefore => blank_line_before(tokenizer),
-            StateName::FlowBeforeThematicBreak => before_thematic_break(tokenizer),
-            StateName::FlowBeforeContent => before_content(tokenizer),
-            StateName::FlowBlankLineAfter => blank_line_after(tokenizer),
-            StateName::FlowAfter => after(tokenizer),
-            StateName::SpaceOrTabStart => space_or_tab::start(tokenizer),
-            StateName::SpaceOrTabInside => space_or_tab::inside(tokenizer),
-            StateName::SpaceOrTabAfter => space_or_tab::after(tokenizer),
-            StateName::ThematicBreakStart => thematic_break::start(tokenizer),
-            StateName::ThematicBreakBefore => thematic_break::before(tokenizer),
-            StateName::ThematicBreakAtBreak => thematic_break::at_break(tokenizer),
-            StateName::ThematicBreakSequence => thematic_break::sequence(tokenizer),
-            _ => State::Nok,
-        }
+        call_state(tokenizer, name)
     }
 
     fn resolve(tokenizer: &mut Tokenizer, name: ResolveName) -> Result<Option<Subresult>, Message> {

@@ -1,0 +1,106 @@
+-- Whitespace stands and ends in any table that has it.
+use Rattle.std.proofs.Common.{◌≡◌, ℕ, ◌+◌, ◌%◌, ◌<◌, ◌≤◌, Bool, true, false, nat_lt, Option, Some, None, List, ◌∷◌, length, refl, arith, ap, sym, ◌∙◌, subst}
+use Rattle.std.specs.Prelude.{nat_le}
+use Rattle.std.proofs.lemmas.Bool.Decides.{nat_tests}
+use Rattle.md_engine.specs.declared.event.Event.{Event}
+use Rattle.md_engine.specs.declared.event.Point.{Point}
+use Rattle.md_engine.specs.declared.state.Name.{Name as StateName}
+use Rattle.md_engine.specs.declared.state.Name.TheVariants as n
+use Rattle.md_engine.specs.declared.state.State.TheVariants.{Nok, Next}
+use Rattle.md_engine.specs.declared.state.State.{State}
+use Rattle.md_engine.specs.declared.event.Name.TheVariants.{SpaceOrTab}
+use Rattle.md_engine.specs.declared.tokenizer.Scratch.{Scratch}
+use Rattle.md_engine.specs.Scheme.{After, Ends, Fits, FitsState, Good, Grown, Reaches, Scheme, Spot, after_all, moved_to, seen, spot, spot_at, stands, work}
+use Rattle.md_engine.specs.Run.{plain}
+use Rattle.md_engine.specs.World.{Setting, World, after, looks}
+use Rattle.md_engine.proofs.Falls.{later, later_at, seen_grows}
+use Rattle.md_engine.proofs.Local.{accepts, begins_try, consumes, refuses, turns}
+use Rattle.md_engine.proofs.Points.{cells-grow, stays, takes}
+use Rattle.md_seam.specs.Spaces.{after_code, asking, calmed, inside_code, rest_ready, sees_white, start_code, white_ready, white_scheme, white_then}
+use Rattle.md_seam.specs.Went.{Went, entered, exited, tried}
+
+-- what a state does keeps what the table needs, and falls; no state changes the setting
+abbrev pub Does : Scheme → StateName → World → Went → Type 0
+Does T n w a = Good T n w a.to a.world × (a.world.setting ≡ w.setting)
+
+-- the same of a state and a world that are known to be those
+pub does-stands : (T : Scheme) (name : StateName) (w : World) (a : Went) (s : State) (w' : World) → s ≡ a.to → w' ≡ a.world → Does T name w a → stands T w' (plain s)
+does-stands T name w a s w' e k d =
+    let P : World → Type 0 = λ x. stands T x (plain s) in
+    subst P (sym k) (rw e d.0.0)
+
+pub does-fall : (T : Scheme) (name : StateName) (w : World) (a : Went) (s : State) (w' : World) → s ≡ a.to → w' ≡ a.world → Does T name w a → work T w' (plain s) < work T w (Next name)
+does-fall T name w a s w' e k d =
+    let P : World → Type 0 = λ x. work T x (plain s) < work T w (Next name) in
+    subst P (sym k) (rw e d.0.1)
+
+pub does-setting : (T : Scheme) (name : StateName) (w : World) (a : Went) (w' : World) → w' ≡ a.world → Does T name w a → w'.setting ≡ w.setting
+does-setting T name w a w' k d = ap (λ (x : World). x.setting) k ∙ d.1
+
+-- what stands here may be read, where a test that nothing passes holds of it
+pub seen-in : (x : Spot) (t : Option ℕ → Bool) → t None ≡ false → t (seen x) ≡ true → x.point.index < x.setting.limit
+seen-in x t n e = go (nat_lt x.point.index x.setting.limit) refl
+  where
+    go : (b : Bool) → nat_lt x.point.index x.setting.limit ≡ b → x.point.index < x.setting.limit
+    go true k = grind (arith, nat_tests)
+    go false k = let bad : t None ≡ true = rw k at e in let no : true ≡ false = sym bad ∙ n in cc
+
+pub seen-some : (x : Spot) (b : ℕ) → seen x ≡ Some b → x.point.index < x.setting.limit
+seen-some x b e = go (nat_lt x.point.index x.setting.limit) refl
+  where
+    go : (c : Bool) → nat_lt x.point.index x.setting.limit ≡ c → x.point.index < x.setting.limit
+    go true k = grind (arith, nat_tests)
+    go false k = let bad : (let o : Option ℕ = None in o) ≡ Some b = rw k at e in cc
+
+-- what a construct owes where it ends still holds when more may be read
+pub ends-grow : (P Q : Scratch → Type 0) (x : Spot) (K : After) (t : Setting) → Ends P Q x K → Grown x.setting t → Ends P Q (record x { setting = t }) K
+ends-grow P Q x K t e up = later_at P Q x K x.point t x.scratch up (stays t.limit x.point) e
+
+pub rest-grows : (x : Spot) (K : After) (t : Setting) → rest_ready x K → Grown x.setting t → rest_ready (record x { setting = t }) K
+rest-grows x K t r up = (r.0, ends-grow _ _ x K t r.1 up)
+
+pub record WhiteFits (T : Scheme) : Type 1 where
+  pub start : Fits T white_scheme n.SpaceOrTabStart
+  pub inside : Fits T white_scheme n.SpaceOrTabInside
+  pub behind : Fits T white_scheme n.SpaceOrTabAfter
+
+pub good_start : (T : Scheme) (w : World) (x : Bool) → WhiteFits T → white_ready n.SpaceOrTabStart (spot w) (after_all T w.frames) → Does T n.SpaceOrTabStart w (start_code w x)
+good_start T w true has r =
+    (turns T white_scheme _ _ w (entered w SpaceOrTab).events w.scratch has.start has.inside r (omega arith) (omega arith), refl)
+good_start T w false has r =
+    (turns T white_scheme _ _ w w.events w.scratch has.start has.behind r (omega arith) (omega arith), refl)
+
+pub good_inside : (T : Scheme) (w : World) (x : Bool) → WhiteFits T → white_ready n.SpaceOrTabInside (spot w) (after_all T w.frames) → (x ≡ true → w.point.index < w.setting.limit) → Does T n.SpaceOrTabInside w (inside_code w x)
+good_inside T w true has r m =
+    (consumes T white_scheme _ _ w w.events _ has.inside has.inside (m refl)
+      (omega (arith, r.0, cells-grow w.setting w.point), later _ _ (spot w) _ _ _ (takes w.setting w.point (m refl)) r.1) (omega arith), refl)
+good_inside T w false has r m =
+    (turns T white_scheme _ _ w (exited w SpaceOrTab).events w.scratch has.inside has.behind r (omega arith) (omega arith), refl)
+
+pub good_after : (T : Scheme) (w : World) (x : Bool) → WhiteFits T → white_ready n.SpaceOrTabAfter (spot w) (after_all T w.frames) → nat_le w.scratch.whitespace.min w.scratch.whitespace.size ≡ x → Does T n.SpaceOrTabAfter w (after_code w x)
+good_after T w true has r e =
+    (accepts T _ w _ _ w.events (calmed w.scratch) r.1 refl, refl)
+good_after T w false has r e =
+    (refuses T _ w _ _ w.events (calmed w.scratch) r.1 (refl, asked), refl)
+  where
+    asked : 0 < w.scratch.whitespace.min
+    asked = grind (arith, nat_tests)
+
+-- an attempt at whitespace that goes on with a state of the construct, or refuses as the construct does
+pub white_try : (T own : Scheme) (name next : StateName) (w : World) (events : List Event) (s : Scratch) (min max : ℕ) (P Q : Scratch → Type 0) → WhiteFits T → Fits T own name → Fits T own next →
+    s.whitespace.size ≡ 0 → (0 < min → Q (calmed s)) → Ends P Q (spot w) (after_all T w.frames) →
+    ((q : Point) (t : Setting) → Grown w.setting t → Reaches t.limit w.point q → own.ready next (spot_at t q (calmed s)) (after_all T w.frames)) →
+    own.level next ≤ own.level name → 0 < own.level name →
+    ((t : Setting) → Grown w.setting t → own.rank next (spot_at t w.point (calmed s)) % 64 < own.tries next % 64) → own.tries next % 64 < own.rank name (spot w) % 64 →
+    Does T name w (white_then (record w { events = events; scratch = s }) min max (Next next) Nok)
+white_try T own name next w events s min max P Q white fn fx none calm ends r le pos low lt =
+    (begins_try T own white_scheme name n.SpaceOrTabStart w (λ t. t ≡ calmed s) (λ t. (t ≡ calmed s) × (0 < min)) events (asking min max 0 s)
+      (record { ok = Next next; nok = Nok; is_check = false; events_len = length events; point = w.point }) fn white.start fx tt refl
+      (record {
+        ok = λ t q v is up way. rw is (r q v up way);
+        ok_level = omega arith;
+        ok_rank = λ t v is up. rw is (omega (arith, low v up));
+        nok = λ t v is up. rw is.0 (ends.nok (calmed s) w.point v (calm is.1) up);
+        nok_level = omega arith;
+        nok_rank = λ t v is up. omega arith })
+      (λ K e. (omega arith, e)) pos le lt, refl)
