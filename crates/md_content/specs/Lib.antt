@@ -1,3 +1,4 @@
 pub mod Paragraph
 pub mod Chunks
 pub mod States
+pub mod Resolves
