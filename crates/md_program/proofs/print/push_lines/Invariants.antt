@@ -1,0 +1,10 @@
+use Rattle.std.proofs.Common.{◌≡◌, ◌++◌, map, take, string_bytes}
+use Rattle.std.specs.List.{flat_map}
+use Rattle.md_program.specs.Listing.{entry_of}
+use Rattle.md_program.specs.Printed.{printed_line}
+use Rattle.md_program.proofs.print.push_lines.Given as goal
+
+-- the lines so far
+abbrev pub invariant-loop-line : goal.invariant-loop-line
+invariant-loop-line l =
+    string_bytes l.text ≡ string_bytes l.initial.text ++ flat_map printed_line (map entry_of (take l.line-index l.lines))

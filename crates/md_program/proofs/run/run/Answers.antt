@@ -1,0 +1,10 @@
+use Rattle.std.proofs.Common.{Some}
+use Rattle.md_program.proofs.run.run.Goals as goal
+
+pub returns-in-Err : goal.returns-in-Err
+returns-in-Err g c = record {
+  failure = Some c.in-Err.failure;
+  ending = c.report.ensures.status;
+  telling = c.report.ensures.told;
+  running = c.in-Err.ensures;
+}

@@ -1,0 +1,5 @@
+pub mod Ends
+pub mod Listing
+pub mod Printed
+pub mod Sets
+pub use Rattle.md_seam.specs.Outline

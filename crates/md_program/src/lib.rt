@@ -1,0 +1,11 @@
+// What the programs that print an outline share: their arguments, statuses and messages, how they read and write, and the
+// printed form of an outline.
+#![tactic(auto)]
+
+pub mod body;
+pub mod failure;
+pub mod print;
+pub mod run;
+pub mod set;
+mod streams;
+pub mod system;

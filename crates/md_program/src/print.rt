@@ -1,0 +1,138 @@
+// The printed form of an outline.
+ghost use Rattle.std.specs.Prelude.{◌≡◌, ◌++◌, OnOk, IfOk, Bool, List, ℕ, map, codes, string_bytes, encode_utf8};
+ghost use Rattle.std.specs.List.{flat_map, repeat};
+ghost use Rattle.md_program.specs.Listing.{entry_of, listing_of};
+ghost use Rattle.md_program.specs.Printed.{head, open_mark, printed, printed_labels, printed_line};
+
+use crate::body::Outlined;
+use md_engine::message::Message;
+use md_seam::outline::{OutlineLine, Word};
+use std::alloc::{AllocError, Global};
+
+/// The whole output: the outline with two spaces a depth, an empty line, and the two lists of labels.
+///
+/// It refuses only for want of memory.
+pub fn print(alloc: Global, outlined: &Outlined) -> Result<String, Message>
+    ensures { IfOk result (λ text. string_bytes text ≡ printed (listing_of outlined.now)) }
+{
+    let mut text = String::new(alloc);
+    match push_all(&mut text, outlined) {
+        Ok(()) => Ok(text),
+        Err(_) => Err(Message),
+    }
+}
+
+#[tactic(auto, unfolding(crate::specs::Printed::printed))]
+fn push_all(text: &mut String, outlined: &Outlined) -> Result<(), AllocError>
+    ensures { OnOk result (string_bytes text.new ≡ string_bytes text.old ++ printed (listing_of outlined.now)) }
+{
+    push_lines(text, outlined.lines.as_slice())?;
+    text.push_str("\n")?;
+    push_labels(text, "definitions ", outlined.definitions.as_slice())?;
+    push_labels(text, "footnotes ", outlined.footnotes.as_slice())
+}
+
+fn push_lines(text: &mut String, lines: &[OutlineLine]) -> Result<(), AllocError>
+    ensures { OnOk result (string_bytes text.new ≡ string_bytes text.old ++ flat_map printed_line (map entry_of lines.now)) }
+{
+    for line in lines {
+        push_line(text, line)?;
+    }
+    Ok(())
+}
+
+#[tactic(auto, unfolding(crate::specs::Printed::printed_line))]
+fn push_line(text: &mut String, line: &OutlineLine) -> Result<(), AllocError>
+    ensures { OnOk result (string_bytes text.new ≡ string_bytes text.old ++ printed_line (entry_of line.now)) }
+{
+    push_repeated(text, "  ", line.depth)?;
+    push_head(text, line.word)?;
+    push_repeated(text, " ", line.spaces)?;
+    text.push_str(line.text)?;
+    text.push_str("\n")
+}
+
+fn push_repeated(text: &mut String, piece: &str, count: usize) -> Result<(), AllocError>
+    ensures { OnOk result (string_bytes text.new ≡ string_bytes text.old ++ repeat count piece.now) }
+{
+    for _done in 0..count {
+        text.push_str(piece)?;
+    }
+    Ok(())
+}
+
+fn push_head(text: &mut String, word: Word) -> Result<(), AllocError>
+    ensures { OnOk result (string_bytes text.new ≡ string_bytes text.old ++ head word) }
+{
+    match word {
+        Word::Frontmatter(marker) => push_marked(text, "frontmatter ", marker),
+        Word::Heading(depth) => push_counted(text, "heading ", depth as usize),
+        Word::Break => text.push_str("break"),
+        Word::Code => text.push_str("code"),
+        Word::Fence { marker, closed } => {
+            push_marked(text, "fence ", marker)?;
+            push_open(text, closed)
+        }
+        Word::Math { closed } => {
+            text.push_str("math")?;
+            push_open(text, closed)
+        }
+        Word::Html => text.push_str("html"),
+        Word::Definition => text.push_str("definition"),
+        Word::Paragraph => text.push_str("paragraph"),
+        Word::Table(columns) => push_counted(text, "table ", columns),
+        Word::Row => text.push_str("row"),
+        Word::Quote => text.push_str("quote"),
+        Word::List(marker) => push_marked(text, "list ", marker),
+        Word::Item => text.push_str("item"),
+        Word::Footnote => text.push_str("footnote"),
+        Word::Line => text.push_str("| "),
+        Word::Info => text.push_str("info | "),
+        Word::Meta => text.push_str("meta | "),
+        Word::Label => text.push_str("label | "),
+        Word::Destination => text.push_str("destination | "),
+        Word::Title => text.push_str("title | "),
+        Word::Delimiter => text.push_str("delimiter | "),
+        Word::Cell => text.push_str("cell | "),
+    }
+}
+
+fn push_marked(text: &mut String, name: &str, marker: u8) -> Result<(), AllocError>
+    ensures { OnOk result (string_bytes text.new ≡ string_bytes text.old ++ (name.now ++ encode_utf8 marker)) }
+{
+    text.push_str(name)?;
+    text.push(char::from(marker))
+}
+
+fn push_counted(text: &mut String, name: &str, count: usize) -> Result<(), AllocError>
+    ensures { OnOk result (string_bytes text.new ≡ string_bytes text.old ++ (name.now ++ Rattle.std.specs.Fmt.decimal count)) }
+{
+    text.push_str(name)?;
+    write!(text, "{count}")
+}
+
+fn push_open(text: &mut String, closed: bool) -> Result<(), AllocError>
+    ensures { OnOk result (string_bytes text.new ≡ string_bytes text.old ++ open_mark closed) }
+{
+    if closed {
+        return Ok(());
+    }
+    text.push_str(" open")
+}
+
+#[tactic(auto, unfolding(crate::specs::Printed::printed_labels))]
+fn push_labels(text: &mut String, name: &str, labels: &[String]) -> Result<(), AllocError>
+    ensures { OnOk result (string_bytes text.new ≡ string_bytes text.old ++ printed_labels name.now (map string_bytes labels.now)) }
+{
+    push_counted(text, name, labels.len())?;
+    text.push_str("\n")?;
+    for label in labels {
+        text.push_str("= ")?;
+        text.push_str(label.as_str())?;
+        text.push_str("\n")?;
+    }
+    Ok(())
+}
+
+#[cfg(test)]
+mod tests;

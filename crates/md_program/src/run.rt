@@ -1,0 +1,77 @@
+// A run of the program: its arguments, its input, the outline and its output.
+ghost use Rattle.std.specs.Prelude.{None, Some, MatchResult, map, string_bytes};
+ghost use Rattle.md_program.specs.Ends.{Prints, Ran, Runs, Shows, Stops};
+ghost use Rattle.md_program.specs.Sets.{set_asked_for};
+
+use crate::body::Body;
+use crate::failure::Failure;
+use crate::print::print;
+use crate::set::{asked_for, options};
+use crate::streams::{read_whole, write_whole};
+use std::alloc::Global;
+use std::io::{Read, Write};
+
+/// Reads `input` whole and writes its outline to `output`; answers the status that the program ends with.
+///
+/// `args` leaves out the program's name. Where the status is not 0, one line on `errors` says why. The whole output is made
+/// before its first byte is written, so only after a failed write a beginning of it may stand in `output`. Any `Err` of a
+/// read is a failed read. Any `Err` of a write or a flush is a failed write, and so is a write that takes nothing. A failed
+/// write to `errors` changes nothing.
+pub fn run<B: Body, R: Read, W: Write, E: Write>(
+    alloc: Global,
+    args: &[String],
+    input: &mut R,
+    output: &mut W,
+    errors: &mut E,
+) -> u8
+    ensures { Runs B.outlines B.built (map string_bytes args.now)
+        (R.remaining input.old) (R.remaining input.new)
+        (W.contents output.old) (W.contents output.new)
+        (E.contents errors.old) (E.contents errors.new) result }
+{
+    match attempt::<B, R, W>(alloc, args, input, output) {
+        Ok(()) => 0,
+        Err(failure) => failure.report(errors),
+    }
+}
+
+fn attempt<B: Body, R: Read, W: Write>(
+    alloc: Global,
+    args: &[String],
+    input: &mut R,
+    output: &mut W,
+) -> Result<(), Failure>
+    ensures { let ran = Ran (Shows B.outlines B.built (R.remaining input.old)) (set_asked_for (map string_bytes args.now))
+        (R.remaining input.old) (R.remaining input.new)
+        (W.contents output.old) (W.contents output.new)
+        in MatchResult result (λ _. ran None) (λ failure. ran (Some failure)) }
+{
+    let text = whole_output::<B, R>(alloc, args, input)?;
+    write_whole(output, text.as_bytes())
+}
+
+// All that is to be written.
+fn whole_output<B: Body, R: Read>(
+    alloc: Global,
+    args: &[String],
+    input: &mut R,
+) -> Result<String, Failure>
+    ensures { MatchResult result
+        (λ text. Prints (Shows B.outlines B.built (R.remaining input.old))
+        (set_asked_for (map string_bytes args.now)) (string_bytes text))
+        (Stops (set_asked_for (map string_bytes args.now)) (R.remaining input.old) (R.remaining input.new)) }
+{
+    let Some(set) = asked_for(args) else {
+        return Err(Failure::UnknownArgument);
+    };
+    let bytes = read_whole(alloc, input)?;
+    let Ok(text) = str::from_utf8(bytes.as_slice()) else {
+        return Err(Failure::NotUtf8);
+    };
+    let options = B::built(options(set));
+    let outlined = B::outlined(alloc, text, &options)?;
+    Ok(print(alloc, &outlined)?)
+}
+
+#[cfg(test)]
+mod tests;

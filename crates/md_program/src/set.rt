@@ -1,0 +1,55 @@
+// The sets of constructs that the program's argument names.
+ghost use Rattle.std.specs.Prelude.{◌≡◌, map, string_bytes};
+ghost use Rattle.md_program.specs.Sets.{IsWithoutMdx, options_of, set_asked_for, set_named};
+
+use md_engine::configuration::{Constructs, ParseOptions};
+
+/// A set of constructs.
+#[derive(Clone, Copy, Debug, PartialEq, Eq)]
+pub enum Set {
+    /// CommonMark alone.
+    CommonMark,
+    /// CommonMark, footnote definitions and tables.
+    Gfm,
+    /// All constructs but those of MDX.
+    All,
+}
+
+/// The set that the arguments after the program's name ask for, or `None` where they are unknown.
+pub fn asked_for(args: &[String]) -> Option<Set>
+    ensures { result ≡ set_asked_for (map string_bytes args.now) }
+{
+    match args {
+        [] => Some(Set::CommonMark),
+        [name] => named(name.as_str()),
+        _ => None,
+    }
+}
+
+fn named(name: &str) -> Option<Set>
+    ensures { result ≡ set_named name.now }
+{
+    match name {
+        "commonmark" => Some(Set::CommonMark),
+        "gfm" => Some(Set::Gfm),
+        "all" => Some(Set::All),
+        _ => None,
+    }
+}
+
+/// The options that a set stands for.
+pub fn options(set: Set) -> ParseOptions
+    ensures value { result ≡ options_of set }
+    ensures without_mdx { IsWithoutMdx result }
+{
+    let mut constructs = Constructs::COMMONMARK;
+    if set != Set::CommonMark {
+        constructs.gfm_footnote_definition = true;
+        constructs.gfm_table = true;
+    }
+    if set == Set::All {
+        constructs.frontmatter = true;
+        constructs.math_flow = true;
+    }
+    ParseOptions { constructs }
+}
