@@ -1,2 +1,4 @@
 pub mod Flow
 pub mod States
+pub mod Parsed
+pub mod Resolved
