@@ -1,0 +1,57 @@
+// How to use the library: this program prints how many paragraphs and breaks a text has, and the lines of the paragraphs.
+#![tactic(auto)]
+
+use markdown_blocks::configuration::{Constructs, ParseOptions};
+use markdown_blocks::message::Message;
+use markdown_blocks::outline::{Word, outline};
+use markdown_blocks::parser::parse;
+use std::alloc::Global;
+use std::process::ExitCode;
+
+/// Thematic breaks, and no other construct.
+const BREAKS: ParseOptions = ParseOptions {
+    constructs: Constructs {
+        block_quote: false,
+        code_fenced: false,
+        code_indented: false,
+        definition: false,
+        frontmatter: false,
+        gfm_footnote_definition: false,
+        gfm_table: false,
+        heading_atx: false,
+        heading_setext: false,
+        html_flow: false,
+        list_item: false,
+        math_flow: false,
+        thematic_break: true,
+        mdx_esm: false,
+        mdx_expression_flow: false,
+        mdx_expression_text: false,
+        mdx_jsx_flow: false,
+        mdx_jsx_text: false,
+    },
+};
+
+/// The lines of all paragraphs, and a line `---` for each break.
+fn plain_text(alloc: Global, text: &str) -> Result<String, Message> {
+    let (events, state) = parse(alloc, text, &BREAKS)?;
+    let mut plain = String::new(alloc);
+    for line in outline(alloc, &events, &state)?.iter() {
+        let part = match line.word {
+            Word::Line => line.text,
+            Word::Break => "---",
+            _ => continue,
+        };
+        if plain.push_str(part).is_err() || plain.push_str("\n").is_err() {
+            return Err(Message);
+        }
+    }
+    Ok(plain)
+}
+
+fn main(rt: HostRuntime) -> ExitCode {
+    match plain_text(rt.alloc(), "  a\nb\n\n* * *\n\nc") {
+        Ok(plain) if rt.print(&plain).is_ok() => ExitCode::SUCCESS,
+        _ => ExitCode::FAILURE,
+    }
+}
