@@ -7,3 +7,4 @@ pub mod Definitions
 pub mod Words
 pub mod Paragraphs
 pub mod Steps
+pub mod Labels
