@@ -29,4 +29,4 @@ pub without_suffix-map : {A B : Type 0} (p : B → Bool) (f : A → B) (xs : Lis
     map f (take (length xs - suffix_len (λ x. p (f x)) xs) xs) ≡ take (length (map f xs) - suffix_len p (map f xs)) (map f xs)
 without_suffix-map p f xs =
     sym (take-map f (length xs - suffix_len (λ x. p (f x)) xs) xs)
-        ∙ ap (λ n. take n (map f xs)) (sym (ap (λ n. n - suffix_len p (map f xs)) (length-map xs f) ∙ ap (λ n. length xs - n) (suffix_len-map p f xs)))
+    ∙ ap (λ n. take n (map f xs)) (sym (ap (λ n. n - suffix_len p (map f xs)) (length-map xs f) ∙ ap (λ n. length xs - n) (suffix_len-map p f xs)))

@@ -28,11 +28,11 @@ closed-within options (f ∷ fs) p q e = ap (λ bs. s.then_block (meanings f.bef
 -- the innermost container is closed into a block of the one around it
 pub closed-pop : (options : ParseOptions) (n : ℕ) (fs : List Frame) (f : Frame) (inner : Blocks) → n ≤ length fs →
     s.closed options (within (drop n (fs ++ f ∷ [])) (s.At (spot_of inner)))
-        ≡ s.closed options (within (drop n fs) (s.At (spot_of (s.then_block (meanings f.before.items) (s.container_block (container_meaning f.container) inner)))))
+    ≡ s.closed options (within (drop n fs) (s.At (spot_of (s.then_block (meanings f.before.items) (s.container_block (container_meaning f.container) inner)))))
 closed-pop options n fs f inner below =
     ap (λ gs. s.closed options (within gs (s.At (spot_of inner)))) (drop-append-le n fs (f ∷ []) below)
-        ∙ ap (s.closed options) (within_push (drop n fs) f (s.At (spot_of inner)))
-        ∙ closed-within options (drop n fs) (inside f (s.At (spot_of inner))) (s.At (spot_of (s.then_block (meanings f.before.items) (s.container_block (container_meaning f.container) inner)))) refl
+    ∙ ap (s.closed options) (within_push (drop n fs) f (s.At (spot_of inner)))
+    ∙ closed-within options (drop n fs) (inside f (s.At (spot_of inner))) (s.At (spot_of (s.then_block (meanings f.before.items) (s.container_block (container_meaning f.container) inner)))) refl
 
 pub opened-some : (options : ParseOptions) (n : ℕ) (x : r.Rest) (t : Taken) → opens options false x ≡ Some t → opened options (suc n) x ≡ s.Within End t.container (opened options n t.rest)
 opened-some options n x t e = ap (λ o. elim o as (λ _. s.Path) [ Some u ↦ s.Within End u.container (opened options n u.rest) | None ↦ s.At (fresh_line options End x) ]) e

@@ -2,25 +2,32 @@
 
 ghost use Rattle.std.specs.Prelude.{◌≡◌, IfOk};
 
-use md_engine::message::Message;
-use std::alloc::Global;
-
 use crate::memory;
 use crate::tree::Block;
+use md_engine::message::Message;
+use std::alloc::Global;
 
 /// A block with lists in it.
 #[cycle(grouping)]
 fn grouped_block<'a>(alloc: Global, block: Block<'a>) -> Result<Block<'a>, Message> {
     match block {
         Block::Quote(blocks) => Ok(Block::Quote(grouped(alloc, blocks)?)),
-        Block::Item(marker, digits, blocks) => Ok(Block::Item(marker, digits, grouped(alloc, blocks)?)),
+        Block::Item(marker, digits, blocks) => Ok(Block::Item(
+            marker,
+            digits,
+            grouped(alloc, blocks)?,
+        )),
         Block::Footnote(label, blocks) => Ok(Block::Footnote(label, grouped(alloc, blocks)?)),
         other => Ok(other),
     }
 }
 
 /// Adds the list of these items, if there are any.
-fn push_list<'a>(blocks: &mut Vec<Block<'a>>, marker: u8, items: Vec<Block<'a>>) -> Result<(), Message> {
+fn push_list<'a>(
+    blocks: &mut Vec<Block<'a>>,
+    marker: u8,
+    items: Vec<Block<'a>>,
+) -> Result<(), Message> {
     if items.is_empty() {
         return Ok(());
     }

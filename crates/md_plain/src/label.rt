@@ -8,13 +8,12 @@ ghost use Rattle.md_plain.specs.Labels.{labels_meaning};
 ghost use Rattle.md_plain.specs.Trees.{meaning, meanings};
 ghost use Rattle.md_plain.specs.Words as words;
 
-use caseless::default_case_fold_str;
-use md_engine::message::Message;
-use std::alloc::Global;
-
 use crate::bytes::is_white;
 use crate::memory;
 use crate::tree::Block;
+use caseless::default_case_fold_str;
+use md_engine::message::Message;
+use std::alloc::Global;
 
 /// How many bytes come first that are neither spaces nor tabs.
 fn word_len(rest: &[u8]) -> usize
@@ -124,7 +123,10 @@ fn push_blocks(alloc: Global, labels: &mut Labels, blocks: &[Block]) -> Result<(
 pub fn labels_of(alloc: Global, blocks: &[Block]) -> Result<Labels, Message>
     ensures { IfOk result (λ found. labels_meaning found ≡ label.labels (meanings blocks.now)) }
 {
-    let mut labels = Labels { definitions: Vec::new(alloc), footnotes: Vec::new(alloc) };
+    let mut labels = Labels {
+        definitions: Vec::new(alloc),
+        footnotes: Vec::new(alloc),
+    };
     push_blocks(alloc, &mut labels, blocks)?;
     Ok(labels)
 }

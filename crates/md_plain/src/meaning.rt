@@ -2,10 +2,6 @@
 
 ghost use Rattle.std.specs.Prelude.{◌≡◌, ◌/◌, ◌^◌, ◌<◌, length, IfOk};
 
-use md_engine::configuration::ParseOptions;
-use md_engine::message::Message;
-use std::alloc::Global;
-
 use crate::close::closed;
 use crate::grouped::grouped;
 use crate::lines::rests_of;
@@ -14,9 +10,16 @@ use crate::preamble::{Front, front_of, has_mark};
 use crate::state::{Leaf, Path, Spot};
 use crate::step::step;
 use crate::tree::Block;
+use md_engine::configuration::ParseOptions;
+use md_engine::message::Message;
+use std::alloc::Global;
 
 /// The block tree of a text: its blocks at the root.
-pub fn tree<'a>(alloc: Global, text: &'a str, options: &ParseOptions) -> Result<Vec<Block<'a>>, Message>
+pub fn tree<'a>(
+    alloc: Global,
+    text: &'a str,
+    options: &ParseOptions,
+) -> Result<Vec<Block<'a>>, Message>
     requires { length text.now < 2 ^ 61 }
 {
     let bytes = text.as_bytes();
@@ -33,7 +36,10 @@ pub fn tree<'a>(alloc: Global, text: &'a str, options: &ParseOptions) -> Result<
     }
     let mut path = Path {
         frames: Vec::new(alloc),
-        spot: Spot { here: Vec::new(alloc), leaf: Leaf::None },
+        spot: Spot {
+            here: Vec::new(alloc),
+            leaf: Leaf::None,
+        },
     };
     for rest in rests.as_slice().split_at(first).1 {
         path = step(alloc, options, path, rest)?;

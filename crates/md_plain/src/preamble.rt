@@ -3,14 +3,13 @@
 ghost use Rattle.std.specs.Prelude.{◌≡◌, IfOk};
 ghost use Rattle.md_seam.specs.Preamble as preamble;
 
-use md_engine::configuration::ParseOptions;
-use md_engine::message::Message;
-use std::alloc::Global;
-
 use crate::bytes::{is_blank, run_len};
 use crate::memory;
 use crate::rest::Rest;
 use crate::tree::Block;
+use md_engine::configuration::ParseOptions;
+use md_engine::message::Message;
+use std::alloc::Global;
 
 /// Frontmatter, and how many lines it takes with its fences.
 #[derive(Drop)]
@@ -62,7 +61,10 @@ pub fn front_of<'a>(
     let Some(marker) = front_marker(first.bytes) else {
         return Ok(None);
     };
-    let Some(count) = later.iter().position(|rest| is_front_fence(marker, rest.bytes)) else {
+    let Some(count) = later
+        .iter()
+        .position(|rest| is_front_fence(marker, rest.bytes))
+    else {
         return Ok(None);
     };
     let mut lines = Vec::new(alloc);
