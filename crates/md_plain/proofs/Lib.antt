@@ -6,3 +6,5 @@ pub mod TreeLemmas
 pub mod LabelLemmas
 pub mod PathLemmas
 pub mod ParagraphLemmas
+pub mod GroupLemmas
+pub mod FrontLemmas

@@ -6,3 +6,6 @@ pub mod Pieces
 pub mod Definitions
 pub mod Paragraphs
 pub mod Steps
+pub mod Groups
+pub mod Fronts
+pub mod Texts

@@ -11,9 +11,9 @@ use md_engine::configuration::ParseOptions;
 use md_engine::message::Message;
 use std::alloc::Global;
 
+use crate::blocks::push_block;
 use crate::bytes::is_blank;
 use crate::leaves::fence_block;
-use crate::memory;
 use crate::paragraph::shut_paragraph;
 use crate::state::{Container, Frame, Leaf, Path, Spot};
 use crate::tree::{Block, Line};
@@ -37,7 +37,6 @@ fn without_trailing_blank<'a>(lines: Vec<Line<'a>>) -> Vec<Line<'a>>
 }
 
 /// The blocks of the innermost container, with its leaf closed.
-#[tactic(auto, using(crate::proofs::TreeLemmas::meanings_push))]
 pub fn shut<'a>(alloc: Global, options: &ParseOptions, spot: Spot<'a>) -> Result<Vec<Block<'a>>, Message>
     ensures { IfOk result (λ bs. meanings bs.items ≡ state.shut options.now (spot_meaning spot.entry)) }
 {
@@ -53,7 +52,7 @@ pub fn shut<'a>(alloc: Global, options: &ParseOptions, spot: Spot<'a>) -> Result
         Leaf::Html(_, lines) => Block::Html(lines),
         Leaf::Table(delimiter, rows) => Block::Table(delimiter, rows),
     };
-    memory::push(&mut here, block)?;
+    push_block(&mut here, block)?;
     Ok(here)
 }
 
@@ -86,7 +85,7 @@ pub fn close_to<'a>(
         };
         let inner = here;
         here = before;
-        memory::push(&mut here, container_block(container, inner))?;
+        push_block(&mut here, container_block(container, inner))?;
     }
     Ok((frames, here))
 }

@@ -2,6 +2,7 @@
 #![tactic(auto)]
 
 pub mod ahead;
+pub mod blocks;
 pub mod bytes;
 pub mod close;
 pub mod columns;

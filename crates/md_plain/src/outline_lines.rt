@@ -7,7 +7,7 @@ use md_seam::outline::{OutlineLine, Word};
 use std::alloc::Global;
 
 use crate::memory;
-use crate::tree::{Block, Line};
+use crate::tree::{Block, Line, Tree};
 
 /// Adds a line with this text, which is UTF-8 since the tree is cut beside ASCII bytes.
 fn push_line<'a>(
@@ -176,9 +176,12 @@ fn push_blocks<'a>(outline: &mut Vec<OutlineLine<'a>>, depth: usize, blocks: &[B
     Ok(())
 }
 
-/// The lines of the outline of these blocks.
-pub fn outline<'a>(alloc: Global, blocks: &[Block<'a>]) -> Result<Vec<OutlineLine<'a>>, Message> {
+/// The lines of the outline of a tree.
+pub fn outline<'a>(alloc: Global, tree: &Tree<'a>) -> Result<Vec<OutlineLine<'a>>, Message> {
     let mut outline = Vec::new(alloc);
-    push_blocks(&mut outline, 0, blocks)?;
+    if let Some(block) = &tree.frontmatter {
+        push_block(&mut outline, 0, block)?;
+    }
+    push_blocks(&mut outline, 0, &tree.blocks)?;
     Ok(outline)
 }

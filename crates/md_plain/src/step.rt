@@ -13,6 +13,7 @@ use md_engine::configuration::ParseOptions;
 use md_engine::message::Message;
 use std::alloc::Global;
 
+use crate::blocks::push_block;
 use crate::bytes::is_blank;
 use crate::close::{close_to, shut};
 use crate::containers::{continues, opens};
@@ -24,7 +25,6 @@ use crate::state::{Against, Came, Frame, Kept, Leaf, Path, Spot, Taken};
 use crate::tree::Block;
 
 /// What a leaf came to, behind these blocks.
-#[tactic(auto, using(crate::proofs::TreeLemmas::meanings_push))]
 fn came<'a>(here: Vec<Block<'a>>, came: Came<'a>) -> Result<Spot<'a>, Message>
     ensures { IfOk result (λ s. spot_meaning s ≡ definition.came (meanings here.entry.items) (came_meaning came.entry)) }
 {
@@ -32,7 +32,7 @@ fn came<'a>(here: Vec<Block<'a>>, came: Came<'a>) -> Result<Spot<'a>, Message>
         Came::Opened(leaf) => Ok(Spot { here, leaf }),
         Came::Finished(block) => {
             let mut here = here;
-            memory::push(&mut here, block)?;
+            push_block(&mut here, block)?;
             Ok(Spot { here, leaf: Leaf::None })
         }
     }

@@ -74,8 +74,7 @@ fn printed(alloc: Global, text: &str, options: &ParseOptions) -> Result<Vec<u8>,
     if text.len() > 1_000_000 {
         return Ok(out);
     }
-    let blocks = tree(alloc, text, options)?;
-    for line in &outline(alloc, &blocks)? {
+    for line in &outline(alloc, &tree(alloc, text, options)?)? {
         push_entry(&mut out, line)?;
     }
     Ok(out)
