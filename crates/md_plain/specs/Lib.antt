@@ -8,3 +8,6 @@ pub mod Words
 pub mod Paragraphs
 pub mod Steps
 pub mod Labels
+pub mod Groups
+pub mod Fronts
+pub mod Texts

@@ -113,12 +113,12 @@ fn normal_forms(rt: HostRuntime) -> Result<(), Fail> {
 #[test]
 fn labels_in_source_order(rt: HostRuntime) -> Result<(), Fail> {
     let alloc = rt.alloc();
-    let blocks = tree(
+    let found = tree(
         alloc,
         "[A]: x\n[\u{df}]: y\n\n> - [a]: z",
         &ParseOptions::COMMONMARK,
     )?;
-    let labels = labels_of(alloc, &blocks)?;
+    let labels = labels_of(alloc, &found.blocks)?;
     let forms = ["a", "ss", "a"];
     assert!(rt; labels.footnotes.is_empty() && labels.definitions.len() == forms.len());
     assert!(rt;

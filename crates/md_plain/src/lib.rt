@@ -2,13 +2,12 @@
 #![tactic(auto)]
 
 pub mod ahead;
+pub mod blocks;
 pub mod bytes;
 pub mod close;
 pub mod columns;
 pub mod containers;
 pub mod definition;
-#[cfg(test)]
-mod grammar_tests;
 pub mod grouped;
 pub mod html;
 pub mod label;
@@ -23,6 +22,9 @@ pub mod rest;
 pub mod state;
 pub mod step;
 pub mod table;
+pub mod tree;
+
 #[cfg(test)]
 mod tests;
-pub mod tree;
+#[cfg(test)]
+mod grammar_tests;

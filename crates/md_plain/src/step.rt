@@ -9,23 +9,22 @@ ghost use Rattle.md_plain.specs.Trees.{meanings};
 ghost use Rattle.md_plain.specs.States.{kept_meanings, leaf_meaning, spot_meaning, container_meaning, came_meaning, taken_meaning, path_meaning, within};
 ghost use Rattle.md_plain.specs.Steps.{stopped_at};
 
+use md_engine::configuration::ParseOptions;
+use md_engine::message::Message;
+use std::alloc::Global;
+
+use crate::blocks::push_block;
 use crate::bytes::is_blank;
 use crate::close::{close_to, shut};
 use crate::containers::{continues, opens};
 use crate::leaves::{Went, goes_on, starts};
 use crate::memory;
-use crate::paragraph::{
-    head_cells, kept, shut_paragraph, underline_depth, underlined, with_line, with_table,
-};
+use crate::paragraph::{head_cells, kept, shut_paragraph, underline_depth, underlined, with_line, with_table};
 use crate::rest::Rest;
 use crate::state::{Against, Came, Frame, Kept, Leaf, Path, Spot, Taken};
 use crate::tree::Block;
-use md_engine::configuration::ParseOptions;
-use md_engine::message::Message;
-use std::alloc::Global;
 
 /// What a leaf came to, behind these blocks.
-#[tactic(auto, using(crate::proofs::TreeLemmas::meanings_push))]
 fn came<'a>(here: Vec<Block<'a>>, came: Came<'a>) -> Result<Spot<'a>, Message>
     ensures { IfOk result (λ s. spot_meaning s ≡ definition.came (meanings here.entry.items) (came_meaning came.entry)) }
 {
@@ -33,11 +32,8 @@ fn came<'a>(here: Vec<Block<'a>>, came: Came<'a>) -> Result<Spot<'a>, Message>
         Came::Opened(leaf) => Ok(Spot { here, leaf }),
         Came::Finished(block) => {
             let mut here = here;
-            memory::push(&mut here, block)?;
-            Ok(Spot {
-                here,
-                leaf: Leaf::None,
-            })
+            push_block(&mut here, block)?;
+            Ok(Spot { here, leaf: Leaf::None })
         }
     }
 }
@@ -53,10 +49,7 @@ fn fresh_line<'a>(
     ensures { IfOk result (λ s. spot_meaning s ≡ definition.fresh_line options.now (meanings here.entry.items) (rest_meaning rest.now)) }
 {
     if is_blank(rest.bytes) {
-        return Ok(Spot {
-            here,
-            leaf: Leaf::None,
-        });
+        return Ok(Spot { here, leaf: Leaf::None });
     }
     match starts(alloc, options, Against::NoText, rest)? {
         Some(started) => came(here, started),
@@ -79,10 +72,7 @@ fn text_line<'a>(
     let mut here = here;
     if is_blank(rest.bytes) {
         shut_paragraph(alloc, options, &mut here, &lines)?;
-        return Ok(Spot {
-            here,
-            leaf: Leaf::None,
-        });
+        return Ok(Spot { here, leaf: Leaf::None });
     }
     if let Some(depth) = underline_depth(options, rest) {
         return underlined(alloc, options, here, lines, rest, depth);
@@ -137,13 +127,7 @@ fn open_all<'a>(
         let Some(next) = opens(options, false, &left) else {
             return Ok((frames, left));
         };
-        memory::push(
-            &mut frames,
-            Frame {
-                before: Vec::new(alloc),
-                container: next.container,
-            },
-        )?;
+        memory::push(&mut frames, Frame { before: Vec::new(alloc), container: next.container })?;
         left = next.rest;
     }
     Ok((frames, left))
@@ -160,13 +144,7 @@ fn enter<'a>(
     ensures { IfOk result (λ p. path_meaning p ≡ within frames.entry.items (definition.entered options.now (meanings here.entry.items) (taken_meaning taken.entry))) }
 {
     let mut frames = frames;
-    memory::push(
-        &mut frames,
-        Frame {
-            before: here,
-            container: taken.container,
-        },
-    )?;
+    memory::push(&mut frames, Frame { before: here, container: taken.container })?;
     let (frames, rest) = open_all(alloc, options, frames, taken.rest)?;
     let spot = fresh_line(alloc, options, Vec::new(alloc), &rest)?;
     Ok(Path { frames, spot })
@@ -201,12 +179,7 @@ fn all_continued<'a>(
 }
 
 /// Whether an open paragraph takes this lazy line (CommonMark 5.1, "laziness").
-fn takes_lazy<'a>(
-    alloc: Global,
-    options: &ParseOptions,
-    leaf: &Leaf<'a>,
-    rest: &Rest<'a>,
-) -> Result<bool, Message>
+fn takes_lazy<'a>(alloc: Global, options: &ParseOptions, leaf: &Leaf<'a>, rest: &Rest<'a>) -> Result<bool, Message>
     ensures { IfOk result (λ b. b ≡ is_some (definition.with_lazy options.now (leaf_meaning leaf.now) (rest_meaning rest.now))) }
 {
     match leaf {

@@ -1,0 +1,10 @@
+use Rattle.std.proofs.Common.{length}
+use Rattle.md_plain.specs.Rests.{rest_meaning}
+use Rattle.md_plain.specs.States.{spot_meaning}
+use Rattle.md_plain.proofs.PathLemmas.{entered-path}
+use Rattle.md_plain.proofs.step.enter.Goals as goal
+
+pub returns : goal.returns
+returns c =
+    entered-path c.args.options.now c.args.frames.items c.push.new.items.items c.in_ok-frames.frames.items (record { before = c.args.here; container = c.args.taken.container }) (spot_meaning c.in_ok-spot.spot)
+        (rest_meaning c.args.taken.rest) (rest_meaning c.in_ok-frames.rest) (length c.args.taken.rest.bytes.now) c.in_ok-push.ensures c.in_ok-frames.ensures c.in_ok-spot.ensures
