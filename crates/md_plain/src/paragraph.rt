@@ -5,9 +5,9 @@ ghost use Rattle.md_seam.specs.State as state;
 ghost use Rattle.md_seam.specs.Leaves as leaves;
 ghost use Rattle.md_plain.specs.Definitions.{cut_meaning, defined_meaning};
 ghost use Rattle.md_plain.specs.Rests.{rest_meaning};
-ghost use Rattle.md_plain.specs.Trees.{meanings, slices};
+ghost use Rattle.md_plain.specs.Trees.{meaning, meanings, slices};
 ghost use Rattle.md_plain.specs.States.{kept_meaning, kept_meanings, spot_meaning};
-ghost use Rattle.md_plain.specs.Paragraphs.{definitions_of, head_of, table_spot};
+ghost use Rattle.md_plain.specs.Paragraphs.{block_of, definitions_of, head_of, table_spot};
 ghost use Rattle.md_seam.specs.Table as table;
 ghost use Rattle.std.specs.List.{list_all};
 ghost use Rattle.std.specs.Option.{option_map};
@@ -49,14 +49,18 @@ fn cut<'a>(alloc: Global, options: &ParseOptions, lines: &[Kept<'a>]) -> Result<
     }
 }
 
+/// The block of a definition.
+fn definition_block<'a>(defined: Defined<'a>) -> Block<'a>
+    ensures { meaning result ≡ block_of (defined_meaning defined.entry) }
+{
+    Block::Definition(defined.label, defined.destination, defined.title)
+}
+
 fn push_definitions<'a>(blocks: &mut Vec<Block<'a>>, definitions: Vec<Defined<'a>>) -> Result<(), Message>
     ensures { OnOk result (meanings blocks.new.items ≡ state.then_definitions (meanings blocks.old.items) (definitions_of definitions.entry.items)) }
 {
     for defined in definitions {
-        push_block(
-            blocks,
-            Block::Definition(defined.label, defined.destination, defined.title),
-        )?;
+        push_block(blocks, definition_block(defined))?;
     }
     Ok(())
 }

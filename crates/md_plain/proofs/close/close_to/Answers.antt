@@ -1,8 +1,8 @@
-use Rattle.std.proofs.Common.{refl, ◌∙◌, drop}
-use Rattle.md_seam.specs.State.{At}
+use Rattle.std.proofs.Common.{rules, refl, sym, ◌∙◌, ap, drop}
+use Rattle.md_seam.specs.State.{At, then_block, container_block}
 use Rattle.md_seam.specs.Step.{spot_of}
 use Rattle.md_plain.specs.Trees.{meanings}
-use Rattle.md_plain.specs.States.{spot_meaning}
+use Rattle.md_plain.specs.States.{container_meaning, spot_meaning}
 use Rattle.md_plain.proofs.PathLemmas.{closed-within, popped-take, popped-closed}
 use Rattle.md_plain.proofs.close.close_to.Goals as goal
 
@@ -14,6 +14,8 @@ loop-frames-init c = record {
 
 pub loop-frames-preserved : goal.loop-frames-preserved
 loop-frames-preserved c = record {
-    outer = popped-take c.args.count c.loop-frames.frames.items c.pop.new.self.items c.pop.result ? ? c.pop.ensures.items ? ∙ c.loop-frames.invariant.outer;
-    blocks = popped-closed c.args.options.now c.args.count c.loop-frames.frames.items c.pop.new.self.items c.pop.result ? (meanings c.loop-frames.here.items) (meanings ?) ? c.pop.ensures.items ? ? ∙ c.loop-frames.invariant.blocks
+    outer = popped-take c.args.count c.loop-frames.frames.items c.pop.new.self.items c.pop.result c.in-Some.field-0 c.in-Some.is c.pop.ensures.items (search rules) ∙ c.loop-frames.invariant.outer;
+    blocks = popped-closed c.args.options.now c.args.count c.loop-frames.frames.items c.pop.new.self.items c.pop.result c.in-Some.field-0 (meanings c.loop-frames.here.items) (meanings c.push_block.new.blocks.items) c.in-Some.is c.pop.ensures.items (search rules)
+        (c.in_ok-push_block.ensures ∙ ap (then_block (meanings c.in-Some.before.items)) c.container_block.ensures ∙ ap (λ v. then_block (meanings v.items) (container_block (container_meaning c.in-Some.field-0.container) (meanings c.loop-frames.here.items))) (sym c.in-Some.before-is))
+        ∙ c.loop-frames.invariant.blocks
   }
