@@ -16,6 +16,6 @@ pub loop-frames-preserved : goal.loop-frames-preserved
 loop-frames-preserved c = record {
     outer = popped-take c.args.count c.loop-frames.frames.items c.pop.new.self.items c.pop.result c.in-Some.field-0 c.in-Some.is c.pop.ensures.items (search rules) ∙ c.loop-frames.invariant.outer;
     blocks = popped-closed c.args.options.now c.args.count c.loop-frames.frames.items c.pop.new.self.items c.pop.result c.in-Some.field-0 (meanings c.loop-frames.here.items) (meanings c.push_block.new.blocks.items) c.in-Some.is c.pop.ensures.items (search rules)
-        (c.in_ok-push_block.ensures ∙ ap (then_block (meanings c.in-Some.before.items)) c.container_block.ensures ∙ ap (λ v. then_block (meanings v.items) (container_block (container_meaning c.in-Some.field-0.container) (meanings c.loop-frames.here.items))) (sym c.in-Some.before-is))
+        (c.in_ok-push_block.ensures ∙ ap (then_block (meanings c.in-Some.field-0.before.items)) c.container_block.ensures)
         ∙ c.loop-frames.invariant.blocks
   }
