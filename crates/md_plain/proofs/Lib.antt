@@ -8,3 +8,4 @@ pub mod PathLemmas
 pub mod ParagraphLemmas
 pub mod GroupLemmas
 pub mod FrontLemmas
+pub mod HeadLemmas
