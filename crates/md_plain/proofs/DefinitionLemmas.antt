@@ -83,7 +83,7 @@ TextIn-byte {opener} {closer} {b} {escaped} {rest} {others} {line} t e stays nei
     record {
       seen = t.seen ++ b ∷ [];
       whole = append_assoc t.seen (b ∷ []) others ∙ sym (ap (λ r. t.seen ++ r) e) ∙ t.whole;
-      goes = sym (with_bytes-with_byte t.seen b (enclosed opener closer (is_bare escaped b 92) others)) ∙ (rw (enclosed-byte opener closer escaped b others stays neither) at goes)
+      goes = sym (with_bytes-with_byte t.seen b (enclosed opener closer (is_bare escaped b 92) others)) ∙ (rw (enclosed-byte opener closer escaped b others stays neither) at goes);
     }
 
 -- what is left of balanced text behind a byte

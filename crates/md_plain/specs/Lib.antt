@@ -5,7 +5,4 @@ pub mod Markers
 pub mod Pieces
 pub mod Definitions
 pub mod Paragraphs
-pub mod Steps
-pub mod Groups
 pub mod Fronts
-pub mod Texts

@@ -22,7 +22,6 @@ pub mod rest;
 pub mod state;
 pub mod step;
 pub mod table;
-pub mod tree;
-
 #[cfg(test)]
 mod tests;
+pub mod tree;
