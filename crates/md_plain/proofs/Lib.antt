@@ -6,6 +6,4 @@ pub mod TreeLemmas
 pub mod LabelLemmas
 pub mod PathLemmas
 pub mod ParagraphLemmas
-pub mod GroupLemmas
-pub mod FrontLemmas
 pub mod WordLemmas

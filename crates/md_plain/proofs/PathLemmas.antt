@@ -28,11 +28,11 @@ closed-within options (f ∷ fs) p q e = ap (λ bs. s.then_block (meanings f.bef
 -- the innermost container is closed into a block of the one around it
 pub closed-pop : (options : ParseOptions) (n : ℕ) (fs : List Frame) (f : Frame) (inner : Blocks) → n ≤ length fs →
     s.closed options (within (drop n (fs ++ f ∷ [])) (s.At (spot_of inner)))
-        ≡ s.closed options (within (drop n fs) (s.At (spot_of (s.then_block (meanings f.before.items) (s.container_block (container_meaning f.container) inner)))))
+    ≡ s.closed options (within (drop n fs) (s.At (spot_of (s.then_block (meanings f.before.items) (s.container_block (container_meaning f.container) inner)))))
 closed-pop options n fs f inner below =
     ap (λ gs. s.closed options (within gs (s.At (spot_of inner)))) (drop-append-le n fs (f ∷ []) below)
-        ∙ ap (s.closed options) (within_push (drop n fs) f (s.At (spot_of inner)))
-        ∙ closed-within options (drop n fs) (inside f (s.At (spot_of inner))) (s.At (spot_of (s.then_block (meanings f.before.items) (s.container_block (container_meaning f.container) inner)))) refl
+    ∙ ap (s.closed options) (within_push (drop n fs) f (s.At (spot_of inner)))
+    ∙ closed-within options (drop n fs) (inside f (s.At (spot_of inner))) (s.At (spot_of (s.then_block (meanings f.before.items) (s.container_block (container_meaning f.container) inner)))) refl
 
 pub opened-some : (options : ParseOptions) (n : ℕ) (x : r.Rest) (t : Taken) → opens options false x ≡ Some t → opened options (suc n) x ≡ s.Within End t.container (opened options n t.rest)
 opened-some options n x t e = ap (λ o. elim o as (λ _. s.Path) [ Some u ↦ s.Within End u.container (opened options n u.rest) | None ↦ s.At (fresh_line options End x) ]) e
@@ -63,7 +63,7 @@ pub popped-closed : (options : ParseOptions) (n : ℕ) (old new : List Frame) (o
 popped-closed options n old new o f inner here e h below made =
     let added : old ≡ new ++ f ∷ [] = pushed old new o f e h in
     ap (λ bs. s.closed options (within (drop n new) (s.At (spot_of bs)))) made
-        ∙ sym (ap (λ fs. s.closed options (within (drop n fs) (s.At (spot_of inner)))) added ∙ closed-pop options n new f inner (below_pushed n old new f added below))
+    ∙ sym (ap (λ fs. s.closed options (within (drop n fs) (s.At (spot_of inner)))) added ∙ closed-pop options n new f inner (below_pushed n old new f added below))
 
 -- a container that a line opens, and those in it
 pub entered-path : (options : ParseOptions) (frames outer all : List Frame) (f : Frame) (x : s.Spot) (first last : r.Rest) (n : ℕ) →
@@ -79,6 +79,6 @@ pub opened-next : (options : ParseOptions) (frames more : List Frame) (f : Frame
 opened-next options frames more f n i x y below added empty took =
     let left : suc (n - (i + 1)) ≡ n - i = omega (arith, below) in
     ap (λ fs. within fs (opened options (n - (i + 1)) y)) added
-        ∙ within_push frames f (opened options (n - (i + 1)) y)
-        ∙ ap (λ bs. within frames (s.Within bs (container_meaning f.container) (opened options (n - (i + 1)) y))) empty
-        ∙ ap (within frames) (sym (opened-some options (n - (i + 1)) x (record { container = container_meaning f.container; rest = y }) took) ∙ ap (λ k. opened options k x) left)
+    ∙ within_push frames f (opened options (n - (i + 1)) y)
+    ∙ ap (λ bs. within frames (s.Within bs (container_meaning f.container) (opened options (n - (i + 1)) y))) empty
+    ∙ ap (within frames) (sym (opened-some options (n - (i + 1)) x (record { container = container_meaning f.container; rest = y }) took) ∙ ap (λ k. opened options k x) left)

@@ -4,10 +4,7 @@ pub mod States
 pub mod Markers
 pub mod Pieces
 pub mod Definitions
-pub mod Words
 pub mod Paragraphs
-pub mod Steps
-pub mod Labels
-pub mod Groups
 pub mod Fronts
-pub mod Texts
+pub mod Words
+pub mod Labels

@@ -4,10 +4,9 @@ ghost use Rattle.std.specs.Prelude.{◌≡◌, OnOk};
 ghost use Rattle.md_seam.specs.State.{then_block, then_paragraph};
 ghost use Rattle.md_plain.specs.Trees.{meaning, meanings, slices};
 
-use md_engine::message::Message;
-
 use crate::memory;
 use crate::tree::Block;
+use md_engine::message::Message;
 
 /// Adds a block at the end.
 #[tactic(auto, using(crate::proofs::TreeLemmas::meanings_push))]

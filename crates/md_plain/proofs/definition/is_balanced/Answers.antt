@@ -1,5 +1,4 @@
-use Rattle.std.proofs.Common.{◌≡◌, ◌∙◌, ◌≤◌, ◌+◌, length, sym, ap, arith}
-use Rattle.md_seam.specs.Definition.{balanced}
+use Rattle.std.proofs.Common.{◌∙◌, length, sym, ap, arith}
 use Rattle.md_plain.proofs.DefinitionLemmas.{balanced-stops, balanced-goes, balanced-ends, depth_behind-le}
 use Rattle.md_plain.proofs.definition.is_balanced.Goals as goal
 

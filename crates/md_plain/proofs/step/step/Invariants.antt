@@ -1,13 +1,5 @@
-use Rattle.std.proofs.Common.{◌≡◌, length, take, drop}
-use Rattle.md_seam.specs.State.{At}
-use Rattle.md_seam.specs.Step as definition
-use Rattle.md_plain.specs.Rests.{rest_meaning}
-use Rattle.md_plain.specs.States.{spot_meaning, path_meaning, within}
+use Rattle.std.proofs.Common.{◌≡◌, length}
 use Rattle.md_plain.proofs.step.step.Given as goal
 
 abbrev pub invariant-loop-index : goal.invariant-loop-index
-invariant-loop-index l = record {
-    same : length l.path.frames.items ≡ length l.initial.path.frames.items;
-    value : definition.step l.options (path_meaning l.initial.path) (rest_meaning l.initial.rest)
-        ≡ within (take l.index l.path.frames.items) (definition.step l.options (within (drop l.index l.path.frames.items) (At (spot_meaning l.path.spot))) (rest_meaning l.rest))
-  }
+invariant-loop-index l = length l.path.frames.items ≡ length l.initial.path.frames.items

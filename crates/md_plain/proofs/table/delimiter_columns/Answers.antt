@@ -1,4 +1,4 @@
-use Rattle.std.proofs.Common.{◌≡◌, ◌||◌, ◌==◌, true, false, length, Some, refl, rules}
+use Rattle.std.proofs.Common.{◌≡◌, ◌||◌, ◌==◌, true, false, length, refl, rules}
 use Rattle.std.specs.List.{list_any, list_all}
 use Rattle.std.proofs.lemmas.List.{length-map}
 use Rattle.std.proofs.lemmas.List.Folds.{list_all-map}
