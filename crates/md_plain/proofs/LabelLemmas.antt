@@ -47,6 +47,6 @@ pub label-plain : (before : List ℕ) (escaped : Bool) (b : ℕ) (bytes : List �
     label_behind before (footnote_label escaped (b ∷ bytes)) ≡ label_behind (before ++ b ∷ []) (footnote_label (b == 92) bytes)
 label-plain before escaped b bytes e f g =
     ap (λ t. label_behind before (cond t (X b bytes) (cond (b == 93) (ended bytes) (stopped b bytes)))) e
-        ∙ ap (λ t. label_behind before (cond t (ended bytes) (stopped b bytes))) f
-        ∙ ap (λ t. label_behind before (cond t None (Z b bytes))) g
-        ∙ behind-next before b (footnote_label (b == 92) bytes)
+    ∙ ap (λ t. label_behind before (cond t (ended bytes) (stopped b bytes))) f
+    ∙ ap (λ t. label_behind before (cond t None (Z b bytes))) g
+    ∙ behind-next before b (footnote_label (b == 92) bytes)

@@ -1,9 +1,9 @@
 pub mod DefinitionLemmas
 pub mod PieceLemmas
 pub mod RestLemmas
-pub mod WordLemmas
 pub mod LinesLemmas
 pub mod TreeLemmas
 pub mod LabelLemmas
 pub mod PathLemmas
 pub mod ParagraphLemmas
+pub mod WordLemmas

@@ -80,8 +80,8 @@ rests_at-next before c text h =
     let left : List (List ℕ) = lines_of (after_ending (drop (line_len text) text)) in
     let front : r.Rest = rest_at c (take (line_len text) text) in
     ap (λ ls. before ++ rests_at c ls) (lines_of-first text h)
-        ∙ ap (λ xs. before ++ front ∷ xs) (sym (rests_at-zero left))
-        ∙ sym (append_assoc before (front ∷ []) (rests_at 0 left))
+    ∙ ap (λ xs. before ++ front ∷ xs) (sym (rests_at-zero left))
+    ∙ sym (append_assoc before (front ∷ []) (rests_at 0 left))
 
 -- the loop that reads them
 pub rests_of-next : (items items' : List Rest) (x : Rest) (begins n : ℕ) (left line ending left' : List ℕ) →
@@ -92,6 +92,6 @@ rests_of-next items items' x begins n left line ending left' some en eline eendi
     let front : rest_meaning x ≡ rest_at begins (take (line_len left) left) = ex ∙ ap (rest_at begins) (eline ∙ ap (λ k. take k left) en) in
     let behind : left' ≡ after_ending (drop (line_len left) left) = eleft ∙ ap after_ending (eending ∙ ap (λ k. drop k left) en) in
     let read : rest_meanings items' ≡ rest_meanings items ++ rest_at begins (take (line_len left) left) ∷ [] =
-        ap rest_meanings eitems ∙ map-append rest_meaning items (x ∷ []) ∙ ap (λ y. rest_meanings items ++ y ∷ []) front in
+    ap rest_meanings eitems ∙ map-append rest_meaning items (x ∷ []) ∙ ap (λ y. rest_meanings items ++ y ∷ []) front in
     rests_at-next (rest_meanings items) begins left some
-        ∙ sym (ap (λ xs. xs ++ rests_at 0 (lines_of left')) read ∙ ap (λ t. (rest_meanings items ++ rest_at begins (take (line_len left) left) ∷ []) ++ rests_at 0 (lines_of t)) behind)
+    ∙ sym (ap (λ xs. xs ++ rests_at 0 (lines_of left')) read ∙ ap (λ t. (rest_meanings items ++ rest_at begins (take (line_len left) left) ∷ []) ++ rests_at 0 (lines_of t)) behind)

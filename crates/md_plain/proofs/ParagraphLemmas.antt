@@ -5,6 +5,9 @@ use Rattle.std.proofs.lemmas.List.{take-map, length-map, map-append, reverse-app
 use Rattle.md_seam.specs.Definition as d
 use Rattle.md_seam.specs.Tree as t
 use Rattle.md_seam.specs.State.{then_block, then_definitions}
+use Rattle.md_plain.specs.declared.definition.Defined.{Defined}
+use Rattle.md_plain.specs.Definitions.{defined_meaning}
+use Rattle.md_plain.specs.Paragraphs.{definitions_of}
 
 pub then_definitions_push : (bs : t.Blocks) (ds : List d.Defined) (x : d.Defined) →
     then_definitions bs (ds ++ x ∷ []) ≡ then_block (then_definitions bs ds) (t.Definition x.label x.destination x.title)
@@ -29,4 +32,12 @@ pub without_suffix-map : {A B : Type 0} (p : B → Bool) (f : A → B) (xs : Lis
     map f (take (length xs - suffix_len (λ x. p (f x)) xs) xs) ≡ take (length (map f xs) - suffix_len p (map f xs)) (map f xs)
 without_suffix-map p f xs =
     sym (take-map f (length xs - suffix_len (λ x. p (f x)) xs) xs)
-        ∙ ap (λ n. take n (map f xs)) (sym (ap (λ n. n - suffix_len p (map f xs)) (length-map xs f) ∙ ap (λ n. length xs - n) (suffix_len-map p f xs)))
+    ∙ ap (λ n. take n (map f xs)) (sym (ap (λ n. n - suffix_len p (map f xs)) (length-map xs f) ∙ ap (λ n. length xs - n) (suffix_len-map p f xs)))
+
+-- one definition more
+pub definitions-next : (bs now next : t.Blocks) (ds : List Defined) (x : Defined) → now ≡ then_definitions bs (definitions_of ds) →
+    next ≡ then_block now (t.Definition (defined_meaning x).label (defined_meaning x).destination (defined_meaning x).title) → next ≡ then_definitions bs (definitions_of (ds ++ x ∷ []))
+definitions-next bs now next ds x before added =
+    added
+    ∙ ap (λ b. then_block b (t.Definition (defined_meaning x).label (defined_meaning x).destination (defined_meaning x).title)) before
+    ∙ sym (ap (then_definitions bs) (map-append defined_meaning ds (x ∷ [])) ∙ then_definitions_push bs (definitions_of ds) (defined_meaning x))

@@ -1,7 +1,7 @@
 -- The parts of what turns a paragraph.
 use Rattle.std.specs.Prelude.{ℕ, ◌&&◌, if◌then◌else◌, List, [], ◌∷◌, map, Option, Some, None}
 use Rattle.md_engine.specs.declared.configuration.ParseOptions.{ParseOptions}
-use Rattle.md_seam.specs.Tree.{Blocks}
+use Rattle.md_seam.specs.Tree.{Block, Definition, Blocks}
 use Rattle.md_seam.specs.Rest.{Rest, has_small_indent, trim}
 use Rattle.md_seam.specs.Table.{delimiter_columns, row_cells}
 use Rattle.md_seam.specs.Definition as d
@@ -9,6 +9,9 @@ use Rattle.md_seam.specs.State.{Kept, OpenTable, Spot, shut_paragraph, texts}
 use Rattle.md_seam.specs.Leaves.{is_head_of}
 use Rattle.md_plain.specs.declared.definition.Defined.{Defined}
 use Rattle.md_plain.specs.Definitions.{defined_meaning}
+
+abbrev pub block_of : d.Defined → Block
+block_of x = Definition x.label x.destination x.title
 
 abbrev pub definitions_of : List Defined → List d.Defined
 definitions_of ds = map defined_meaning ds

@@ -39,7 +39,11 @@ pub fn white_end_len(bytes: &[u8]) -> usize
     ensures value { result ≡ suffix_len rest.is_white bytes.now }
     ensures bound { result ≤ length bytes.now }
 {
-    bytes.iter().rev().take_while(|byte| is_white(**byte)).count()
+    bytes
+        .iter()
+        .rev()
+        .take_while(|byte| is_white(**byte))
+        .count()
 }
 
 /// Without leading spaces and tabs.

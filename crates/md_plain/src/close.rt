@@ -7,23 +7,26 @@ ghost use Rattle.md_seam.specs.State as state;
 ghost use Rattle.md_plain.specs.Trees.{meaning, meanings, line_meanings};
 ghost use Rattle.md_plain.specs.States.{container_meaning, spot_meaning, path_meaning, within};
 
-use md_engine::configuration::ParseOptions;
-use md_engine::message::Message;
-use std::alloc::Global;
-
+use crate::blocks::push_block;
 use crate::bytes::is_blank;
 use crate::leaves::fence_block;
-use crate::memory;
 use crate::paragraph::shut_paragraph;
 use crate::state::{Container, Frame, Leaf, Path, Spot};
 use crate::tree::{Block, Line};
+use md_engine::configuration::ParseOptions;
+use md_engine::message::Message;
+use std::alloc::Global;
 
 /// How many blank lines stand at the end.
 fn blank_len(lines: &[Line]) -> usize
     ensures value { result ≡ suffix_len (λ l. is_blank l.text.now) lines.now }
     ensures bound { result ≤ length lines.now }
 {
-    lines.iter().rev().take_while(|line| is_blank(line.text)).count()
+    lines
+        .iter()
+        .rev()
+        .take_while(|line| is_blank(line.text))
+        .count()
 }
 
 /// Blank lines at the end do not belong to indented code (CommonMark 4.4).
@@ -37,8 +40,11 @@ fn without_trailing_blank<'a>(lines: Vec<Line<'a>>) -> Vec<Line<'a>>
 }
 
 /// The blocks of the innermost container, with its leaf closed.
-#[tactic(auto, using(crate::proofs::TreeLemmas::meanings_push))]
-pub fn shut<'a>(alloc: Global, options: &ParseOptions, spot: Spot<'a>) -> Result<Vec<Block<'a>>, Message>
+pub fn shut<'a>(
+    alloc: Global,
+    options: &ParseOptions,
+    spot: Spot<'a>,
+) -> Result<Vec<Block<'a>>, Message>
     ensures { IfOk result (λ bs. meanings bs.items ≡ state.shut options.now (spot_meaning spot.entry)) }
 {
     let Spot { mut here, leaf } = spot;
@@ -53,7 +59,7 @@ pub fn shut<'a>(alloc: Global, options: &ParseOptions, spot: Spot<'a>) -> Result
         Leaf::Html(_, lines) => Block::Html(lines),
         Leaf::Table(delimiter, rows) => Block::Table(delimiter, rows),
     };
-    memory::push(&mut here, block)?;
+    push_block(&mut here, block)?;
     Ok(here)
 }
 
@@ -86,13 +92,17 @@ pub fn close_to<'a>(
         };
         let inner = here;
         here = before;
-        memory::push(&mut here, container_block(container, inner))?;
+        push_block(&mut here, container_block(container, inner))?;
     }
     Ok((frames, here))
 }
 
 /// Closes everything that is open.
-pub fn closed<'a>(alloc: Global, options: &ParseOptions, path: Path<'a>) -> Result<Vec<Block<'a>>, Message>
+pub fn closed<'a>(
+    alloc: Global,
+    options: &ParseOptions,
+    path: Path<'a>,
+) -> Result<Vec<Block<'a>>, Message>
     ensures { IfOk result (λ bs. meanings bs.items ≡ state.closed options.now (path_meaning path.entry)) }
 {
     let (_, here) = close_to(alloc, options, path, 0)?;

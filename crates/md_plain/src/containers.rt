@@ -7,13 +7,12 @@ ghost use Rattle.md_plain.specs.Rests.{rest_meaning};
 ghost use Rattle.md_plain.specs.States.{container_meaning, taken_option};
 ghost use Rattle.md_plain.specs.Markers.{marker_meaning, marker_option, label_split};
 
-use md_engine::configuration::ParseOptions;
-
 use crate::ahead::begins_with;
 use crate::bytes::{is_blank, is_parted, is_white};
 use crate::leaves::is_rule;
 use crate::rest::Rest;
 use crate::state::{Container, Taken};
+use md_engine::configuration::ParseOptions;
 
 /// A quote's prefix: a small indent, `>`, and one column of whitespace if there is one (CommonMark 5.1).
 #[tactic(auto, unfolding(md_seam::specs::Containers::quote_taken))]
@@ -42,12 +41,21 @@ fn item_continues<'a>(
 ) -> Option<Taken<'a>>
     ensures { taken_option result ≡ containers.item_continues digits.now marker width starts_blank (rest_meaning rest.now) }
 {
-    let goes_on = if is_blank(rest.bytes) { !starts_blank } else { width <= rest.indent() };
+    let goes_on = if is_blank(rest.bytes) {
+        !starts_blank
+    } else {
+        width <= rest.indent()
+    };
     if !goes_on {
         return None;
     }
     Some(Taken {
-        container: Container::Item { digits, marker, width, starts_blank: false },
+        container: Container::Item {
+            digits,
+            marker,
+            width,
+            starts_blank: false,
+        },
         rest: rest.lose(width),
     })
 }
@@ -67,14 +75,21 @@ fn footnote_continues<'a>(label: &'a [u8], rest: &Rest<'a>) -> Option<Taken<'a>>
 }
 
 /// Whether an open container continues on this line, and the rest in it.
-pub fn continues<'a>(options: &ParseOptions, container: &Container<'a>, rest: &Rest<'a>) -> Option<Taken<'a>>
+pub fn continues<'a>(
+    options: &ParseOptions,
+    container: &Container<'a>,
+    rest: &Rest<'a>,
+) -> Option<Taken<'a>>
     ensures { taken_option result ≡ containers.continues options.now (container_meaning container.now) (rest_meaning rest.now) }
 {
     match *container {
         Container::Quote => quote_taken(options, rest),
-        Container::Item { digits, marker, width, starts_blank } => {
-            item_continues(digits, marker, width, starts_blank, rest)
-        }
+        Container::Item {
+            digits,
+            marker,
+            width,
+            starts_blank,
+        } => { item_continues(digits, marker, width, starts_blank, rest) }
         Container::Footnote(label) => footnote_continues(label, rest),
     }
 }
@@ -83,7 +98,11 @@ pub fn continues<'a>(options: &ParseOptions, container: &Container<'a>, rest: &R
 fn opens_quote<'a>(options: &ParseOptions, rest: &Rest<'a>) -> Option<Taken<'a>>
     ensures { taken_option result ≡ containers.opens_quote options.now (rest_meaning rest.now) }
 {
-    if options.constructs.block_quote { quote_taken(options, rest) } else { None }
+    if options.constructs.block_quote {
+        quote_taken(options, rest)
+    } else {
+        None
+    }
 }
 
 /// A list marker: the digits of an ordered one, and the byte behind them.
@@ -115,7 +134,10 @@ fn marker_behind<'a>(digits: &'a [u8], bytes: &[u8]) -> Option<Marker<'a>>
     ensures bound { IfSome result (λ _. 1 ≤ length bytes.now) }
 {
     match bytes {
-        [byte, ..] if *byte == b'.' || *byte == b')' => Some(Marker { digits, byte: *byte }),
+        [byte, ..] if *byte == b'.' || *byte == b')' => Some(Marker {
+            digits,
+            byte: *byte,
+        }),
         _ => None,
     }
 }
@@ -130,7 +152,10 @@ fn list_marker(bytes: &[u8]) -> Option<Marker<'_>>
         return None;
     };
     if *first == b'*' || *first == b'+' || *first == b'-' {
-        return Some(Marker { digits: bytes.split_at(0).0, byte: *first });
+        return Some(Marker {
+            digits: bytes.split_at(0).0,
+            byte: *first,
+        });
     }
     let (digits, behind) = bytes.split_at(digits_len(bytes));
     if digits.len() < 1 || digits.len() > 9 {
@@ -177,9 +202,18 @@ fn opens_item<'a>(options: &ParseOptions, interrupting: bool, rest: &Rest<'a>) -
     }
     let padding = item_padding(&after);
     let starts_blank = is_blank(after.bytes);
-    let width = rest.indent() + marker.digits.len() + 1 + padding + if starts_blank { 1 } else { 0 };
+    let width = rest.indent()
+        + marker.digits.len()
+        + 1
+        + padding
+        + if starts_blank { 1 } else { 0 };
     Some(Taken {
-        container: Container::Item { digits: marker.digits, marker: marker.byte, width, starts_blank },
+        container: Container::Item {
+            digits: marker.digits,
+            marker: marker.byte,
+            width,
+            starts_blank,
+        },
         rest: after.lose(padding),
     })
 }
@@ -217,7 +251,10 @@ fn opens_footnote<'a>(options: &ParseOptions, rest: &Rest<'a>) -> Option<Taken<'
     ensures { taken_option result ≡ containers.opens_footnote options.now (rest_meaning rest.now) }
 {
     let from = rest.behind_indent();
-    if !options.constructs.gfm_footnote_definition || !rest.has_small_indent(options) || !from.bytes.starts_with(b"[^") {
+    if !options.constructs.gfm_footnote_definition
+        || !rest.has_small_indent(options)
+        || !from.bytes.starts_with(b"[^")
+    {
         return None;
     }
     let bytes = from.bytes.split_at(2).1;

@@ -8,12 +8,11 @@ ghost use Rattle.md_seam.specs.Enclosed as text;
 ghost use Rattle.md_seam.specs.Rest.{is_blank};
 ghost use Rattle.md_plain.specs.Definitions as m;
 
-use md_engine::message::Message;
-use std::alloc::Global;
-
 use crate::ahead::{after_optional, begins_with};
 use crate::bytes::{is_blank, is_parted, trim_start};
 use crate::memory;
+use md_engine::message::Message;
+use std::alloc::Global;
 
 /// A definition. Texts are as written, without their marks.
 #[derive(Drop)]
@@ -120,7 +119,10 @@ fn enclosed_lines<'a>(
             Enclosed::Broken => return Ok(None),
             Enclosed::Closed(last, after) => {
                 memory::push(&mut text, last)?;
-                return Ok(Some(Text { lines: text, ahead: Ahead { rest: after, next } }));
+                return Ok(Some(Text {
+                    lines: text,
+                    ahead: Ahead { rest: after, next },
+                }));
             }
             Enclosed::Open => memory::push(&mut text, rest)?,
         }
@@ -163,17 +165,35 @@ fn is_label(lines: &[&[u8]]) -> bool
 
 /// The label whose `[` comes first, and what follows its `]` (CommonMark 6.3).
 #[tactic(auto, unfolding(md_seam::specs::Definition::label_at))]
-fn label_at<'a>(alloc: Global, lines: &[&'a [u8]], ahead: Ahead<'a>) -> Result<Option<Text<'a>>, Message>
+fn label_at<'a>(
+    alloc: Global,
+    lines: &[&'a [u8]],
+    ahead: Ahead<'a>,
+) -> Result<Option<Text<'a>>, Message>
     ensures { IfOk result (λ found. option_map (m.text_meaning lines.now) found ≡ definition.label_at (m.ahead_meaning lines.now ahead.entry)) }
 {
     if !begins_with(b'[', ahead.rest) {
         return Ok(None);
     }
     let rest = after_optional(b'[', ahead.rest);
-    let Some(label) = enclosed_lines(alloc, b'[', b']', lines, Ahead { rest, next: ahead.next })? else {
+    let Some(label) = enclosed_lines(
+        alloc,
+        b'[',
+        b']',
+        lines,
+        Ahead {
+            rest,
+            next: ahead.next,
+        },
+    )?
+    else {
         return Ok(None);
     };
-    if is_label(&label.lines) { Ok(Some(label)) } else { Ok(None) }
+    if is_label(&label.lines) {
+        Ok(Some(label))
+    } else {
+        Ok(None)
+    }
 }
 
 /// What follows the `:` that comes first.
@@ -181,7 +201,10 @@ fn after_colon<'a>(ahead: Ahead<'a>) -> Option<Ahead<'a>>
     ensures { (lines : List (Bor (List ℕ))) → option_map (m.ahead_meaning lines) result ≡ definition.after_colon (m.ahead_meaning lines ahead.entry) }
 {
     if begins_with(b':', ahead.rest) {
-        Some(Ahead { rest: after_optional(b':', ahead.rest), next: ahead.next })
+        Some(Ahead {
+            rest: after_optional(b':', ahead.rest),
+            next: ahead.next,
+        })
     } else {
         None
     }
@@ -192,12 +215,18 @@ fn after_gap<'a>(lines: &[&'a [u8]], ahead: Ahead<'a>) -> Option<Ahead<'a>>
     ensures { m.gap_meaning lines.now result ≡ definition.after_gap (m.ahead_meaning lines.now ahead.entry) }
 {
     if !is_blank(ahead.rest) {
-        return Some(Ahead { rest: trim_start(ahead.rest), next: ahead.next });
+        return Some(Ahead {
+            rest: trim_start(ahead.rest),
+            next: ahead.next,
+        });
     }
     if ahead.next >= lines.len() {
         return None;
     }
-    Some(Ahead { rest: lines[ahead.next], next: ahead.next + 1 })
+    Some(Ahead {
+        rest: lines[ahead.next],
+        next: ahead.next + 1,
+    })
 }
 
 fn is_raw_byte(b: u8) -> bool
@@ -268,7 +297,11 @@ fn destination_at(line: &[u8]) -> Option<Destination<'_>>
         };
     }
     let (text, rest) = line.split_at(raw_len(line));
-    if is_raw(text) { Some(Destination { text, rest }) } else { None }
+    if is_raw(text) {
+        Some(Destination { text, rest })
+    } else {
+        None
+    }
 }
 
 /// The mark that closes a title which begins with this byte.
@@ -284,7 +317,11 @@ fn title_closer(b: u8) -> Option<u8>
 
 /// The title that comes first, and the lines behind it (CommonMark 6.3).
 #[tactic(auto, unfolding(md_seam::specs::Definition::title_at))]
-fn title_at<'a>(alloc: Global, lines: &[&'a [u8]], ahead: Ahead<'a>) -> Result<Option<Title<'a>>, Message>
+fn title_at<'a>(
+    alloc: Global,
+    lines: &[&'a [u8]],
+    ahead: Ahead<'a>,
+) -> Result<Option<Title<'a>>, Message>
     ensures { IfOk result (λ found. option_map (m.title_meaning lines.now) found ≡ definition.title_at (m.ahead_meaning lines.now ahead.entry)) }
 {
     let Some((opener, rest)) = ahead.rest.split_first() else {
@@ -293,18 +330,35 @@ fn title_at<'a>(alloc: Global, lines: &[&'a [u8]], ahead: Ahead<'a>) -> Result<O
     let Some(closer) = title_closer(*opener) else {
         return Ok(None);
     };
-    let Some(text) = enclosed_lines(alloc, *opener, closer, lines, Ahead { rest, next: ahead.next })? else {
+    let Some(text) = enclosed_lines(
+        alloc,
+        *opener,
+        closer,
+        lines,
+        Ahead {
+            rest,
+            next: ahead.next,
+        },
+    )?
+    else {
         return Ok(None);
     };
     if !is_blank(text.ahead.rest) {
         return Ok(None);
     }
-    Ok(Some(Title { lines: text.lines, next: text.ahead.next }))
+    Ok(Some(Title {
+        lines: text.lines,
+        next: text.ahead.next,
+    }))
 }
 
 /// The title behind a destination, after whitespace with at most one line ending.
 #[tactic(auto, unfolding(md_seam::specs::Definition::title_at))]
-fn title_after<'a>(alloc: Global, lines: &[&'a [u8]], ahead: Ahead<'a>) -> Result<Option<Title<'a>>, Message>
+fn title_after<'a>(
+    alloc: Global,
+    lines: &[&'a [u8]],
+    ahead: Ahead<'a>,
+) -> Result<Option<Title<'a>>, Message>
     ensures { IfOk result (λ found. option_map (m.title_meaning lines.now) found ≡ definition.title_after ahead.entry.rest.now (m.texts (drop ahead.entry.next lines.now))) }
 {
     if !is_parted(ahead.rest) {
@@ -329,14 +383,35 @@ fn with_destination<'a>(
         return Ok(None);
     };
     let Destination { text, rest } = destination;
-    match title_after(alloc, lines, Ahead { rest, next: ahead.next })? {
+    match title_after(
+        alloc,
+        lines,
+        Ahead {
+            rest,
+            next: ahead.next,
+        },
+    )? {
         Some(title) => {
-            let defined = Defined { label, destination: text, title: Some(title.lines) };
-            Ok(Some(Found { defined, next: title.next }))
+            let defined = Defined {
+                label,
+                destination: text,
+                title: Some(title.lines),
+            };
+            Ok(Some(Found {
+                defined,
+                next: title.next,
+            }))
         }
         None if is_blank(rest) => {
-            let defined = Defined { label, destination: text, title: None };
-            Ok(Some(Found { defined, next: ahead.next }))
+            let defined = Defined {
+                label,
+                destination: text,
+                title: None,
+            };
+            Ok(Some(Found {
+                defined,
+                next: ahead.next,
+            }))
         }
         None => Ok(None),
     }
@@ -344,13 +419,25 @@ fn with_destination<'a>(
 
 /// The definition that begins with this line.
 #[tactic(auto, unfolding(md_seam::specs::Definition::definition_at))]
-fn definition_at<'a>(alloc: Global, lines: &[&'a [u8]], next: usize) -> Result<Option<Found<'a>>, Message>
+fn definition_at<'a>(
+    alloc: Global,
+    lines: &[&'a [u8]],
+    next: usize,
+) -> Result<Option<Found<'a>>, Message>
     ensures { IfOk result (λ found. option_map (m.found_meaning lines.now) found ≡ definition.definition_at (m.texts (drop next lines.now))) }
 {
     if next >= lines.len() {
         return Ok(None);
     }
-    let Some(label) = label_at(alloc, lines, Ahead { rest: lines[next], next: next + 1 })? else {
+    let Some(label) = label_at(
+        alloc,
+        lines,
+        Ahead {
+            rest: lines[next],
+            next: next + 1,
+        },
+    )?
+    else {
         return Ok(None);
     };
     let Some(gap) = after_colon(label.ahead) else {
@@ -378,5 +465,8 @@ pub fn cut_definitions<'a>(alloc: Global, lines: &[&'a [u8]]) -> Result<Cut<'a>,
         memory::push(&mut remaining, lines[next])?;
         next += 1;
     }
-    Ok(Cut { definitions, remaining })
+    Ok(Cut {
+        definitions,
+        remaining,
+    })
 }

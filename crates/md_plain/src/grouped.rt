@@ -1,53 +1,142 @@
 // Lists: neighbouring items with the same marker byte (CommonMark 5.3).
 
-ghost use Rattle.std.specs.Prelude.{◌≡◌, IfOk};
-
+use crate::memory;
+use crate::tree::Block;
 use md_engine::message::Message;
 use std::alloc::Global;
 
-use crate::memory;
-use crate::tree::Block;
+/// Blocks that are done, and behind them items with one marker that may still become more.
+#[derive(Drop)]
+struct Groups<'a> {
+    done: Vec<Block<'a>>,
+    marker: u8,
+    items: Vec<Block<'a>>,
+}
+
+/// The blocks, with the items as a list.
+fn flushed<'a>(groups: Groups<'a>) -> Result<Vec<Block<'a>>, Message> {
+    let Groups {
+        mut done,
+        marker,
+        items,
+    } = groups;
+    if !items.is_empty() {
+        memory::push(&mut done, Block::ListOf(marker, items))?;
+    }
+    Ok(done)
+}
+
+/// With one more item.
+fn with_item<'a>(
+    alloc: Global,
+    groups: Groups<'a>,
+    marker: u8,
+    item: Block<'a>,
+) -> Result<Groups<'a>, Message> {
+    if marker == groups.marker {
+        let Groups {
+            done,
+            marker,
+            mut items,
+        } = groups;
+        memory::push(&mut items, item)?;
+        return Ok(Groups {
+            done,
+            marker,
+            items,
+        });
+    }
+    let done = flushed(groups)?;
+    let mut items = Vec::new(alloc);
+    memory::push(&mut items, item)?;
+    Ok(Groups {
+        done,
+        marker,
+        items,
+    })
+}
+
+/// With one more list, which takes the items before it that have its marker.
+fn with_list<'a>(
+    alloc: Global,
+    groups: Groups<'a>,
+    marker: u8,
+    list: Vec<Block<'a>>,
+) -> Result<Groups<'a>, Message> {
+    if marker == groups.marker {
+        let Groups {
+            mut done,
+            marker,
+            mut items,
+        } = groups;
+        for item in list {
+            memory::push(&mut items, item)?;
+        }
+        memory::push(&mut done, Block::ListOf(marker, items))?;
+        return Ok(Groups {
+            done,
+            marker,
+            items: Vec::new(alloc),
+        });
+    }
+    let mut done = flushed(groups)?;
+    memory::push(&mut done, Block::ListOf(marker, list))?;
+    Ok(Groups {
+        done,
+        marker,
+        items: Vec::new(alloc),
+    })
+}
+
+/// With one more block, whose own blocks are grouped.
+fn with_block<'a>(
+    alloc: Global,
+    groups: Groups<'a>,
+    block: Block<'a>,
+) -> Result<Groups<'a>, Message> {
+    match block {
+        Block::Item(marker, digits, blocks) => {
+            with_item(alloc, groups, marker, Block::Item(marker, digits, blocks))
+        }
+        Block::ListOf(marker, list) => with_list(alloc, groups, marker, list),
+        other => {
+            let marker = groups.marker;
+            let mut done = flushed(groups)?;
+            memory::push(&mut done, other)?;
+            Ok(Groups {
+                done,
+                marker,
+                items: Vec::new(alloc),
+            })
+        }
+    }
+}
 
 /// A block with lists in it.
 #[cycle(grouping)]
 fn grouped_block<'a>(alloc: Global, block: Block<'a>) -> Result<Block<'a>, Message> {
     match block {
         Block::Quote(blocks) => Ok(Block::Quote(grouped(alloc, blocks)?)),
-        Block::Item(marker, digits, blocks) => Ok(Block::Item(marker, digits, grouped(alloc, blocks)?)),
+        Block::Item(marker, digits, blocks) => Ok(Block::Item(
+            marker,
+            digits,
+            grouped(alloc, blocks)?,
+        )),
         Block::Footnote(label, blocks) => Ok(Block::Footnote(label, grouped(alloc, blocks)?)),
         other => Ok(other),
     }
 }
 
-/// Adds the list of these items, if there are any.
-fn push_list<'a>(blocks: &mut Vec<Block<'a>>, marker: u8, items: Vec<Block<'a>>) -> Result<(), Message> {
-    if items.is_empty() {
-        return Ok(());
-    }
-    memory::push(blocks, Block::ListOf(marker, items))
-}
-
 /// Every longest run of neighbouring items with one marker becomes a list, in all containers.
 #[cycle(grouping)]
 pub fn grouped<'a>(alloc: Global, blocks: Vec<Block<'a>>) -> Result<Vec<Block<'a>>, Message> {
-    let mut lists = Vec::new(alloc);
-    let mut items = Vec::new(alloc);
-    let mut current = 0;
+    let mut groups = Groups {
+        done: Vec::new(alloc),
+        marker: 0,
+        items: Vec::new(alloc),
+    };
     for block in blocks {
-        let block = grouped_block(alloc, block)?;
-        if let Block::Item(marker, ..) = &block {
-            if *marker != current {
-                push_list(&mut lists, current, items)?;
-                items = Vec::new(alloc);
-                current = *marker;
-            }
-            memory::push(&mut items, block)?;
-        } else {
-            push_list(&mut lists, current, items)?;
-            items = Vec::new(alloc);
-            memory::push(&mut lists, block)?;
-        }
+        groups = with_block(alloc, groups, grouped_block(alloc, block)?)?;
     }
-    push_list(&mut lists, current, items)?;
-    Ok(lists)
+    flushed(groups)
 }

@@ -30,12 +30,68 @@ const RAW_NAMES: [&str; 4] = ["pre", "script", "style", "textarea"];
 const RAW_ENDS: [&str; 4] = ["</pre>", "</script>", "</style>", "</textarea>"];
 
 const BASIC_NAMES: [&str; 62] = [
-    "address", "article", "aside", "base", "basefont", "blockquote", "body", "caption", "center", "col",
-    "colgroup", "dd", "details", "dialog", "dir", "div", "dl", "dt", "fieldset", "figcaption", "figure",
-    "footer", "form", "frame", "frameset", "h1", "h2", "h3", "h4", "h5", "h6", "head", "header", "hr", "html",
-    "iframe", "legend", "li", "link", "main", "menu", "menuitem", "nav", "noframes", "ol", "optgroup",
-    "option", "p", "param", "search", "section", "summary", "table", "tbody", "td", "tfoot", "th", "thead",
-    "title", "tr", "track", "ul",
+    "address",
+    "article",
+    "aside",
+    "base",
+    "basefont",
+    "blockquote",
+    "body",
+    "caption",
+    "center",
+    "col",
+    "colgroup",
+    "dd",
+    "details",
+    "dialog",
+    "dir",
+    "div",
+    "dl",
+    "dt",
+    "fieldset",
+    "figcaption",
+    "figure",
+    "footer",
+    "form",
+    "frame",
+    "frameset",
+    "h1",
+    "h2",
+    "h3",
+    "h4",
+    "h5",
+    "h6",
+    "head",
+    "header",
+    "hr",
+    "html",
+    "iframe",
+    "legend",
+    "li",
+    "link",
+    "main",
+    "menu",
+    "menuitem",
+    "nav",
+    "noframes",
+    "ol",
+    "optgroup",
+    "option",
+    "p",
+    "param",
+    "search",
+    "section",
+    "summary",
+    "table",
+    "tbody",
+    "td",
+    "tfoot",
+    "th",
+    "thead",
+    "title",
+    "tr",
+    "track",
+    "ul",
 ];
 
 /// Whether the two are equal, ASCII case ignored.
@@ -64,7 +120,9 @@ fn tag_len(rest: &[u8]) -> usize
     ensures value { result ≡ prefix_len h.is_tag_byte rest.now }
     ensures bound { result ≤ length rest.now }
 {
-    rest.iter().take_while(|b| b.is_ascii_alphanumeric() || **b == b'-').count()
+    rest.iter()
+        .take_while(|b| b.is_ascii_alphanumeric() || **b == b'-')
+        .count()
 }
 
 /// Whether a letter of ASCII comes first.

@@ -4,14 +4,16 @@ ghost use Rattle.std.specs.List.{prefix_len};
 ghost use Rattle.md_seam.specs.Label as label;
 ghost use Rattle.md_seam.specs.Rest.{is_white};
 ghost use Rattle.md_plain.specs.Definitions.{texts};
+ghost use Rattle.md_plain.specs.Labels.{labels_meaning};
+ghost use Rattle.md_plain.specs.Trees.{meaning, meanings};
 ghost use Rattle.md_plain.specs.Words as words;
-
-use caseless::default_case_fold_str;
-use md_engine::message::Message;
-use std::alloc::Global;
 
 use crate::bytes::is_white;
 use crate::memory;
+use crate::tree::Block;
+use caseless::default_case_fold_str;
+use md_engine::message::Message;
+use std::alloc::Global;
 
 /// How many bytes come first that are neither spaces nor tabs.
 fn word_len(rest: &[u8]) -> usize
@@ -75,4 +77,56 @@ pub fn normal_form(alloc: Global, lines: &[&[u8]]) -> Result<String, Message>
         Ok(form) => Ok(form),
         Err(_) => Err(Message),
     }
+}
+
+/// The normal forms of the labels of a tree, in source order, repeats kept.
+#[derive(Drop)]
+pub struct Labels {
+    pub definitions: Vec<String>,
+    pub footnotes: Vec<String>,
+}
+
+/// Adds the labels of a block.
+#[cycle(labelling)]
+fn push_block(alloc: Global, labels: &mut Labels, block: &Block) -> Result<(), Message>
+    ensures { OnOk result (labels_meaning labels.new ≡ label.both (labels_meaning labels.old) (label.block_labels (meaning block.now))) }
+{
+    match block {
+        Block::Quote(blocks) | Block::ListOf(_, blocks) | Block::Item(_, _, blocks) => {
+            push_blocks(alloc, labels, blocks)
+        }
+        Block::Footnote(name, blocks) => {
+            let form = normal_form(alloc, &[*name])?;
+            memory::push(&mut labels.footnotes, form)?;
+            push_blocks(alloc, labels, blocks)
+        }
+        Block::Definition(lines, _, _) => {
+            let form = normal_form(alloc, lines)?;
+            memory::push(&mut labels.definitions, form)
+        }
+        _ => Ok(()),
+    }
+}
+
+/// Adds the labels of blocks.
+#[cycle(labelling)]
+fn push_blocks(alloc: Global, labels: &mut Labels, blocks: &[Block]) -> Result<(), Message>
+    ensures { OnOk result (labels_meaning labels.new ≡ label.both (labels_meaning labels.old) (label.labels (meanings blocks.now))) }
+{
+    for block in blocks {
+        push_block(alloc, labels, block)?;
+    }
+    Ok(())
+}
+
+/// The labels of a tree.
+pub fn labels_of(alloc: Global, blocks: &[Block]) -> Result<Labels, Message>
+    ensures { IfOk result (λ found. labels_meaning found ≡ label.labels (meanings blocks.now)) }
+{
+    let mut labels = Labels {
+        definitions: Vec::new(alloc),
+        footnotes: Vec::new(alloc),
+    };
+    push_blocks(alloc, &mut labels, blocks)?;
+    Ok(labels)
 }

@@ -10,10 +10,6 @@ ghost use Rattle.md_plain.specs.Rests.{rest_meaning};
 ghost use Rattle.md_plain.specs.Trees.{meaning, line_meanings};
 ghost use Rattle.md_plain.specs.States.{kind_meaning, opening_meaning, came_meaning, came_option, against_meaning, leaf_meaning, went_option, HandsBack};
 
-use md_engine::configuration::ParseOptions;
-use md_engine::message::Message;
-use std::alloc::Global;
-
 use crate::bytes::{is_blank, is_parted, is_white, run_len, trim, trim_end, trim_start};
 use crate::html::{HtmlKind, html_ends, html_kind};
 use crate::memory;
@@ -21,6 +17,9 @@ use crate::rest::Rest;
 use crate::state::{Against, Came, Leaf, Opening};
 use crate::table::row_cells;
 use crate::tree::{Block, Line};
+use md_engine::configuration::ParseOptions;
+use md_engine::message::Message;
+use std::alloc::Global;
 
 /// Whether a line has only this byte, spaces and tabs.
 fn has_only(marker: u8, bytes: &[u8]) -> bool
@@ -87,12 +86,20 @@ fn heading_text(after: &[u8]) -> &[u8]
 {
     let text = trim(after);
     let front = text.split_at(text.len() - closing_len(text)).0;
-    if ends_parted(front) { trim_end(front) } else { text }
+    if ends_parted(front) {
+        trim_end(front)
+    } else {
+        text
+    }
 }
 
 /// An ATX heading: a small indent, 1 to 6 `#`, and then whitespace or the end of the line (CommonMark 4.2).
 #[tactic(auto, unfolding(md_seam::specs::Leaves::heading_at))]
-fn heading_at<'a>(alloc: Global, options: &ParseOptions, rest: &Rest<'a>) -> Result<Option<Came<'a>>, Message>
+fn heading_at<'a>(
+    alloc: Global,
+    options: &ParseOptions,
+    rest: &Rest<'a>,
+) -> Result<Option<Came<'a>>, Message>
     ensures { IfOk result (λ o. came_option o ≡ leaves.heading_at options.now (rest_meaning rest.now)) }
 {
     let text = rest.text();
@@ -175,10 +182,22 @@ fn opening<'a>(marker: u8, size: usize, indent: usize, text: &'a [u8]) -> Openin
     ensures { opening_meaning result ≡ leaves.opening marker size indent text.now }
 {
     if marker == b'$' {
-        return Opening { marker, size, indent, info: None, meta: nonempty(text) };
+        return Opening {
+            marker,
+            size,
+            indent,
+            info: None,
+            meta: nonempty(text),
+        };
     }
     let (word, others) = text.split_at(word_len(text));
-    Opening { marker, size, indent, info: nonempty(word), meta: nonempty(trim_start(others)) }
+    Opening {
+        marker,
+        size,
+        indent,
+        info: nonempty(word),
+        meta: nonempty(trim_start(others)),
+    }
 }
 
 /// An opening fence: a small indent, a run of markers, and what may follow it (CommonMark 4.5; math is an own choice).

@@ -2,6 +2,7 @@
 #![tactic(auto)]
 
 pub mod ahead;
+pub mod blocks;
 pub mod bytes;
 pub mod close;
 pub mod columns;
@@ -21,7 +22,8 @@ pub mod rest;
 pub mod state;
 pub mod step;
 pub mod table;
-pub mod tree;
-
+#[cfg(test)]
+mod grammar_tests;
 #[cfg(test)]
 mod tests;
+pub mod tree;

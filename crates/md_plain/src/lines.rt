@@ -6,18 +6,19 @@ ghost use Rattle.md_seam.specs.Lines as lines;
 ghost use Rattle.md_seam.specs.Preamble.{rests_at};
 ghost use Rattle.md_plain.specs.Rests.{rest_meanings, after_ending};
 
-use md_engine::message::Message;
-use std::alloc::Global;
-
 use crate::memory;
 use crate::rest::Rest;
+use md_engine::message::Message;
+use std::alloc::Global;
 
 /// How many bytes stand before the first line ending.
 fn line_len(text: &[u8]) -> usize
     ensures value { result ≡ prefix_len (λ b. not (lines.is_ending b)) text.now }
     ensures bound { result ≤ length text.now }
 {
-    text.iter().take_while(|byte| **byte != b'\n' && **byte != b'\r').count()
+    text.iter()
+        .take_while(|byte| **byte != b'\n' && **byte != b'\r')
+        .count()
 }
 
 /// What follows the line ending that comes first: LF, CR or CRLF.
@@ -42,7 +43,14 @@ pub fn rests_of<'a>(alloc: Global, column: usize, text: &'a [u8]) -> Result<Vec<
     let mut begins = column;
     while !left.is_empty() {
         let (bytes, ending) = left.split_at(line_len(left));
-        memory::push(&mut rests, Rest { column: begins, spaces: 0, bytes })?;
+        memory::push(
+            &mut rests,
+            Rest {
+                column: begins,
+                spaces: 0,
+                bytes,
+            },
+        )?;
         left = behind_ending(ending);
         begins = 0;
     }

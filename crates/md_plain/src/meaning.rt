@@ -1,46 +1,72 @@
 // What a text means: its block tree.
 
-ghost use Rattle.std.specs.Prelude.{◌≡◌, ◌/◌, ◌^◌, ◌<◌, length, IfOk};
-
-use md_engine::configuration::ParseOptions;
-use md_engine::message::Message;
-use std::alloc::Global;
+ghost use Rattle.std.specs.Prelude.{◌≡◌, ◌^◌, ◌<◌, length, IfOk};
+ghost use Rattle.md_seam.specs.Lines.{lines_of};
+ghost use Rattle.md_seam.specs.Preamble.{without_mark, first_column, rests_at};
+ghost use Rattle.md_plain.specs.Rests.{rest_meanings};
 
 use crate::close::closed;
 use crate::grouped::grouped;
 use crate::lines::rests_of;
-use crate::memory;
 use crate::preamble::{Front, front_of, has_mark};
+use crate::rest::Rest;
 use crate::state::{Leaf, Path, Spot};
 use crate::step::step;
-use crate::tree::Block;
+use crate::tree::{Block, Tree};
+use md_engine::configuration::ParseOptions;
+use md_engine::message::Message;
+use std::alloc::Global;
 
-/// The block tree of a text: its blocks at the root.
-pub fn tree<'a>(alloc: Global, text: &'a str, options: &ParseOptions) -> Result<Vec<Block<'a>>, Message>
+/// The lines behind a byte order mark, whose bytes are columns of the first.
+fn rests_behind_mark<'a>(alloc: Global, text: &'a [u8]) -> Result<Vec<Rest<'a>>, Message>
     requires { length text.now < 2 ^ 61 }
+    ensures { IfOk result (λ v. rest_meanings v.items ≡ rests_at (first_column text.now) (lines_of (without_mark text.now))) }
 {
-    let bytes = text.as_bytes();
-    let rests = if has_mark(bytes) {
-        rests_of(alloc, 3, bytes.split_at(3).1)?
+    if has_mark(text) {
+        rests_of(alloc, 3, text.split_at(3).1)
     } else {
-        rests_of(alloc, 0, bytes)?
-    };
-    let mut lists = Vec::new(alloc);
-    let mut first = 0;
-    if let Some(Front { block, lines }) = front_of(alloc, options, &rests)? {
-        memory::push(&mut lists, block)?;
-        first = lines;
+        rests_of(alloc, 0, text)
     }
+}
+
+/// The blocks of a body, not yet grouped.
+fn blocks_of<'a>(
+    alloc: Global,
+    options: &ParseOptions,
+    rests: &[Rest<'a>],
+) -> Result<Vec<Block<'a>>, Message> {
     let mut path = Path {
         frames: Vec::new(alloc),
-        spot: Spot { here: Vec::new(alloc), leaf: Leaf::None },
+        spot: Spot {
+            here: Vec::new(alloc),
+            leaf: Leaf::None,
+        },
     };
-    for rest in rests.as_slice().split_at(first).1 {
+    for rest in rests {
         path = step(alloc, options, path, rest)?;
     }
-    let blocks = closed(alloc, options, path)?;
-    for block in grouped(alloc, blocks)? {
-        memory::push(&mut lists, block)?;
+    closed(alloc, options, path)
+}
+
+/// The block tree of a text of fewer than 2^61 bytes.
+pub fn tree<'a>(alloc: Global, text: &'a str, options: &ParseOptions) -> Result<Tree<'a>, Message>
+    requires { length text.now < 2 ^ 61 }
+{
+    let rests = rests_behind_mark(alloc, text.as_bytes())?;
+    match front_of(alloc, options, &rests)? {
+        Some(Front { block, after }) => {
+            let blocks = grouped(alloc, blocks_of(alloc, options, after)?)?;
+            Ok(Tree {
+                frontmatter: Some(block),
+                blocks,
+            })
+        }
+        None => {
+            let blocks = grouped(alloc, blocks_of(alloc, options, &rests)?)?;
+            Ok(Tree {
+                frontmatter: None,
+                blocks,
+            })
+        }
     }
-    Ok(lists)
 }

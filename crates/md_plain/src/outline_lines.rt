@@ -2,12 +2,11 @@
 
 ghost use Rattle.std.specs.Prelude.{◌≡◌, ◌+◌, IfOk, OnOk};
 
+use crate::memory;
+use crate::tree::{Block, Line, Tree};
 use md_engine::message::Message;
 use md_seam::outline::{OutlineLine, Word};
 use std::alloc::Global;
-
-use crate::memory;
-use crate::tree::{Block, Line};
 
 /// Adds a line with this text, which is UTF-8 since the tree is cut beside ASCII bytes.
 fn push_line<'a>(
@@ -18,7 +17,15 @@ fn push_line<'a>(
     bytes: &'a [u8],
 ) -> Result<(), Message> {
     match str::from_utf8(bytes) {
-        Ok(text) => memory::push(outline, OutlineLine { depth, word, spaces, text }),
+        Ok(text) => memory::push(
+            outline,
+            OutlineLine {
+                depth,
+                word,
+                spaces,
+                text,
+            },
+        ),
         Err(_) => Err(Message),
     }
 }
@@ -30,8 +37,20 @@ fn deeper(depth: usize) -> Result<usize, Message>
     depth.checked_add(1).ok_or(Message)
 }
 
-fn push_word<'a>(outline: &mut Vec<OutlineLine<'a>>, depth: usize, word: Word) -> Result<(), Message> {
-    memory::push(outline, OutlineLine { depth, word, spaces: 0, text: "" })
+fn push_word<'a>(
+    outline: &mut Vec<OutlineLine<'a>>,
+    depth: usize,
+    word: Word,
+) -> Result<(), Message> {
+    memory::push(
+        outline,
+        OutlineLine {
+            depth,
+            word,
+            spaces: 0,
+            text: "",
+        },
+    )
 }
 
 fn push_texts<'a>(
@@ -46,7 +65,11 @@ fn push_texts<'a>(
     Ok(())
 }
 
-fn push_lines<'a>(outline: &mut Vec<OutlineLine<'a>>, depth: usize, lines: &[Line<'a>]) -> Result<(), Message> {
+fn push_lines<'a>(
+    outline: &mut Vec<OutlineLine<'a>>,
+    depth: usize,
+    lines: &[Line<'a>],
+) -> Result<(), Message> {
     for line in lines {
         push_line(outline, depth, Word::Line, line.spaces, line.text)?;
     }
@@ -65,7 +88,11 @@ fn push_part<'a>(
     }
 }
 
-fn push_row<'a>(outline: &mut Vec<OutlineLine<'a>>, depth: usize, cells: &[&'a [u8]]) -> Result<(), Message> {
+fn push_row<'a>(
+    outline: &mut Vec<OutlineLine<'a>>,
+    depth: usize,
+    cells: &[&'a [u8]],
+) -> Result<(), Message> {
     let inner = deeper(depth)?;
     push_word(outline, depth, Word::Row)?;
     push_texts(outline, inner, Word::Cell, cells)
@@ -94,7 +121,11 @@ fn push_table<'a>(
 
 /// Adds the lines of a block at this depth.
 #[cycle(outlining)]
-fn push_block<'a>(outline: &mut Vec<OutlineLine<'a>>, depth: usize, block: &Block<'a>) -> Result<(), Message> {
+fn push_block<'a>(
+    outline: &mut Vec<OutlineLine<'a>>,
+    depth: usize,
+    block: &Block<'a>,
+) -> Result<(), Message> {
     let inner = deeper(depth)?;
     match block {
         Block::Frontmatter(marker, lines) => {
@@ -123,7 +154,11 @@ fn push_block<'a>(outline: &mut Vec<OutlineLine<'a>>, depth: usize, block: &Bloc
 }
 
 /// Adds the lines of a block that holds no blocks.
-fn push_leaf<'a>(outline: &mut Vec<OutlineLine<'a>>, depth: usize, block: &Block<'a>) -> Result<(), Message> {
+fn push_leaf<'a>(
+    outline: &mut Vec<OutlineLine<'a>>,
+    depth: usize,
+    block: &Block<'a>,
+) -> Result<(), Message> {
     let inner = deeper(depth)?;
     match block {
         Block::Heading(level, lines) => {
@@ -140,7 +175,14 @@ fn push_leaf<'a>(outline: &mut Vec<OutlineLine<'a>>, depth: usize, block: &Block
             push_lines(outline, inner, lines)
         }
         Block::Fence(marker, info, meta, lines, closed) => {
-            push_word(outline, depth, Word::Fence { marker: *marker, closed: *closed })?;
+            push_word(
+                outline,
+                depth,
+                Word::Fence {
+                    marker: *marker,
+                    closed: *closed,
+                },
+            )?;
             push_part(outline, inner, Word::Info, *info)?;
             push_part(outline, inner, Word::Meta, *meta)?;
             push_lines(outline, inner, lines)
@@ -169,16 +211,23 @@ fn push_leaf<'a>(outline: &mut Vec<OutlineLine<'a>>, depth: usize, block: &Block
 }
 
 #[cycle(outlining)]
-fn push_blocks<'a>(outline: &mut Vec<OutlineLine<'a>>, depth: usize, blocks: &[Block<'a>]) -> Result<(), Message> {
+fn push_blocks<'a>(
+    outline: &mut Vec<OutlineLine<'a>>,
+    depth: usize,
+    blocks: &[Block<'a>],
+) -> Result<(), Message> {
     for block in blocks {
         push_block(outline, depth, block)?;
     }
     Ok(())
 }
 
-/// The lines of the outline of these blocks.
-pub fn outline<'a>(alloc: Global, blocks: &[Block<'a>]) -> Result<Vec<OutlineLine<'a>>, Message> {
+/// The lines of the outline of a tree.
+pub fn outline<'a>(alloc: Global, tree: &Tree<'a>) -> Result<Vec<OutlineLine<'a>>, Message> {
     let mut outline = Vec::new(alloc);
-    push_blocks(&mut outline, 0, blocks)?;
+    if let Some(block) = &tree.frontmatter {
+        push_block(&mut outline, 0, block)?;
+    }
+    push_blocks(&mut outline, 0, &tree.blocks)?;
     Ok(outline)
 }

@@ -1,20 +1,18 @@
 // Paragraphs, and the lines that turn them into headings and tables.
 
-ghost use Rattle.std.specs.Prelude.{◌≡◌, length, OnOk, IfOk};
+ghost use Rattle.std.specs.Prelude.{◌≡◌, ◌==◌, length, OnOk, IfOk};
 ghost use Rattle.md_seam.specs.State as state;
 ghost use Rattle.md_seam.specs.Leaves as leaves;
 ghost use Rattle.md_plain.specs.Definitions.{cut_meaning, defined_meaning};
 ghost use Rattle.md_plain.specs.Rests.{rest_meaning};
-ghost use Rattle.md_plain.specs.Trees.{meanings, slices};
+ghost use Rattle.md_plain.specs.Trees.{meaning, meanings, slices};
 ghost use Rattle.md_plain.specs.States.{kept_meaning, kept_meanings, spot_meaning};
-ghost use Rattle.md_plain.specs.Paragraphs.{definitions_of, head_of, table_spot};
+ghost use Rattle.md_plain.specs.Paragraphs.{block_of, definitions_of, head_of, table_spot};
 ghost use Rattle.md_seam.specs.Table as table;
+ghost use Rattle.std.specs.List.{list_all};
 ghost use Rattle.std.specs.Option.{option_map};
 
-use md_engine::configuration::ParseOptions;
-use md_engine::message::Message;
-use std::alloc::Global;
-
+use crate::blocks::{push_block, push_paragraph};
 use crate::bytes::trim;
 use crate::columns::is_small;
 use crate::definition::{Cut, Defined, cut_definitions};
@@ -23,6 +21,9 @@ use crate::rest::Rest;
 use crate::state::{Kept, Leaf, Spot};
 use crate::table::{delimiter_columns, is_head, row_cells};
 use crate::tree::Block;
+use md_engine::configuration::ParseOptions;
+use md_engine::message::Message;
+use std::alloc::Global;
 
 /// The texts of these lines.
 fn texts<'a>(alloc: Global, lines: &[Kept<'a>]) -> Result<Vec<&'a [u8]>, Message>
@@ -43,18 +44,28 @@ fn cut<'a>(alloc: Global, options: &ParseOptions, lines: &[Kept<'a>]) -> Result<
     if options.constructs.definition {
         cut_definitions(alloc, &texts)
     } else {
-        Ok(Cut { definitions: Vec::new(alloc), remaining: texts })
+        Ok(Cut {
+            definitions: Vec::new(alloc),
+            remaining: texts,
+        })
     }
 }
 
-fn push_definitions<'a>(blocks: &mut Vec<Block<'a>>, definitions: Vec<Defined<'a>>) -> Result<(), Message>
+/// The block of a definition.
+fn definition_block<'a>(defined: Defined<'a>) -> Block<'a>
+    ensures { meaning result ≡ block_of (defined_meaning defined.entry) }
+{
+    Block::Definition(defined.label, defined.destination, defined.title)
+}
+
+fn push_definitions<'a>(
+    blocks: &mut Vec<Block<'a>>,
+    definitions: Vec<Defined<'a>>,
+) -> Result<(), Message>
     ensures { OnOk result (meanings blocks.new.items ≡ state.then_definitions (meanings blocks.old.items) (definitions_of definitions.entry.items)) }
 {
     for defined in definitions {
-        memory::push(
-            blocks,
-            Block::Definition(defined.label, defined.destination, defined.title),
-        )?;
+        push_block(blocks, definition_block(defined))?;
     }
     Ok(())
 }
@@ -71,33 +82,50 @@ pub fn shut_paragraph<'a>(
 {
     let cut = cut(alloc, options, lines)?;
     push_definitions(blocks, cut.definitions)?;
-    if !cut.remaining.is_empty() {
-        memory::push(blocks, Block::Paragraph(cut.remaining))?;
-    }
-    Ok(())
+    push_paragraph(blocks, cut.remaining)
 }
 
 /// A line of a paragraph, from the rest that it is.
 pub fn kept<'a>(rest: &Rest<'a>) -> Kept<'a>
     ensures { kept_meaning result ≡ state.kept (rest_meaning rest.now) }
 {
-    Kept { indent: rest.indent(), text: rest.text() }
+    Kept {
+        indent: rest.indent(),
+        text: rest.text(),
+    }
 }
 
 /// An open paragraph with one line more.
-pub fn with_line<'a>(here: Vec<Block<'a>>, lines: Vec<Kept<'a>>, rest: &Rest<'a>) -> Result<Spot<'a>, Message>
+pub fn with_line<'a>(
+    here: Vec<Block<'a>>,
+    lines: Vec<Kept<'a>>,
+    rest: &Rest<'a>,
+) -> Result<Spot<'a>, Message>
     ensures { IfOk result (λ s. spot_meaning s ≡ leaves.with_line (meanings here.entry.items) (kept_meanings lines.entry.items) (rest_meaning rest.now)) }
 {
     let mut lines = lines;
     memory::push(&mut lines, kept(rest))?;
-    Ok(Spot { here, leaf: Leaf::Paragraph(lines) })
+    Ok(Spot {
+        here,
+        leaf: Leaf::Paragraph(lines),
+    })
+}
+
+/// Whether all of these are this byte.
+fn are_all(marker: u8, bytes: &[u8]) -> bool
+    ensures { result ≡ list_all (λ b. b == marker) bytes.now }
+{
+    bytes.iter().all(|byte| *byte == marker)
 }
 
 /// Whether these bytes are this one alone, at least once.
 fn is_run(marker: u8, bytes: &[u8]) -> bool
     ensures { result ≡ leaves.is_run marker bytes.now }
 {
-    !bytes.is_empty() && bytes.iter().all(|byte| *byte == marker)
+    match bytes {
+        [] => false,
+        [_, ..] => are_all(marker, bytes),
+    }
 }
 
 /// The depth of the heading that this line underlines (CommonMark 4.3).
@@ -117,8 +145,36 @@ pub fn underline_depth(options: &ParseOptions, rest: &Rest) -> Option<u8>
     }
 }
 
-/// A paragraph with an underline: what remains after its definitions becomes a heading; an underline with nothing to
-/// underline is an ordinary line.
+/// A paragraph with an underline, and what its definitions leave of it: that becomes a heading; an underline with nothing
+/// to underline is an ordinary line.
+fn underlined_by<'a>(
+    here: Vec<Block<'a>>,
+    lines: Vec<Kept<'a>>,
+    rest: &Rest<'a>,
+    depth: u8,
+    cut: Cut<'a>,
+) -> Result<Spot<'a>, Message>
+    ensures { IfOk result (λ s. spot_meaning s ≡ leaves.underlined_by (meanings here.entry.items) (kept_meanings lines.entry.items) (rest_meaning rest.now) depth (state.then_definitions (meanings here.entry.items) (definitions_of cut.entry.definitions.items)) (slices cut.entry.remaining.items)) }
+{
+    let Cut {
+        definitions,
+        remaining,
+    } = cut;
+    match remaining.as_slice() {
+        [] => with_line(here, lines, rest),
+        [_, ..] => {
+            let mut here = here;
+            push_definitions(&mut here, definitions)?;
+            push_block(&mut here, Block::Heading(depth, remaining))?;
+            Ok(Spot {
+                here,
+                leaf: Leaf::None,
+            })
+        }
+    }
+}
+
+/// A paragraph with an underline.
 #[tactic(auto, unfolding(md_seam::specs::Leaves::underlined))]
 pub fn underlined<'a>(
     alloc: Global,
@@ -131,13 +187,7 @@ pub fn underlined<'a>(
     ensures { IfOk result (λ s. spot_meaning s ≡ leaves.underlined options.now (meanings here.entry.items) (kept_meanings lines.entry.items) (rest_meaning rest.now) depth) }
 {
     let cut = cut(alloc, options, &lines)?;
-    if cut.remaining.is_empty() {
-        return with_line(here, lines, rest);
-    }
-    let mut here = here;
-    push_definitions(&mut here, cut.definitions)?;
-    memory::push(&mut here, Block::Heading(depth, cut.remaining))?;
-    Ok(Spot { here, leaf: Leaf::None })
+    underlined_by(here, lines, rest, depth, cut)
 }
 
 /// Whether this line is the head of a table of so many columns.
@@ -186,5 +236,8 @@ pub fn with_table<'a>(
     shut_paragraph(alloc, options, &mut here, earlier)?;
     let mut rows = Vec::new(alloc);
     memory::push(&mut rows, cells)?;
-    Ok(Spot { here, leaf: Leaf::Table(trim(rest.bytes), rows) })
+    Ok(Spot {
+        here,
+        leaf: Leaf::Table(trim(rest.bytes), rows),
+    })
 }

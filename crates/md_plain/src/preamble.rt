@@ -1,22 +1,24 @@
 // What stands before the body of a text: a byte order mark, and frontmatter (own choice: CommonMark knows neither).
 
-ghost use Rattle.std.specs.Prelude.{◌≡◌, IfOk};
+ghost use Rattle.std.specs.Prelude.{◌≡◌, ◌≤◌, not, length, IfOk};
+ghost use Rattle.std.specs.List.{list_any, prefix_len};
 ghost use Rattle.md_seam.specs.Preamble as preamble;
-
-use md_engine::configuration::ParseOptions;
-use md_engine::message::Message;
-use std::alloc::Global;
+ghost use Rattle.md_plain.specs.Trees.{slices};
+ghost use Rattle.md_plain.specs.Fronts as fronts;
 
 use crate::bytes::{is_blank, run_len};
 use crate::memory;
 use crate::rest::Rest;
 use crate::tree::Block;
+use md_engine::configuration::ParseOptions;
+use md_engine::message::Message;
+use std::alloc::Global;
 
-/// Frontmatter, and how many lines it takes with its fences.
+/// Frontmatter, and the lines after it.
 #[derive(Drop)]
-pub struct Front<'a> {
+pub struct Front<'a, 'b> {
     pub block: Block<'a>,
-    pub lines: usize,
+    pub after: &'b [Rest<'a>],
 }
 
 /// Whether the text begins with the bytes EF BB BF.
@@ -46,14 +48,43 @@ fn front_marker(line: &[u8]) -> Option<u8>
     }
 }
 
+/// Whether a fence with this marker is among these lines.
+fn has_fence(marker: u8, rests: &[Rest]) -> bool
+    ensures { result ≡ list_any (λ x. preamble.is_front_fence marker x.bytes.now) rests.now }
+{
+    rests.iter().any(|rest| is_front_fence(marker, rest.bytes))
+}
+
+/// How many lines stand before the first fence with this marker.
+fn lines_before_fence(marker: u8, rests: &[Rest]) -> usize
+    ensures value { result ≡ prefix_len (λ x. not (preamble.is_front_fence marker x.bytes.now)) rests.now }
+    ensures bound { result ≤ length rests.now }
+{
+    rests
+        .iter()
+        .take_while(|rest| !is_front_fence(marker, rest.bytes))
+        .count()
+}
+
+/// The bytes of these lines.
+fn lines_in<'a>(alloc: Global, rests: &[Rest<'a>]) -> Result<Vec<&'a [u8]>, Message>
+    ensures { IfOk result (λ v. slices v.items ≡ fronts.lines_in rests.now) }
+{
+    let mut lines = Vec::new(alloc);
+    for rest in rests {
+        memory::push(&mut lines, rest.bytes)?;
+    }
+    Ok(lines)
+}
+
 /// The frontmatter at the front of these lines: the first later fence with the marker of the first line closes it, and
 /// without one there is none.
-pub fn front_of<'a>(
+pub fn front_of<'a, 'b>(
     alloc: Global,
     options: &ParseOptions,
-    rests: &[Rest<'a>],
-) -> Result<Option<Front<'a>>, Message> {
-    let Some((first, later)) = rests.split_first() else {
+    rests: &'b [Rest<'a>],
+) -> Result<Option<Front<'a, 'b>>, Message> {
+    let [first, later @ ..] = rests else {
         return Ok(None);
     };
     if !options.constructs.frontmatter {
@@ -62,15 +93,16 @@ pub fn front_of<'a>(
     let Some(marker) = front_marker(first.bytes) else {
         return Ok(None);
     };
-    let Some(count) = later.iter().position(|rest| is_front_fence(marker, rest.bytes)) else {
+    if !has_fence(marker, later) {
         return Ok(None);
-    };
-    let mut lines = Vec::new(alloc);
-    for rest in later.split_at(count).0 {
-        memory::push(&mut lines, rest.bytes)?;
     }
-    Ok(Some(Front {
-        block: Block::Frontmatter(marker, lines),
-        lines: count + 2,
-    }))
+    let (inside, behind) = later.split_at(lines_before_fence(marker, later));
+    let lines = lines_in(alloc, inside)?;
+    match behind {
+        [_, after @ ..] => Ok(Some(Front {
+            block: Block::Frontmatter(marker, lines),
+            after,
+        })),
+        [] => Ok(None),
+    }
 }

@@ -2,11 +2,10 @@
 
 ghost use Rattle.std.specs.Prelude.{◌≡◌, ◌+◌, ◌*◌, ◌^◌, ◌≤◌, length};
 
-use md_engine::configuration::ParseOptions;
-
 use crate::bytes::trim_start;
 use crate::columns::{is_small, tab_columns, white_columns};
 use crate::tree::Line;
+use md_engine::configuration::ParseOptions;
 
 /// What no prefix of a line has taken.
 #[derive(Clone, Copy, Debug, PartialEq, Eq)]
@@ -46,11 +45,23 @@ impl<'a> Rest<'a> {
         ensures { rest_meaning result ≡ rest.without_column self.now.column self.now.spaces self.now.bytes.now }
     {
         if self.spaces > 0 {
-            return Rest { column: self.column + 1, spaces: self.spaces - 1, bytes: self.bytes };
+            return Rest {
+                column: self.column + 1,
+                spaces: self.spaces - 1,
+                bytes: self.bytes,
+            };
         }
         match self.bytes {
-            [b'\t', bytes @ ..] => Rest { column: self.column + 1, spaces: tab_columns(self.column) - 1, bytes },
-            [b' ', bytes @ ..] => Rest { column: self.column + 1, spaces: 0, bytes },
+            [b'\t', bytes @ ..] => Rest {
+                column: self.column + 1,
+                spaces: tab_columns(self.column) - 1,
+                bytes,
+            },
+            [b' ', bytes @ ..] => Rest {
+                column: self.column + 1,
+                spaces: 0,
+                bytes,
+            },
             _ => *self,
         }
     }
@@ -82,14 +93,21 @@ impl<'a> Rest<'a> {
         requires { count ≤ length self.now.bytes.now }
         ensures { rest_meaning result ≡ rest.behind count (rest_meaning self.now) }
     {
-        Rest { column: self.column + count, spaces: 0, bytes: self.bytes.split_at(count).1 }
+        Rest {
+            column: self.column + count,
+            spaces: 0,
+            bytes: self.bytes.split_at(count).1,
+        }
     }
 
     /// As a line of code, HTML or math.
     pub fn line(&self) -> Line<'a>
         ensures { line_meaning result ≡ rest.line_of (rest_meaning self.now) }
     {
-        Line { spaces: self.spaces, text: self.bytes }
+        Line {
+            spaces: self.spaces,
+            text: self.bytes,
+        }
     }
 
     /// Its text, behind its leading spaces and tabs.

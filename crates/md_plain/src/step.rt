@@ -1,30 +1,30 @@
 // The step of one line: what is open after it (CommonMark, appendix).
 
-ghost use Rattle.std.specs.Prelude.{◌≡◌, ◌<◌, length, take, drop, is_some, IfOk};
+ghost use Rattle.std.specs.Prelude.{◌≡◌, length, is_some, IfOk};
 ghost use Rattle.md_seam.specs.Tree.{End};
 ghost use Rattle.md_seam.specs.State as state;
 ghost use Rattle.md_seam.specs.Step as definition;
 ghost use Rattle.md_plain.specs.Rests.{rest_meaning};
 ghost use Rattle.md_plain.specs.Trees.{meanings};
-ghost use Rattle.md_plain.specs.States.{kept_meanings, leaf_meaning, spot_meaning, container_meaning, came_meaning, taken_meaning, path_meaning, within};
-ghost use Rattle.md_plain.specs.Steps.{stopped_at};
+ghost use Rattle.md_plain.specs.States.{leaf_meaning, spot_meaning, came_meaning, taken_meaning, path_meaning, within};
 
-use md_engine::configuration::ParseOptions;
-use md_engine::message::Message;
-use std::alloc::Global;
-
+use crate::blocks::push_block;
 use crate::bytes::is_blank;
 use crate::close::{close_to, shut};
 use crate::containers::{continues, opens};
 use crate::leaves::{Went, goes_on, starts};
 use crate::memory;
-use crate::paragraph::{head_cells, kept, shut_paragraph, underline_depth, underlined, with_line, with_table};
+use crate::paragraph::{
+    head_cells, kept, shut_paragraph, underline_depth, underlined, with_line, with_table,
+};
 use crate::rest::Rest;
 use crate::state::{Against, Came, Frame, Kept, Leaf, Path, Spot, Taken};
 use crate::tree::Block;
+use md_engine::configuration::ParseOptions;
+use md_engine::message::Message;
+use std::alloc::Global;
 
 /// What a leaf came to, behind these blocks.
-#[tactic(auto, using(crate::proofs::TreeLemmas::meanings_push))]
 fn came<'a>(here: Vec<Block<'a>>, came: Came<'a>) -> Result<Spot<'a>, Message>
     ensures { IfOk result (λ s. spot_meaning s ≡ definition.came (meanings here.entry.items) (came_meaning came.entry)) }
 {
@@ -32,8 +32,11 @@ fn came<'a>(here: Vec<Block<'a>>, came: Came<'a>) -> Result<Spot<'a>, Message>
         Came::Opened(leaf) => Ok(Spot { here, leaf }),
         Came::Finished(block) => {
             let mut here = here;
-            memory::push(&mut here, block)?;
-            Ok(Spot { here, leaf: Leaf::None })
+            push_block(&mut here, block)?;
+            Ok(Spot {
+                here,
+                leaf: Leaf::None,
+            })
         }
     }
 }
@@ -49,7 +52,10 @@ fn fresh_line<'a>(
     ensures { IfOk result (λ s. spot_meaning s ≡ definition.fresh_line options.now (meanings here.entry.items) (rest_meaning rest.now)) }
 {
     if is_blank(rest.bytes) {
-        return Ok(Spot { here, leaf: Leaf::None });
+        return Ok(Spot {
+            here,
+            leaf: Leaf::None,
+        });
     }
     match starts(alloc, options, Against::NoText, rest)? {
         Some(started) => came(here, started),
@@ -59,20 +65,20 @@ fn fresh_line<'a>(
 
 /// A rest where a paragraph is open: a blank one closes it. Otherwise it is an underline, another leaf, a delimiter row
 /// or a line of the paragraph.
-#[tactic(auto, unfolding(md_seam::specs::Step::text_line, md_seam::specs::Leaves::table_at))]
 fn text_line<'a>(
     alloc: Global,
     options: &ParseOptions,
     here: Vec<Block<'a>>,
     lines: Vec<Kept<'a>>,
     rest: &Rest<'a>,
-) -> Result<Spot<'a>, Message>
-    ensures { IfOk result (λ s. spot_meaning s ≡ definition.text_line options.now (meanings here.entry.items) (kept_meanings lines.entry.items) (rest_meaning rest.now)) }
-{
+) -> Result<Spot<'a>, Message> {
     let mut here = here;
     if is_blank(rest.bytes) {
         shut_paragraph(alloc, options, &mut here, &lines)?;
-        return Ok(Spot { here, leaf: Leaf::None });
+        return Ok(Spot {
+            here,
+            leaf: Leaf::None,
+        });
     }
     if let Some(depth) = underline_depth(options, rest) {
         return underlined(alloc, options, here, lines, rest, depth);
@@ -95,9 +101,7 @@ fn leaf_line<'a>(
     options: &ParseOptions,
     spot: Spot<'a>,
     rest: &Rest<'a>,
-) -> Result<Spot<'a>, Message>
-    ensures { IfOk result (λ s. spot_meaning s ≡ definition.leaf_line options.now (spot_meaning spot.entry) (rest_meaning rest.now)) }
-{
+) -> Result<Spot<'a>, Message> {
     let Spot { here, leaf } = spot;
     match leaf {
         Leaf::None => fresh_line(alloc, options, here, rest),
@@ -127,7 +131,13 @@ fn open_all<'a>(
         let Some(next) = opens(options, false, &left) else {
             return Ok((frames, left));
         };
-        memory::push(&mut frames, Frame { before: Vec::new(alloc), container: next.container })?;
+        memory::push(
+            &mut frames,
+            Frame {
+                before: Vec::new(alloc),
+                container: next.container,
+            },
+        )?;
         left = next.rest;
     }
     Ok((frames, left))
@@ -144,22 +154,25 @@ fn enter<'a>(
     ensures { IfOk result (λ p. path_meaning p ≡ within frames.entry.items (definition.entered options.now (meanings here.entry.items) (taken_meaning taken.entry))) }
 {
     let mut frames = frames;
-    memory::push(&mut frames, Frame { before: here, container: taken.container })?;
+    memory::push(
+        &mut frames,
+        Frame {
+            before: here,
+            container: taken.container,
+        },
+    )?;
     let (frames, rest) = open_all(alloc, options, frames, taken.rest)?;
     let spot = fresh_line(alloc, options, Vec::new(alloc), &rest)?;
     Ok(Path { frames, spot })
 }
 
 /// All containers continued.
-#[tactic(auto, unfolding(md_seam::specs::Step::all_continued))]
 fn all_continued<'a>(
     alloc: Global,
     options: &ParseOptions,
     path: Path<'a>,
     rest: &Rest<'a>,
-) -> Result<Path<'a>, Message>
-    ensures { IfOk result (λ p. path_meaning p ≡ within path.entry.frames.items (definition.all_continued options.now (spot_meaning path.entry.spot) (rest_meaning rest.now))) }
-{
+) -> Result<Path<'a>, Message> {
     let Path { frames, spot } = path;
     let opened = match spot.leaf {
         Leaf::Fence(_, _) | Leaf::Html(_, _) => None,
@@ -179,7 +192,12 @@ fn all_continued<'a>(
 }
 
 /// Whether an open paragraph takes this lazy line (CommonMark 5.1, "laziness").
-fn takes_lazy<'a>(alloc: Global, options: &ParseOptions, leaf: &Leaf<'a>, rest: &Rest<'a>) -> Result<bool, Message>
+fn takes_lazy<'a>(
+    alloc: Global,
+    options: &ParseOptions,
+    leaf: &Leaf<'a>,
+    rest: &Rest<'a>,
+) -> Result<bool, Message>
     ensures { IfOk result (λ b. b ≡ is_some (definition.with_lazy options.now (leaf_meaning leaf.now) (rest_meaning rest.now))) }
 {
     match leaf {
@@ -191,17 +209,13 @@ fn takes_lazy<'a>(alloc: Global, options: &ParseOptions, leaf: &Leaf<'a>, rest: 
 }
 
 /// The container behind so many others does not continue.
-#[tactic(auto, unfolding(md_seam::specs::Step::stopped))]
 fn stopped<'a>(
     alloc: Global,
     options: &ParseOptions,
     path: Path<'a>,
     count: usize,
     rest: &Rest<'a>,
-) -> Result<Path<'a>, Message>
-    requires { count < length path.frames.items }
-    ensures { IfOk result (λ p. path_meaning p ≡ within (take count path.entry.frames.items) (stopped_at options.now (drop count path.entry.frames.items) (spot_meaning path.entry.spot) (rest_meaning rest.now))) }
-{
+) -> Result<Path<'a>, Message> {
     if let Some(taken) = opens(options, false, rest) {
         let (frames, here) = close_to(alloc, options, path, count)?;
         return enter(alloc, options, frames, here, taken);
@@ -231,9 +245,7 @@ pub fn step<'a>(
     options: &ParseOptions,
     path: Path<'a>,
     rest: &Rest<'a>,
-) -> Result<Path<'a>, Message>
-    ensures { IfOk result (λ p. path_meaning p ≡ definition.step options.now (path_meaning path.entry) (rest_meaning rest.now)) }
-{
+) -> Result<Path<'a>, Message> {
     let mut path = path;
     let mut rest = *rest;
     for index in 0..path.frames.len() {

@@ -4,12 +4,11 @@ ghost use Rattle.std.specs.List.{list_any, list_all};
 ghost use Rattle.md_seam.specs.Table as table;
 ghost use Rattle.md_plain.specs.Pieces.{piece_len};
 
-use md_engine::message::Message;
-use std::alloc::Global;
-
 use crate::ahead::{after_optional, begins_with};
 use crate::bytes::{run_len, trim};
 use crate::memory;
+use md_engine::message::Message;
+use std::alloc::Global;
 
 /// How many bytes of a row stand before its first pipe that no backslash takes.
 fn piece_len(row: &[u8]) -> usize
@@ -49,7 +48,8 @@ fn is_delimiter(cell: &[u8]) -> bool
     ensures { result ≡ table.is_delimiter cell.now }
 {
     let dashes = after_optional(b':', cell);
-    begins_with(b'-', dashes) && after_optional(b':', dashes.split_at(run_len(b'-', dashes)).1).is_empty()
+    begins_with(b'-', dashes)
+        && after_optional(b':', dashes.split_at(run_len(b'-', dashes)).1).is_empty()
 }
 
 /// Whether these are cells of a delimiter row.

@@ -1,13 +1,12 @@
 // Worked texts and their outlines, as the program `blocks` prints them.
 
+use crate::meaning::tree;
+use crate::memory;
+use crate::outline_lines::outline;
 use md_engine::configuration::{Constructs, ParseOptions};
 use md_engine::message::Message;
 use md_seam::outline::{OutlineLine, Word};
 use std::alloc::Global;
-
-use crate::meaning::tree;
-use crate::memory;
-use crate::outline_lines::outline;
 
 const EXTENDED: ParseOptions = ParseOptions {
     constructs: Constructs {
@@ -36,8 +35,14 @@ fn push_entry(out: &mut Vec<u8>, line: &OutlineLine) -> Result<(), Message> {
         Word::Heading(_) => ("heading ", None),
         Word::Break => ("break", None),
         Word::Code => ("code", None),
-        Word::Fence { marker, closed: true } => ("fence ", Some(marker)),
-        Word::Fence { marker, closed: false } => ("open fence ", Some(marker)),
+        Word::Fence {
+            marker,
+            closed: true,
+        } => ("fence ", Some(marker)),
+        Word::Fence {
+            marker,
+            closed: false,
+        } => ("open fence ", Some(marker)),
         Word::Math { closed: true } => ("math", None),
         Word::Math { closed: false } => ("math open", None),
         Word::Html => ("html", None),
@@ -74,8 +79,7 @@ fn printed(alloc: Global, text: &str, options: &ParseOptions) -> Result<Vec<u8>,
     if text.len() > 1_000_000 {
         return Ok(out);
     }
-    let blocks = tree(alloc, text, options)?;
-    for line in &outline(alloc, &blocks)? {
+    for line in &outline(alloc, &tree(alloc, text, options)?)? {
         push_entry(&mut out, line)?;
     }
     Ok(out)
@@ -85,25 +89,61 @@ fn printed(alloc: Global, text: &str, options: &ParseOptions) -> Result<Vec<u8>,
 fn commonmark_rows(rt: HostRuntime) {
     let rows = [
         ("a\n=\n---", "heading 1\n  | a\nbreak\n"),
-        ("> a\n> =\nb", "quote\n  heading 1\n    | a\nparagraph\n  | b\n"),
-        ("> # a\nb", "quote\n  heading 1\n    | a\nparagraph\n  | b\n"),
+        (
+            "> a\n> =\nb",
+            "quote\n  heading 1\n    | a\nparagraph\n  | b\n",
+        ),
+        (
+            "> # a\nb",
+            "quote\n  heading 1\n    | a\nparagraph\n  | b\n",
+        ),
         ("> a\nb", "quote\n  paragraph\n    | a\n    | b\n"),
-        ("> > a\n> b", "quote\n  quote\n    paragraph\n      | a\n      | b\n"),
-        ("> a\n2. b", "quote\n  paragraph\n    | a\nlist .\n  item\n    paragraph\n      | b\n"),
+        (
+            "> > a\n> b",
+            "quote\n  quote\n    paragraph\n      | a\n      | b\n",
+        ),
+        (
+            "> a\n2. b",
+            "quote\n  paragraph\n    | a\nlist .\n  item\n    paragraph\n      | b\n",
+        ),
         ("a\n2. b", "paragraph\n  | a\n  | 2. b\n"),
         ("-\n\n  a", "list -\n  item\nparagraph\n  | a\n"),
-        ("- a\n\nb\n    c", "list -\n  item\n    paragraph\n      | a\nparagraph\n  | b\n  | c\n"),
-        ("a\n>     b\n>     c", "paragraph\n  | a\nquote\n  code\n    | b\n    | c\n"),
+        (
+            "- a\n\nb\n    c",
+            "list -\n  item\n    paragraph\n      | a\nparagraph\n  | b\n  | c\n",
+        ),
+        (
+            "a\n>     b\n>     c",
+            "paragraph\n  | a\nquote\n  code\n    | b\n    | c\n",
+        ),
         ("```\na\n", "open fence `\n  | a\n"),
-        ("-\ta\n\n  b", "list -\n  item\n    paragraph\n      | a\nparagraph\n  | b\n"),
+        (
+            "-\ta\n\n  b",
+            "list -\n  item\n    paragraph\n      | a\nparagraph\n  | b\n",
+        ),
         ("# # #", "heading 1\n  | #\n"),
-        ("~~~css\n* { color: tomato }\n~~~", "fence ~\n  info | css\n  | * { color: tomato }\n"),
+        (
+            "~~~css\n* { color: tomato }\n~~~",
+            "fence ~\n  info | css\n  | * { color: tomato }\n",
+        ),
         (">\t\ta", "quote\n  code\n    |   a\n"),
-        ("- a\n+ b", "list -\n  item\n    paragraph\n      | a\nlist +\n  item\n    paragraph\n      | b\n"),
-        ("    a\n      \n    b\n    \n", "code\n  | a\n  |   \n  | b\n"),
+        (
+            "- a\n+ b",
+            "list -\n  item\n    paragraph\n      | a\nlist +\n  item\n    paragraph\n      | b\n",
+        ),
+        (
+            "    a\n      \n    b\n    \n",
+            "code\n  | a\n  |   \n  | b\n",
+        ),
         ("a\r\n\rb", "paragraph\n  | a\nparagraph\n  | b\n"),
-        ("+ + +", "list +\n  item\n    list +\n      item\n        list +\n          item\n"),
-        ("1.\ta\n\n\tb", "list .\n  item\n    paragraph\n      | a\n    paragraph\n      | b\n"),
+        (
+            "+ + +",
+            "list +\n  item\n    list +\n      item\n        list +\n          item\n",
+        ),
+        (
+            "1.\ta\n\n\tb",
+            "list .\n  item\n    paragraph\n      | a\n    paragraph\n      | b\n",
+        ),
         (
             ">>>\n***\n+\n-",
             "quote\n  quote\n    quote\nbreak\nlist +\n  item\nlist -\n  item\n",
@@ -111,7 +151,11 @@ fn commonmark_rows(rt: HostRuntime) {
     ];
     for (text, outline) in &rows {
         let printed = printed(rt.alloc(), text, &ParseOptions::COMMONMARK);
-        assert!(rt; matches!(printed, Ok(ref bytes) if bytes.as_slice() == outline.as_bytes()), "{}", text);
+        assert!(rt;
+            matches!(printed, Ok(ref bytes) if bytes.as_slice() == outline.as_bytes()),
+            "{}",
+            text
+        );
     }
 }
 
@@ -123,10 +167,17 @@ fn extended_rows(rt: HostRuntime) {
         ("\u{feff}---\n---", "frontmatter -\n"),
         ("$$", "math open\n"),
         ("$$a b\n$\n$$$", "math\n  meta | a b\n  | $\n"),
-        ("[^a]: b\n\n    c\nd", "footnote\n  label | a\n  paragraph\n    | b\n  paragraph\n    | c\n    | d\n"),
+        (
+            "[^a]: b\n\n    c\nd",
+            "footnote\n  label | a\n  paragraph\n    | b\n  paragraph\n    | c\n    | d\n",
+        ),
     ];
     for (text, outline) in &rows {
         let printed = printed(rt.alloc(), text, &EXTENDED);
-        assert!(rt; matches!(printed, Ok(ref bytes) if bytes.as_slice() == outline.as_bytes()), "{}", text);
+        assert!(rt;
+            matches!(printed, Ok(ref bytes) if bytes.as_slice() == outline.as_bytes()),
+            "{}",
+            text
+        );
     }
 }

@@ -34,3 +34,11 @@ pub enum Block<'a> {
     /// The delimiter row without outer whitespace, and the cells of each row, the head first.
     Table(&'a [u8], Vec<Vec<&'a [u8]>>),
 }
+
+/// The block tree of a text.
+#[derive(Drop)]
+pub struct Tree<'a> {
+    pub frontmatter: Option<Block<'a>>,
+    /// The blocks of the body, at the root.
+    pub blocks: Vec<Block<'a>>,
+}

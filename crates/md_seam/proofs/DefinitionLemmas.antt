@@ -1,5 +1,5 @@
 -- What follows a definition is fewer lines, so there is an end to definitions.
-use Rattle.std.proofs.Common.{◌≡◌, ℕ, zero, suc, ◌<◌, ◌≤◌, Bool, true, false, ◌==◌, if◌then◌else◌, List, [], ◌∷◌, length, Option, Some, None, refl, ap, ◌∙◌, arith}
+use Rattle.std.proofs.Common.{◌≡◌, ℕ, zero, suc, ◌<◌, ◌≤◌, Bool, true, false, if◌then◌else◌, List, [], ◌∷◌, length, Option, Some, None, refl, ap, ◌∙◌, arith}
 use Rattle.md_seam.specs.Lines.{begins_with}
 use Rattle.md_seam.specs.Bytes.{after_optional}
 use Rattle.md_seam.specs.Rest.{is_blank, is_parted, trim_start}

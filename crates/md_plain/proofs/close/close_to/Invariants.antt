@@ -7,10 +7,10 @@ use Rattle.md_plain.proofs.close.close_to.Given as goal
 
 abbrev pub invariant-loop-frames : goal.invariant-loop-frames
 invariant-loop-frames l = record {
-    outer : take l.count l.frames.items ≡ take l.count l.fn.path.frames.items;
-    blocks : closed l.options (within (drop l.count l.frames.items) (At (spot_of (meanings l.here.items))))
-        ≡ closed l.options (within (drop l.count l.fn.path.frames.items) (At (spot_meaning l.fn.path.spot)))
-  }
+  outer : take l.count l.frames.items ≡ take l.count l.fn.path.frames.items;
+  blocks : closed l.options (within (drop l.count l.frames.items) (At (spot_of (meanings l.here.items))))
+      ≡ closed l.options (within (drop l.count l.fn.path.frames.items) (At (spot_meaning l.fn.path.spot)));
+}
 
 abbrev pub decreases-loop-frames : goal.decreases-loop-frames
 decreases-loop-frames l = length l.frames.items

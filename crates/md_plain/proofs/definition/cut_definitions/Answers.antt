@@ -1,4 +1,4 @@
-use Rattle.std.proofs.Common.{◌≡◌, ◌∙◌, map, drop, sym, ap, append-nil, arith}
+use Rattle.std.proofs.Common.{◌∙◌, map, drop, sym, ap, append-nil, arith}
 use Rattle.md_plain.specs.Definitions.{texts, defined_meaning}
 use Rattle.md_plain.proofs.DefinitionLemmas.{with_definitions, with_definitions-push, definition-smaller, definition-more, definition-none, texts-moved}
 use Rattle.md_plain.proofs.definition.cut_definitions.Goals as goal

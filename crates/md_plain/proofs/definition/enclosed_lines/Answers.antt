@@ -1,7 +1,6 @@
-use Rattle.std.proofs.Common.{◌≡◌, ◌∙◌, ◌+◌, [], ◌∷◌, List, ℕ, Bor, drop, get_or, sym, ap, refl, arith}
-use Rattle.md_seam.specs.Enclosed.{enclosed_lines}
+use Rattle.std.proofs.Common.{◌≡◌, ◌∙◌, ◌+◌, [], ◌∷◌, drop, get_or, sym, arith}
 use Rattle.md_plain.specs.Definitions.{texts}
-use Rattle.md_plain.proofs.DefinitionLemmas.{with_lines, with_lines-closed, with_lines-broken, with_lines-open, with_lines-end, texts-push, texts-drop, texts-drop_all}
+use Rattle.md_plain.proofs.DefinitionLemmas.{with_lines-closed, with_lines-broken, with_lines-open, with_lines-end, texts-push, texts-drop, texts-drop_all}
 use Rattle.md_plain.proofs.definition.enclosed_lines.Goals as goal
 
 pub returns-in-Broken : goal.returns-in-Broken

@@ -1,4 +1,4 @@
-use Rattle.std.proofs.Common.{◌≡◌, ◌∙◌, sym}
+use Rattle.std.proofs.Common.{sym}
 use Rattle.md_plain.proofs.DefinitionLemmas.{TextIn-whole, TextIn-closed, TextIn-broken, TextIn-open, TextIn-byte}
 use Rattle.md_plain.proofs.definition.up_to_mark.Goals as goal
 

@@ -6,5 +6,5 @@ use Rattle.md_plain.proofs.step.open_all.Given as goal
 
 abbrev pub invariant-loop-count : goal.invariant-loop-count
 invariant-loop-count l =
-    within l.frames.items (opened l.options (length l.rest.bytes - l.count) (rest_meaning l.left))
-        ≡ within l.fn.frames.items (opened l.options (length l.rest.bytes) (rest_meaning l.rest))
+    within l.frames.items (opened l.options (length l.rest.bytes.now - l.count) (rest_meaning l.left))
+    ≡ within l.fn.frames.items (opened l.options (length l.rest.bytes.now) (rest_meaning l.rest))

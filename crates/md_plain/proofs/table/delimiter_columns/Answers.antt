@@ -1,4 +1,4 @@
-use Rattle.std.proofs.Common.{◌≡◌, ◌||◌, ◌==◌, true, false, length, Some, refl, rules}
+use Rattle.std.proofs.Common.{◌≡◌, ◌||◌, ◌==◌, true, false, length, refl, rules}
 use Rattle.std.specs.List.{list_any, list_all}
 use Rattle.std.proofs.lemmas.List.{length-map}
 use Rattle.std.proofs.lemmas.List.Folds.{list_all-map}
@@ -17,8 +17,9 @@ returns-then-are_delimiters c =
 pub returns : goal.returns
 unfolding delimiter_columns
 returns c = rw (← c.in_ok-cells.ensures, list_all-map) (elim c.else-has_mark.branch [
-    else-has_mark-via-then-has_mark+else-are_delimiters w ↦
+  | else-has_mark-via-then-has_mark+else-are_delimiters w ↦
       let marked : list_any (λ b. (b == 58) || (b == 124)) c.args.row.now ≡ true = cc in
       let all : list_all (λ y. is_delimiter y.now) c.in_ok-cells.cells.items ≡ false = cc in
       rw (marked, all) refl
-  | else-has_mark-via-else-has_mark w ↦ (let marked : list_any (λ b. (b == 58) || (b == 124)) c.args.row.now ≡ false = cc in rw marked refl) ])
+  | else-has_mark-via-else-has_mark w ↦ (let marked : list_any (λ b. (b == 58) || (b == 124)) c.args.row.now ≡ false = cc in rw marked refl)
+])
