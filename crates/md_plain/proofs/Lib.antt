@@ -6,3 +6,4 @@ pub mod TreeLemmas
 pub mod LabelLemmas
 pub mod PathLemmas
 pub mod ParagraphLemmas
+pub mod WordLemmas

@@ -4,5 +4,7 @@ pub mod States
 pub mod Markers
 pub mod Pieces
 pub mod Definitions
+pub mod Words
 pub mod Paragraphs
+pub mod Labels
 pub mod Fronts

@@ -22,6 +22,9 @@ pub mod rest;
 pub mod state;
 pub mod step;
 pub mod table;
+pub mod tree;
+
+#[cfg(test)]
+mod grammar_tests;
 #[cfg(test)]
 mod tests;
-pub mod tree;
