@@ -8,6 +8,8 @@ pub mod close;
 pub mod columns;
 pub mod containers;
 pub mod definition;
+#[cfg(test)]
+mod grammar_tests;
 pub mod grouped;
 pub mod html;
 pub mod label;
@@ -22,9 +24,6 @@ pub mod rest;
 pub mod state;
 pub mod step;
 pub mod table;
-pub mod tree;
-
-#[cfg(test)]
-mod grammar_tests;
 #[cfg(test)]
 mod tests;
+pub mod tree;
