@@ -5,6 +5,6 @@ pub mod Markers
 pub mod Pieces
 pub mod Definitions
 pub mod Paragraphs
+pub mod Labels
 pub mod Fronts
 pub mod Words
-pub mod Labels

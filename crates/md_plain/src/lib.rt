@@ -8,6 +8,8 @@ pub mod close;
 pub mod columns;
 pub mod containers;
 pub mod definition;
+#[cfg(test)]
+mod grammar_tests;
 pub mod grouped;
 pub mod html;
 pub mod label;

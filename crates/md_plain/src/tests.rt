@@ -162,6 +162,28 @@ fn commonmark_rows(rt: HostRuntime) {
 #[test]
 fn extended_rows(rt: HostRuntime) {
     let rows = [
+        (
+            "> a\nb | c\n> --|--",
+            "quote\n  paragraph\n    | a\n  table\n    row\n      cell | b\n      cell | c\n    delimiter | --|--\n",
+        ),
+        (
+            "[a]:b\n:-",
+            "table\n  row\n    cell | [a]:b\n  delimiter | :-\n",
+        ),
+        (
+            "a | b\n-|-\n|",
+            "table\n  row\n    cell | a\n    cell | b\n  delimiter | -|-\n  row\n    cell | \n",
+        ),
+        (
+            "[a]: b\n=\nc\n=",
+            "definition\n  label | a\n  destination | b\nheading 1\n  | =\n  | c\n",
+        ),
+        (
+            "> [a\n> b]: c",
+            "quote\n  definition\n    label | a\n    label | b\n    destination | c\n",
+        ),
+        ("<!--\n\n> a", "html\n  | <!--\n  | \n  | > a\n"),
+        ("> a\n<x>", "quote\n  paragraph\n    | a\nhtml\n  | <x>\n"),
         ("---\nx: 1\n---", "frontmatter -\n  | x: 1\n"),
         ("---\nx: 1", "break\nparagraph\n  | x: 1\n"),
         ("\u{feff}---\n---", "frontmatter -\n"),
@@ -180,4 +202,26 @@ fn extended_rows(rt: HostRuntime) {
             text
         );
     }
+}
+
+#[test]
+fn nests_a_thousand_quotes(rt: HostRuntime) {
+    let alloc = rt.alloc();
+    let mut bytes = Vec::new(alloc);
+    for _ in 0..1000 {
+        assert!(rt; memory::push(&mut bytes, b'>').is_ok());
+    }
+    assert!(rt; memory::push(&mut bytes, b'a').is_ok());
+    let text = str::from_utf8(&bytes).unwrap_or("");
+    assert!(rt; text.len() == 1001);
+    let Ok(tree) = tree(alloc, text, &ParseOptions::COMMONMARK) else {
+        assert!(rt; false, "no tree");
+        return;
+    };
+    let Ok(outline) = outline(alloc, &tree) else {
+        assert!(rt; false, "no outline");
+        return;
+    };
+    assert!(rt; outline.len() == 1002);
+    assert!(rt; matches!(outline.last(), Some(line) if line.depth == 1001));
 }
