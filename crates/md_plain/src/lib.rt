@@ -25,7 +25,5 @@ pub mod state;
 pub mod step;
 pub mod table;
 #[cfg(test)]
-mod grammar_tests;
-#[cfg(test)]
 mod tests;
 pub mod tree;
