@@ -102,3 +102,6 @@ pub fn outline<'a>(
     }
     Ok(reading.lines)
 }
+
+#[cfg(test)]
+mod tests;

@@ -1,0 +1,34 @@
+-- What the program makes of options and of texts.
+use Rattle.std.specs.Prelude.{◌≡◌, ℕ, false, List, []}
+use Rattle.md_engine.specs.declared.configuration.ParseOptions.{ParseOptions}
+use Rattle.md_program.specs.Listing.{Listing}
+
+-- what is asked for, as far as it is there: breaks alone
+abbrev pub built_from : ParseOptions → ParseOptions
+built_from options = record {
+  constructs = record {
+    block_quote = false;
+    code_fenced = false;
+    code_indented = false;
+    definition = false;
+    frontmatter = false;
+    gfm_footnote_definition = false;
+    gfm_table = false;
+    heading_atx = false;
+    heading_setext = false;
+    html_flow = false;
+    list_item = false;
+    math_flow = false;
+    thematic_break = options.constructs.thematic_break;
+    mdx_esm = false;
+    mdx_expression_flow = false;
+    mdx_expression_text = false;
+    mdx_jsx_flow = false;
+    mdx_jsx_text = false;
+  };
+}
+
+-- the labels of a text in its listing: there are no definitions, so none
+pub record Outlines (text : List ℕ) (options : ParseOptions) (listing : Listing) : Type 0 where
+  pub definitions : listing.definitions ≡ []
+  pub footnotes : listing.footnotes ≡ []

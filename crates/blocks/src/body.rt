@@ -1,0 +1,67 @@
+// From a text to its outline.
+ghost use Rattle.blocks.specs.Built.{Outlines, built_from};
+
+use markdown_blocks::outline::outline;
+use markdown_blocks::parser::parse;
+use md_engine::configuration::{Constructs, ParseOptions};
+use md_engine::message::Message;
+use md_program::body::{Body, Outlined};
+use std::alloc::Global;
+
+/// No construct at all.
+const NONE: Constructs = Constructs {
+    block_quote: false,
+    code_fenced: false,
+    code_indented: false,
+    definition: false,
+    frontmatter: false,
+    gfm_footnote_definition: false,
+    gfm_table: false,
+    heading_atx: false,
+    heading_setext: false,
+    html_flow: false,
+    list_item: false,
+    math_flow: false,
+    thematic_break: false,
+    mdx_esm: false,
+    mdx_expression_flow: false,
+    mdx_expression_text: false,
+    mdx_jsx_flow: false,
+    mdx_jsx_text: false,
+};
+
+/// The parser of blocks. Of the constructs it has thematic breaks, and turns the others off.
+pub struct Blocks;
+
+impl Body for Blocks {
+    ghost use Rattle.markdown_blocks.specs.Parsed.{IsBuilt};
+
+    ghost accepts = { IsBuilt };
+
+    ghost outlines = { Outlines };
+
+    ghost built = { built_from };
+
+    fn built(options: ParseOptions) -> ParseOptions {
+        ParseOptions {
+            constructs: Constructs {
+                thematic_break: options.constructs.thematic_break,
+                ..NONE
+            },
+        }
+    }
+
+    fn outlined<'a>(
+        alloc: Global,
+        text: &'a str,
+        options: &'a ParseOptions,
+    ) -> Result<Outlined<'a>, Message> {
+        let (events, state) = parse(alloc, text, options)?;
+        let lines = outline(alloc, &events, &state)?;
+        Ok(Outlined {
+            lines,
+            definitions: state.definitions,
+            footnotes: state.gfm_footnote_definitions,
+        })
+    }
+}

@@ -1,0 +1,22 @@
+// The program `blocks`: it reads a Markdown text from its standard input and prints the outline of the text.
+#![tactic(auto)]
+
+pub mod body;
+pub mod run;
+
+use md_program::system::arguments;
+use std::process::ExitCode;
+
+fn main(rt: HostRuntime) -> ExitCode {
+    let mut errors = rt.stderr();
+    match arguments(&rt) {
+        Ok(args) => ExitCode::from(run::run(
+            rt.alloc(),
+            &args,
+            &mut rt.stdin(),
+            &mut rt.stdout(),
+            &mut errors,
+        )),
+        Err(failure) => ExitCode::from(failure.report(&mut errors)),
+    }
+}

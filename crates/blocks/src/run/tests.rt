@@ -1,0 +1,150 @@
+// Runs over readers and writers that fail.
+ghost use Rattle.std.specs.Prelude.{◌≤◌};
+
+use super::run;
+use std::io;
+use std::io::{ErrorKind, Read, Write};
+
+/// An input that gives one byte a call, and fails after `calls` calls.
+#[derive(Drop)]
+struct Source<'a> {
+    rest: &'a [u8],
+    calls: usize,
+}
+
+impl Read for Source<'_> {
+    fn read(&mut self, buf: &mut [u8]) -> io::Result<usize> {
+        if self.calls == 0 {
+            return Err(io::Error::from(ErrorKind::Other));
+        }
+        self.calls -= 1;
+        let count = self.rest.len().min(buf.len()).min(1);
+        let (taken, rest) = self.rest.split_at(count);
+        buf[..count].copy_from_slice(taken);
+        self.rest = rest;
+        Ok(count)
+    }
+}
+
+const ROOM: usize = 128;
+
+/// An output that takes one byte a call, and fails after `calls` calls.
+#[derive(Drop)]
+struct Sink {
+    held: [u8; ROOM],
+    len: usize,
+    calls: usize,
+    ghost within: { len ≤ 128 },
+}
+
+impl Sink {
+    fn new(calls: usize) -> Sink {
+        Sink {
+            held: [0; ROOM],
+            len: 0,
+            calls,
+        }
+    }
+
+    fn bytes(&self) -> &[u8] {
+        &self.held[..self.len]
+    }
+}
+
+impl Write for Sink {
+    fn write(&mut self, buf: &[u8]) -> io::Result<usize> {
+        if self.calls == 0 {
+            return Err(io::Error::from(ErrorKind::Other));
+        }
+        self.calls -= 1;
+        let count = buf.len().min(ROOM - self.len).min(1);
+        let end = self.len + count;
+        self.held[self.len..end].copy_from_slice(&buf[..count]);
+        self.len = end;
+        Ok(count)
+    }
+
+    fn flush(&mut self) -> io::Result<()> {
+        Ok(())
+    }
+}
+
+const TEXT: &[u8] = b"a\n\n***";
+
+const OUTPUT: &[u8] = b"paragraph\n  | a\nbreak\n\ndefinitions 0\nfootnotes 0\n";
+
+/// Runs without an argument. A run that is refused memory says so and writes nothing, and the next is given it.
+fn check(
+    rt: &HostRuntime,
+    text: &[u8],
+    reads: usize,
+    writes: usize,
+    status: u8,
+    held: &[u8],
+    said: &[u8],
+) {
+    for again in [true, false] {
+        let mut input = Source {
+            rest: text,
+            calls: reads,
+        };
+        let mut output = Sink::new(writes);
+        let mut errors = Sink::new(usize::MAX);
+        let ended = run(rt.alloc(), &[], &mut input, &mut output, &mut errors);
+        if ended == 3 && again {
+            assert_eq!(rt; output.bytes(), b"".as_slice());
+            assert_eq!(rt; errors.bytes(), b"blocks: out of memory\n".as_slice());
+        } else {
+            assert_eq!(rt; ended, status);
+            assert_eq!(rt; output.bytes(), held);
+            assert_eq!(rt; errors.bytes(), said);
+        }
+    }
+}
+
+#[test]
+fn prints_the_outline(rt: HostRuntime) {
+    check(&rt, TEXT, usize::MAX, usize::MAX, 0, OUTPUT, b"");
+}
+
+#[test]
+fn a_failed_read_leaves_no_output(rt: HostRuntime) {
+    for reads in 0..4 {
+        check(
+            &rt,
+            TEXT,
+            reads,
+            usize::MAX,
+            4,
+            b"",
+            b"blocks: read failed\n",
+        );
+    }
+}
+
+#[test]
+fn an_input_that_is_not_text_leaves_no_output(rt: HostRuntime) {
+    check(
+        &rt,
+        b"\xff",
+        usize::MAX,
+        usize::MAX,
+        2,
+        b"",
+        b"blocks: not UTF-8\n",
+    );
+}
+
+#[test]
+fn a_failed_write_leaves_a_beginning(rt: HostRuntime) {
+    let held = b"paragraph\n  | a\n";
+    check(
+        &rt,
+        TEXT,
+        usize::MAX,
+        16,
+        4,
+        held,
+        b"blocks: write failed\n",
+    );
+}
