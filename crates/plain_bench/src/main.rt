@@ -2,11 +2,11 @@
 // disagreed, and on standard error how much was tried.
 #![tactic(auto)]
 
-mod plain;
+
 
 use blocks_vectors::report::Report;
 use blocks_vectors::task::Task;
-use plain::Plain;
+use plain_body::Plain;
 use std::{env, io};
 
 fn main(rt: HostRuntime) -> io::Result<()> {

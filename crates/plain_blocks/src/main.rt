@@ -1,0 +1,41 @@
+// Prints the outline of the text on standard input, as the plain program of the line definition reads it.
+#![tactic(auto)]
+
+ghost use Rattle.std.specs.Prelude.{map, string_bytes};
+ghost use Rattle.md_program.specs.Ends.{Runs};
+
+
+
+use md_program::body::Body;
+use md_program::system::arguments;
+use plain_body::Plain;
+use std::alloc::Global;
+use std::io::{Read, Write};
+use std::process::ExitCode;
+
+/// Runs the program: `md_program::run::run` with the line definition.
+pub fn run<R: Read, W: Write, E: Write>(
+    alloc: Global,
+    args: &[String],
+    input: &mut R,
+    output: &mut W,
+    errors: &mut E,
+) -> u8
+    ensures {
+        Runs ⟦<Plain as Body>⟧.outlines ⟦<Plain as Body>⟧.built (map string_bytes args.now)
+            (R.remaining input.old) (R.remaining input.new)
+            (W.contents output.old) (W.contents output.new)
+            (E.contents errors.old) (E.contents errors.new) result
+    }
+{
+    md_program::run::run::<Plain, R, W, E>(alloc, args, input, output, errors)
+}
+
+fn main(rt: HostRuntime) -> ExitCode {
+    let mut errors = rt.stderr();
+    let status = match arguments(&rt) {
+        Ok(args) => run(rt.alloc(), args.as_slice(), &mut rt.stdin(), &mut rt.stdout(), &mut errors),
+        Err(failure) => failure.report(&mut errors),
+    };
+    ExitCode::from(status)
+}
