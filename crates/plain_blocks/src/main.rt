@@ -4,8 +4,6 @@
 ghost use Rattle.std.specs.Prelude.{map, string_bytes};
 ghost use Rattle.md_program.specs.Ends.{Runs};
 
-
-
 use md_program::body::Body;
 use md_program::system::arguments;
 use plain_body::Plain;
@@ -21,12 +19,10 @@ pub fn run<R: Read, W: Write, E: Write>(
     output: &mut W,
     errors: &mut E,
 ) -> u8
-    ensures {
-        Runs ⟦<Plain as Body>⟧.outlines ⟦<Plain as Body>⟧.built (map string_bytes args.now)
-            (R.remaining input.old) (R.remaining input.new)
-            (W.contents output.old) (W.contents output.new)
-            (E.contents errors.old) (E.contents errors.new) result
-    }
+    ensures { Runs ⟦<Plain as Body>⟧.outlines ⟦<Plain as Body>⟧.built (map string_bytes args.now)
+        (R.remaining input.old) (R.remaining input.new)
+        (W.contents output.old) (W.contents output.new)
+        (E.contents errors.old) (E.contents errors.new) result }
 {
     md_program::run::run::<Plain, R, W, E>(alloc, args, input, output, errors)
 }
@@ -34,7 +30,13 @@ pub fn run<R: Read, W: Write, E: Write>(
 fn main(rt: HostRuntime) -> ExitCode {
     let mut errors = rt.stderr();
     let status = match arguments(&rt) {
-        Ok(args) => run(rt.alloc(), args.as_slice(), &mut rt.stdin(), &mut rt.stdout(), &mut errors),
+        Ok(args) => run(
+            rt.alloc(),
+            args.as_slice(),
+            &mut rt.stdin(),
+            &mut rt.stdout(),
+            &mut errors,
+        ),
         Err(failure) => failure.report(&mut errors),
     };
     ExitCode::from(status)
