@@ -97,25 +97,36 @@ impl<'a> Given<'a> {
 #[derive(Clone, Copy)]
 struct Ended<'a>(u8, &'a [u8], &'a [u8]);
 
-/// Runs without an argument. A run that is refused memory says so and writes nothing, and the next is given it.
+/// Runs without an argument: its status, output and standard error.
+fn run_once(alloc: Global, given: Given) -> (u8, Sink, Sink) {
+    let mut input = Source {
+        rest: given.text,
+        calls: given.reads,
+    };
+    let mut output = Sink::new(given.writes);
+    let mut errors = Sink::new(usize::MAX);
+    let status = run(alloc, &[], &mut input, &mut output, &mut errors);
+    (status, output, errors)
+}
+
+/// A run that is refused memory says so and writes nothing, and the next is given it.
 fn check(rt: &impl Abort, alloc: Global, given: Given, want: Ended) {
-    for again in [true, false] {
-        let mut input = Source {
-            rest: given.text,
-            calls: given.reads,
-        };
-        let mut output = Sink::new(given.writes);
-        let mut errors = Sink::new(usize::MAX);
-        let status = run(alloc, &[], &mut input, &mut output, &mut errors);
-        let Ended(ended, held, said) = if status == 3 && again {
-            Ended(3, b"", b"blocks: out of memory\n")
-        } else {
-            want
-        };
-        assert_eq!(rt; status, ended);
-        assert_eq!(rt; output.bytes(), held);
-        assert_eq!(rt; errors.bytes(), said);
+    let (status, output, errors) = run_once(alloc, given);
+    if status == 3 {
+        assert_eq!(rt; output.bytes(), b"".as_slice());
+        assert_eq!(rt; errors.bytes(), b"blocks: out of memory\n".as_slice());
+        let (status, output, errors) = run_once(alloc, given);
+        compare(rt, want, status, &output, &errors);
+    } else {
+        compare(rt, want, status, &output, &errors);
     }
+}
+
+fn compare(rt: &impl Abort, want: Ended, status: u8, output: &Sink, errors: &Sink) {
+    let Ended(ended, held, said) = want;
+    assert_eq!(rt; status, ended);
+    assert_eq!(rt; output.bytes(), held);
+    assert_eq!(rt; errors.bytes(), said);
 }
 
 #[test]
