@@ -2,8 +2,10 @@
 ghost use Rattle.std.specs.Prelude.{◌≤◌};
 
 use super::run;
+use std::alloc::Global;
 use std::io;
 use std::io::{ErrorKind, Read, Write};
+use std::process::Abort;
 
 /// An input that gives one byte a call, and fails after `calls` calls.
 #[derive(Drop)]
@@ -73,78 +75,94 @@ const TEXT: &[u8] = b"a\n\n***";
 
 const OUTPUT: &[u8] = b"paragraph\n  | a\nbreak\n\ndefinitions 0\nfootnotes 0\n";
 
-/// Runs without an argument. A run that is refused memory says so and writes nothing, and the next is given it.
-fn check(
-    rt: &HostRuntime,
-    text: &[u8],
+/// A text, and the calls after which its input and its output fail.
+#[derive(Clone, Copy)]
+struct Given<'a> {
+    text: &'a [u8],
     reads: usize,
     writes: usize,
-    status: u8,
-    held: &[u8],
-    said: &[u8],
-) {
-    for again in [true, false] {
-        let mut input = Source {
-            rest: text,
-            calls: reads,
-        };
-        let mut output = Sink::new(writes);
-        let mut errors = Sink::new(usize::MAX);
-        let ended = run(rt.alloc(), &[], &mut input, &mut output, &mut errors);
-        if ended == 3 && again {
-            assert_eq!(rt; output.bytes(), b"".as_slice());
-            assert_eq!(rt; errors.bytes(), b"blocks: out of memory\n".as_slice());
-        } else {
-            assert_eq!(rt; ended, status);
-            assert_eq!(rt; output.bytes(), held);
-            assert_eq!(rt; errors.bytes(), said);
+}
+
+impl<'a> Given<'a> {
+    fn of(text: &'a [u8]) -> Given<'a> {
+        Given {
+            text,
+            reads: usize::MAX,
+            writes: usize::MAX,
         }
     }
 }
 
+/// The status of a run, its output, and its line on the standard error.
+#[derive(Clone, Copy)]
+struct Ended<'a>(u8, &'a [u8], &'a [u8]);
+
+/// Runs without an argument: its status, output and standard error.
+fn run_once(alloc: Global, given: Given) -> (u8, Sink, Sink) {
+    let mut input = Source {
+        rest: given.text,
+        calls: given.reads,
+    };
+    let mut output = Sink::new(given.writes);
+    let mut errors = Sink::new(usize::MAX);
+    let status = run(alloc, &[], &mut input, &mut output, &mut errors);
+    (status, output, errors)
+}
+
+/// A run that is refused memory says so and writes nothing, and the next is given it.
+fn check(rt: &impl Abort, alloc: Global, given: Given, want: Ended) {
+    let (status, output, errors) = run_once(alloc, given);
+    if status == 3 {
+        assert_eq!(rt; output.bytes(), b"".as_slice());
+        assert_eq!(rt; errors.bytes(), b"blocks: out of memory\n".as_slice());
+        let (status, output, errors) = run_once(alloc, given);
+        compare(rt, want, status, &output, &errors);
+    } else {
+        compare(rt, want, status, &output, &errors);
+    }
+}
+
+fn compare(rt: &impl Abort, want: Ended, status: u8, output: &Sink, errors: &Sink) {
+    let Ended(ended, held, said) = want;
+    assert_eq!(rt; status, ended);
+    assert_eq!(rt; output.bytes(), held);
+    assert_eq!(rt; errors.bytes(), said);
+}
+
 #[test]
 fn prints_the_outline(rt: HostRuntime) {
-    check(&rt, TEXT, usize::MAX, usize::MAX, 0, OUTPUT, b"");
+    check(&rt, rt.alloc(), Given::of(TEXT), Ended(0, OUTPUT, b""));
 }
 
 #[test]
 fn a_failed_read_leaves_no_output(rt: HostRuntime) {
     for reads in 0..4 {
+        let mut given = Given::of(TEXT);
+        given.reads = reads;
         check(
             &rt,
-            TEXT,
-            reads,
-            usize::MAX,
-            4,
-            b"",
-            b"blocks: read failed\n",
+            rt.alloc(),
+            given,
+            Ended(4, b"", b"blocks: read failed\n"),
         );
     }
 }
 
 #[test]
 fn an_input_that_is_not_text_leaves_no_output(rt: HostRuntime) {
+    let given = Given::of(b"\xff");
     check(
         &rt,
-        b"\xff",
-        usize::MAX,
-        usize::MAX,
-        2,
-        b"",
-        b"blocks: not UTF-8\n",
+        rt.alloc(),
+        given,
+        Ended(2, b"", b"blocks: not UTF-8\n"),
     );
 }
 
 #[test]
 fn a_failed_write_leaves_a_beginning(rt: HostRuntime) {
-    let held = b"paragraph\n  | a\n";
-    check(
-        &rt,
-        TEXT,
-        usize::MAX,
-        16,
-        4,
-        held,
-        b"blocks: write failed\n",
-    );
+    let mut given = Given::of(TEXT);
+    given.writes = 16;
+    let want = Ended(4, b"paragraph\n  | a\n", b"blocks: write failed\n");
+    check(&rt, rt.alloc(), given, want);
 }
