@@ -1,13 +1,12 @@
 -- Texts, parentheses and lines, one byte or one line at a time.
-use Rattle.std.proofs.Common.{◌≡◌, ℕ, suc, ◌+◌, ◌-◌, ◌<◌, ◌≤◌, Bool, true, false, ◌&&◌, not, ◌==◌, nat_le, if◌then◌else◌, List, [], ◌∷◌, ◌++◌, map, length, take, drop, sum_by, Option, Some, None, option_map, Bor, refl, sym, ap, subst, eqb-true, ◌∙◌, get_or, add-one, drop-cons, arith, rules, append_assoc, append-nil}
+use Rattle.std.proofs.Common.{◌≡◌, ℕ, ◌+◌, ◌-◌, ◌<◌, ◌≤◌, Bool, true, false, ◌==◌, if◌then◌else◌, List, [], ◌∷◌, ◌++◌, map, length, take, drop, Option, Some, None, option_map, Bor, refl, sym, ap, subst, eqb-true, ◌∙◌, get_or, add-one, drop-cons, arith, append_assoc, append-nil}
 use Rattle.std.specs.List.{list_all}
 use Rattle.std.proofs.Math.Seq.{take-append_seam}
 use Rattle.std.proofs.lemmas.List.Folds.{list_all-map}
 use Rattle.std.proofs.Math.ListN.{drop_of_length-le}
 use Rattle.std.proofs.lemmas.List.{length-append, length-drop, length-map, map-append}
-use Rattle.std.proofs.lemmas.Bool.Decides.{nat_tests}
 use Rattle.md_seam.specs.Enclosed.{Enclosed, Closed, Open, Broken, with_byte, enclosed, Lines, with_line, enclosed_lines}
-use Rattle.md_seam.specs.Definition.{Defined, depth_after, balanced, definition_at, with_definition, cut_definitions}
+use Rattle.md_seam.specs.Definition.{Defined, balanced, definition_at, with_definition, cut_definitions}
 use Rattle.md_seam.proofs.DefinitionLemmas.{length-definition_at, cut_definitions-some, cut_definitions-none}
 use Rattle.md_plain.specs.declared.definition.Found.{Found}
 use Rattle.md_plain.specs.declared.definition.Defined as plain

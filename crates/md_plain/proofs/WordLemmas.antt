@@ -1,5 +1,5 @@
 -- The words of a line, and words with spaces between them.
-use Rattle.std.proofs.Common.{◌≡◌, ℕ, suc, ◌+◌, ◌<◌, ◌≤◌, Bool, true, false, ◌&&◌, not, if◌then◌else◌, List, [], ◌∷◌, ◌++◌, map, filter, flat_map, length, take, drop, Bor, get_or, refl, sym, ap, subst, ◌∙◌, arith, append_assoc}
+use Rattle.std.proofs.Common.{◌≡◌, ℕ, suc, ◌+◌, ◌<◌, ◌≤◌, Bool, true, false, not, List, [], ◌∷◌, ◌++◌, filter, flat_map, length, take, drop, Bor, get_or, refl, sym, ap, subst, ◌∙◌, arith, append_assoc}
 use Rattle.std.specs.List.{list_all, prefix_len, slice_split, onto_first, join_with_byte}
 use Rattle.md_seam.specs.Rest.{is_white}
 use Rattle.md_seam.specs.Bytes.{is_end}

@@ -187,12 +187,15 @@ fn enter<'a>(
 }
 
 /// All containers continued.
+#[tactic(auto, unfolding(md_seam::specs::Step::all_continued))]
 fn all_continued<'a>(
     alloc: Global,
     options: &ParseOptions,
     path: Path<'a>,
     rest: &Rest<'a>,
-) -> Result<Path<'a>, Message> {
+) -> Result<Path<'a>, Message>
+    ensures { IfOk result (λ p. path_meaning p ≡ within path.entry.frames.items (definition.all_continued options.now (spot_meaning path.entry.spot) (rest_meaning rest.now))) }
+{
     let Path { frames, spot } = path;
     let opened = match spot.leaf {
         Leaf::Fence(_, _) | Leaf::Html(_, _) => None,
