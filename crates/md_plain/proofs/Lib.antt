@@ -7,3 +7,4 @@ pub mod LabelLemmas
 pub mod PathLemmas
 pub mod ParagraphLemmas
 pub mod WordLemmas
+pub mod HeadLemmas

@@ -1,5 +1,5 @@
 -- Definitions and lines that are added one by one.
-use Rattle.std.proofs.Common.{◌≡◌, ℕ, ◌-◌, ◌+◌, cond, Bool, List, [], ◌∷◌, ◌++◌, map, take, length, reverse, refl, sym, ◌∙◌, ap}
+use Rattle.std.proofs.Common.{◌≡◌, ◌-◌, ◌+◌, cond, Bool, List, [], ◌∷◌, ◌++◌, map, take, length, reverse, refl, sym, ◌∙◌, ap}
 use Rattle.std.specs.List.{prefix_len, suffix_len}
 use Rattle.std.proofs.lemmas.List.{take-map, length-map, map-append, reverse-append}
 use Rattle.md_seam.specs.Definition as d

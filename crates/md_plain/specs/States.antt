@@ -1,5 +1,5 @@
 -- What the states of the program mean.
-use Rattle.std.specs.Prelude.{◌≡◌, ℕ, List, [], ◌∷◌, map, Option, Some, None}
+use Rattle.std.specs.Prelude.{◌≡◌, List, [], ◌∷◌, map, Option, Some, None}
 use Rattle.std.specs.Option.{option_copied, option_map}
 use Rattle.md_seam.specs.Html as h
 use Rattle.md_seam.specs.State as s

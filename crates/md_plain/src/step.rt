@@ -3,10 +3,11 @@
 ghost use Rattle.std.specs.Prelude.{◌≡◌, length, is_some, IfOk};
 ghost use Rattle.md_seam.specs.Tree.{End};
 ghost use Rattle.md_seam.specs.State as state;
+ghost use Rattle.md_seam.specs.Leaves.{table_at};
 ghost use Rattle.md_seam.specs.Step as definition;
 ghost use Rattle.md_plain.specs.Rests.{rest_meaning};
 ghost use Rattle.md_plain.specs.Trees.{meanings};
-ghost use Rattle.md_plain.specs.States.{leaf_meaning, spot_meaning, came_meaning, taken_meaning, path_meaning, within};
+ghost use Rattle.md_plain.specs.States.{kept_meanings, leaf_meaning, spot_meaning, came_meaning, taken_meaning, path_meaning, within};
 
 use crate::blocks::push_block;
 use crate::bytes::is_blank;
@@ -63,15 +64,37 @@ fn fresh_line<'a>(
     }
 }
 
+/// A rest that is a delimiter row for the last line of a paragraph, or one more line of it.
+fn table_or_text<'a>(
+    alloc: Global,
+    options: &ParseOptions,
+    here: Vec<Block<'a>>,
+    lines: Vec<Kept<'a>>,
+    rest: &Rest<'a>,
+) -> Result<Spot<'a>, Message>
+    ensures { IfOk result (λ s. spot_meaning s ≡ definition.row_or_text (meanings here.entry.items) (kept_meanings lines.entry.items) (rest_meaning rest.now) (table_at options.now (meanings here.entry.items) (kept_meanings lines.entry.items) (rest_meaning rest.now))) }
+{
+    let Some((head, earlier)) = lines.split_last() else {
+        return with_line(here, lines, rest);
+    };
+    match head_cells(alloc, options, head, rest)? {
+        Some(cells) => with_table(alloc, options, here, earlier, cells, rest),
+        None => with_line(here, lines, rest),
+    }
+}
+
 /// A rest where a paragraph is open: a blank one closes it. Otherwise it is an underline, another leaf, a delimiter row
 /// or a line of the paragraph.
+#[tactic(auto, unfolding(md_seam::specs::Step::text_line))]
 fn text_line<'a>(
     alloc: Global,
     options: &ParseOptions,
     here: Vec<Block<'a>>,
     lines: Vec<Kept<'a>>,
     rest: &Rest<'a>,
-) -> Result<Spot<'a>, Message> {
+) -> Result<Spot<'a>, Message>
+    ensures { IfOk result (λ s. spot_meaning s ≡ definition.text_line options.now (meanings here.entry.items) (kept_meanings lines.entry.items) (rest_meaning rest.now)) }
+{
     let mut here = here;
     if is_blank(rest.bytes) {
         shut_paragraph(alloc, options, &mut here, &lines)?;
@@ -87,12 +110,7 @@ fn text_line<'a>(
         shut_paragraph(alloc, options, &mut here, &lines)?;
         return came(here, started);
     }
-    if let Some((head, earlier)) = lines.split_last() {
-        if let Some(cells) = head_cells(alloc, options, head, rest)? {
-            return with_table(alloc, options, here, earlier, cells, rest);
-        }
-    }
-    with_line(here, lines, rest)
+    table_or_text(alloc, options, here, lines, rest)
 }
 
 /// A rest in the innermost container, where all containers continued and none opened.
@@ -101,7 +119,9 @@ fn leaf_line<'a>(
     options: &ParseOptions,
     spot: Spot<'a>,
     rest: &Rest<'a>,
-) -> Result<Spot<'a>, Message> {
+) -> Result<Spot<'a>, Message>
+    ensures { IfOk result (λ s. spot_meaning s ≡ definition.leaf_line options.now (spot_meaning spot.entry) (rest_meaning rest.now)) }
+{
     let Spot { here, leaf } = spot;
     match leaf {
         Leaf::None => fresh_line(alloc, options, here, rest),
@@ -167,12 +187,15 @@ fn enter<'a>(
 }
 
 /// All containers continued.
+#[tactic(auto, unfolding(md_seam::specs::Step::all_continued))]
 fn all_continued<'a>(
     alloc: Global,
     options: &ParseOptions,
     path: Path<'a>,
     rest: &Rest<'a>,
-) -> Result<Path<'a>, Message> {
+) -> Result<Path<'a>, Message>
+    ensures { IfOk result (λ p. path_meaning p ≡ within path.entry.frames.items (definition.all_continued options.now (spot_meaning path.entry.spot) (rest_meaning rest.now))) }
+{
     let Path { frames, spot } = path;
     let opened = match spot.leaf {
         Leaf::Fence(_, _) | Leaf::Html(_, _) => None,
