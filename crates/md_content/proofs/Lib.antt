@@ -1,2 +1,3 @@
 pub mod Goods
 pub mod States
+pub mod ContentSteps

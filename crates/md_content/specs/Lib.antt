@@ -1,3 +1,5 @@
 pub mod Paragraph
 pub mod Chunks
 pub mod States
+pub mod ChunkRule
+pub mod ParagraphRule

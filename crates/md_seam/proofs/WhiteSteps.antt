@@ -1,18 +1,20 @@
 -- Each state of whitespace takes one step of its rule.
-use Rattle.std.proofs.Common.{◌≡◌, ℕ, zero, suc, ◌+◌, ◌-◌, ◌<◌, ◌≤◌, Bool, true, false, ◌&&◌, nat_lt, List, [], ◌∷◌, ◌++◌, Option, Some, None, refl, sym, ◌∙◌, ap, arith, add-zero, inl, inr, ◌⊎◌}
+use Rattle.std.proofs.Common.{◌≡◌, ℕ, zero, suc, ◌+◌, ◌-◌, ◌<◌, ◌≤◌, Bool, true, false, ◌&&◌, nat_lt, List, [], ◌∷◌, ◌++◌, Option, Some, None, refl, sym, ◌∙◌, ap, arith, add-zero, append_assoc, inl, inr, ◌⊎◌}
 use Rattle.std.specs.Prelude.{nat_le}
 use Rattle.std.proofs.lemmas.Bool.Decides.{nat_tests}
+use Rattle.md_engine.specs.declared.event.Event.{Event}
 use Rattle.md_engine.specs.declared.event.Name.TheVariants.{SpaceOrTab}
 use Rattle.md_engine.specs.declared.event.Point.{Point}
 use Rattle.md_engine.specs.declared.state.Name.TheVariants as n
 use Rattle.md_engine.specs.declared.state.State.TheVariants.{Next}
-use Rattle.md_engine.specs.Meaning.{Behaviour, Cell, Feed, Here, Steps, here}
+use Rattle.md_engine.specs.declared.tokenizer.Frame.{Frame}
+use Rattle.md_engine.specs.Meaning.{Accepts, Behaviour, Cell, Feed, Here, Steps, goes, here, resume}
 use Rattle.md_engine.specs.World.{World, after}
 use Rattle.md_engine.proofs.StepOf.{Sees, ahead, cell_here, moves, passes}
 use Rattle.md_seam.specs.Ahead.{HasWhite, after_white, begins_white, inside_white, white_at, white_end, white_rest, white_size}
 use Rattle.md_seam.specs.Nested.{enter, exit}
 use Rattle.md_seam.specs.Rest.{is_white}
-use Rattle.md_seam.specs.Spaces.{after_code, asking, inside_code, sees_white, start_code}
+use Rattle.md_seam.specs.Spaces.{after_code, asking, calmed, inside_code, sees_white, start_code}
 
 -- one column more
 inside-more : (c : Cell) (cs : List Cell) (h : Here) → is_white c.byte ≡ true → h.scratch.whitespace.size < h.scratch.whitespace.max →
@@ -101,3 +103,29 @@ pub white_after_steps : (B : Behaviour) (feed : Feed) (w : World) (x : Bool) →
 unfolding after_white
 white_after_steps B feed w true has e = passes B feed _ _ w (after_code w true).world refl refl (has.behind _ _ ∙ rw e refl)
 white_after_steps B feed w false has e = passes B feed _ _ w (after_code w false).world refl refl (has.behind _ _ ∙ rw e refl)
+
+white-some : (room : ℕ) (cells : List Cell) → 1 ≤ room → begins_white cells ≡ true → 1 ≤ white_size room cells
+white-some room [] le e = cc
+white-some zero (c ∷ cs) le e = absurd (omega arith)
+white-some (suc room) (c ∷ cs) le e = rw e (omega arith)
+
+-- behind all whitespace that comes first, up to so much
+abbrev pub behind_white : ℕ → List Cell → Here → Here
+behind_white max cells h =
+    let p = white_end max cells h.point in
+    record h { events = h.events ++ enter SpaceOrTab h.point ∷ exit SpaceOrTab p ∷ []; point = p; scratch = calmed h.scratch }
+
+white-taken : (cells : List Cell) (h : Here) (min max : ℕ) → begins_white cells ≡ true → 1 ≤ max → min ≤ 1 →
+    white_at cells (record h { scratch = asking min max 0 h.scratch }) ≡ Accepts (behind_white max cells h) (white_rest max cells)
+unfolding white_at inside_white after_white
+white-taken cells h min max s most least =
+    let some : 1 ≤ white_size max cells = white-some max cells most s in
+    let room : max - 0 ≡ max = omega arith in
+    let fits : nat_lt 0 max ≡ true = grind (arith, nat_tests) in
+    let enough : nat_le min (0 + white_size max cells) ≡ true = grind (arith, nat_tests, some) in
+    rw (s, fits, room, enough) (simp append_assoc)
+
+-- what an attempt at whitespace that is here comes to
+pub white-tried : (B : Behaviour) (feed : Feed) (f : Frame) (events : List Event) (cells : List Cell) (h : Here) (min max : ℕ) → HasWhite B → begins_white cells ≡ true → 1 ≤ max → min ≤ 1 → f.is_check ≡ false →
+    goes B f.ok (white_rest max cells) (behind_white max cells h) ≡ resume B feed events f (B n.SpaceOrTabStart cells (record h { scratch = asking min max 0 h.scratch }))
+white-tried B feed f events cells h min max has s most least k = rw (has.start, white-taken cells h min max s most least, k) refl

@@ -1,5 +1,5 @@
 -- What is still to come of a line, as a state is fed it: its whitespace, and its end.
-use Rattle.std.specs.Prelude.{◌≡◌, ℕ, zero, suc, ◌+◌, ◌-◌, Bool, true, false, ◌&&◌, ◌==◌, if◌then◌else◌, nat_lt, nat_le, List, [], ◌∷◌, ◌++◌}
+use Rattle.std.specs.Prelude.{◌≡◌, ℕ, zero, suc, ◌+◌, ◌-◌, Bool, true, false, ◌&&◌, ◌==◌, if◌then◌else◌, nat_lt, nat_le, List, [], ◌∷◌, ◌++◌, map}
 use Rattle.md_engine.specs.declared.event.Name.TheVariants.{SpaceOrTab}
 use Rattle.md_engine.specs.declared.event.Point.{Point}
 use Rattle.md_engine.specs.declared.state.Name.TheVariants.{SpaceOrTabStart, SpaceOrTabInside, SpaceOrTabAfter}
@@ -12,6 +12,10 @@ use Rattle.md_seam.specs.Spaces.{asking, calmed}
 abbrev pub line_cells : List Cell → List Cell
 line_cells [] = []
 line_cells (c ∷ cs) = if c.byte == 10 then [] else c ∷ line_cells cs
+
+-- its bytes, with the columns of a tab after its first as spaces
+abbrev pub line_bytes : List Cell → List ℕ
+line_bytes cells = map (λ (c : Cell). c.byte) (line_cells cells)
 
 -- from the line's ending on
 abbrev pub from_ending : List Cell → List Cell
