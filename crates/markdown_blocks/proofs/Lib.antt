@@ -1,2 +1,5 @@
 pub mod Goods
 pub mod States
+pub mod Settings
+pub mod FlowLemmas
+pub mod FlowMeans

@@ -1,2 +1,5 @@
 pub mod Flow
 pub mod States
+pub mod Parsed
+pub mod Resolved
+pub mod FlowRule

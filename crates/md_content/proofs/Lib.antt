@@ -1,3 +1,4 @@
 pub mod Goods
 pub mod States
 pub mod ContentSteps
+pub mod Settings

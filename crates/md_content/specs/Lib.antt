@@ -3,3 +3,4 @@ pub mod Chunks
 pub mod States
 pub mod ChunkRule
 pub mod ParagraphRule
+pub mod Resolves

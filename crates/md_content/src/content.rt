@@ -5,12 +5,16 @@
 // Each line first stands as one linked `Content`. When all lines are known, those that follow one another are joined and
 // read as one.
 
-ghost use Rattle.std.specs.Prelude.{◌≡◌, ◌≢◌};
+ghost use Rattle.std.specs.Prelude.{◌≡◌, ◌≢◌, ℕ, ◌+◌, ◌<◌, ◌≤◌, true, IfOk, List, [], length};
+ghost use Rattle.std.specs.Option.{option_map};
+ghost use Rattle.md_engine.specs.Found.{found_in};
 ghost use Rattle.md_engine.specs.World.{looks, world};
 ghost use Rattle.md_engine.specs.declared.state.Name.{Name as StateName};
 ghost use Rattle.md_engine.specs.declared.state.State.{State};
 ghost use Rattle.md_content.specs.States.{content_went};
 ghost use Rattle.md_content.specs.Chunks.{chunk_inside_code, chunk_start_went};
+ghost use Rattle.md_content.specs.Resolves.{Resolves, is_all_read};
+ghost use Rattle.md_seam.specs.Parts.{ArePlaced};
 ghost use Rattle.md_seam.specs.Spaces.{ends_line};
 ghost use Rattle.md_seam.specs.Went.{IsAt, NeedsNothing};
 
@@ -27,7 +31,6 @@ use md_engine::tokenizer::Tokenizer;
 use md_seam::inline::Chunk;
 use md_seam::subtokenize::{Reader, is_prefix, subtokenize};
 use std::alloc::Global;
-use std::mem;
 
 /// Before a line.
 ///
@@ -121,6 +124,8 @@ struct ContentReader<'a> {
 }
 
 impl Reader for ContentReader<'_> {
+    ghost text = { λ reader. reader.bytes.now };
+
     fn reads(&self, content: Content) -> bool {
         content == Content::Content
     }
@@ -135,15 +140,14 @@ impl Reader for ContentReader<'_> {
         for chunk in chunks {
             tokenizer.define_skip(chunk.first)?;
         }
-        let mut state = State::Next(StateName::ParagraphStart);
-        for chunk in chunks {
-            state = push::<ContentTable>(&mut tokenizer, chunk.after.index, state);
-            if state == State::Error {
-                return Err(Message);
-            }
-        }
+        let end = chunks[chunks.len() - 1].after.index;
+        let start = State::Next(StateName::ParagraphStart);
+        let state = match push::<ContentTable>(&mut tokenizer, end, start) {
+            State::Error => return Err(Message),
+            state => state,
+        };
         flush::<ContentTable>(&mut tokenizer, state, true)?;
-        Ok(mem::replace(&mut tokenizer.events, Vec::new(alloc)))
+        Ok(tokenizer.events)
     }
 }
 
@@ -154,7 +158,10 @@ fn begins_line(event: &Event) -> bool {
 
 /// Whether a line of content that ends before `at` goes on: its ending stands at `at`, and behind the prefixes of the next
 /// line a line of content.
-fn goes_on(events: &[Event], at: usize) -> bool {
+fn goes_on(events: &[Event], at: usize) -> bool
+    requires { at ≤ length events.now }
+    ensures { result ≡ true → at + 2 < length events.now }
+{
     if at + 2 >= events.len() || events[at].name != Name::LineEnding {
         return false;
     }
@@ -165,26 +172,54 @@ fn goes_on(events: &[Event], at: usize) -> bool {
     next < events.len() && begins_line(&events[next])
 }
 
+/// The last of the events that are joined with the one at `at`: the end of a line of content that goes on takes its ending.
+fn joined_to(events: &[Event], at: usize) -> usize
+    requires { at < length events.now }
+    ensures from { at ≤ result }
+    ensures within { result < length events.now }
+{
+    let event = events[at];
+    if event.kind == Kind::Exit && event.name == Name::Content && goes_on(events, at + 1) {
+        at + 2
+    } else {
+        at
+    }
+}
+
 /// The events with the ending of each line of content that goes on in that line.
-fn join(alloc: Global, events: &[Event]) -> Result<Vec<Event>, Message> {
+fn join(alloc: Global, events: &[Event]) -> Result<Vec<Event>, Message>
+    ensures { IfOk result (λ joined. (bytes : List ℕ) → ArePlaced bytes events.now → ArePlaced bytes joined.items) }
+{
     let mut joined = Vec::new(alloc);
     let mut at = 0;
     while at < events.len() {
-        let mut event = events[at];
-        at += 1;
-        if event.kind == Kind::Exit && event.name == Name::Content && goes_on(events, at) {
-            event.point = events[at + 1].point;
-            at += 2;
-        }
+        let last = joined_to(events, at);
+        let event = Event {
+            point: events[last].point,
+            ..events[at]
+        };
         if joined.push(event).is_err() {
             return Err(Message);
         }
+        at = last + 1;
     }
     Ok(joined)
 }
 
+/// Whether no part is left unread.
+fn is_done(events: &[Event]) -> bool
+    ensures { result ≡ is_all_read events.now }
+{
+    events.iter().all(|event| event.link.is_none())
+}
+
 /// Joins the lines of content that follow one another, and reads them.
-pub fn resolve(tokenizer: &mut Tokenizer) -> Result<Option<Subresult>, Message> {
+///
+/// After an `Err` the parse has failed, and the tokenizer is only dropped.
+pub fn resolve(tokenizer: &mut Tokenizer) -> Result<Option<Subresult>, Message>
+    requires { (world tokenizer.old).frames ≡ [] }
+    ensures { IfOk result (λ found. Resolves (world tokenizer.old) (option_map found_in found) (world tokenizer.new)) }
+{
     let alloc = tokenizer.alloc;
     let reader = ContentReader {
         bytes: tokenizer.bytes,
@@ -193,7 +228,7 @@ pub fn resolve(tokenizer: &mut Tokenizer) -> Result<Option<Subresult>, Message> 
     let joined = join(alloc, &tokenizer.events)?;
     tokenizer.events = subtokenize(alloc, &reader, &joined)?;
     Ok(Some(Subresult {
-        done: !tokenizer.events.iter().any(|event| event.link.is_some()),
+        done: is_done(&tokenizer.events),
         gfm_footnote_definitions: Vec::new(alloc),
         definitions: Vec::new(alloc),
     }))

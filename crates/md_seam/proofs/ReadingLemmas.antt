@@ -21,7 +21,7 @@ chunk-at bytes events i j d h lt k = record { first = h i d lt; after = h j d k 
 pub placed-place : (bytes : List ℕ) (all new more : List Event) (i j : ℕ) → new ≡ all ++ slice_range more i j → ArePlaced bytes all → ArePlaced bytes more → ArePlaced bytes new
 placed-place bytes all new more i j is h k = rw is (All-append (λ (e : Event). IsPlaced bytes e.point) all (slice_range more i j) h (All-take (λ (e : Event). IsPlaced bytes e.point) _ _ (All-drop (λ (e : Event). IsPlaced bytes e.point) _ more k)))
 
--- one of the events behind others, or none
-pub placed-push_if : (bytes : List ℕ) (all new events : List Event) (i : ℕ) (d : Event) (b : Bool) → new ≡ cond b (all ++ get_or events i d ∷ []) all → ArePlaced bytes all → ArePlaced bytes events → i < length events → ArePlaced bytes new
-placed-push_if bytes all new events i d true is h k lt = rw is (All-push (λ (e : Event). IsPlaced bytes e.point) all (get_or events i d) h (k i d lt))
-placed-push_if bytes all new events i d false is h k lt = rw is h
+-- one more event, or none
+pub placed-push_if : (bytes : List ℕ) (all new : List Event) (e : Event) (b : Bool) → new ≡ cond b (all ++ e ∷ []) all → ArePlaced bytes all → IsPlaced bytes e.point → ArePlaced bytes new
+placed-push_if bytes all new e true is h k = rw is (All-push (λ (x : Event). IsPlaced bytes x.point) all e h k)
+placed-push_if bytes all new e false is h k = rw is h

@@ -9,6 +9,7 @@ pub mod Texts
 pub mod Tiles
 pub mod Tree
 pub mod Lines
+pub mod Lent
 pub mod Rest
 pub mod Bytes
 pub mod Html

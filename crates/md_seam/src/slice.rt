@@ -1,5 +1,8 @@
 // Parts of the text, lent from it.
 
+ghost use Rattle.std.specs.Prelude.{◌≡◌, ◌+◌, ◌-◌, ◌%◌};
+ghost use Rattle.md_seam.specs.Lent.{columns_behind, columns_in_front, lent, whole_from};
+
 use md_engine::event::Point;
 
 /// Where a part begins, and where it has ended.
@@ -21,7 +24,11 @@ pub struct Slice<'a> {
 
 impl<'a> Slice<'a> {
     /// What stands at a position of the text; nothing if the text has no such position.
-    pub fn from_position(bytes: &'a [u8], position: Position) -> Slice<'a> {
+    pub fn from_position(bytes: &'a [u8], position: Position) -> Slice<'a>
+        ensures before { result.before ≡ columns_in_front position }
+        ensures bytes { result.bytes.now ≡ lent bytes.now (whole_from position.start) position.end.index }
+        ensures after { result.after ≡ columns_behind position }
+    {
         let Position { start, end } = position;
         if start.vs > 0 && start.index == end.index {
             return Slice {
@@ -48,6 +55,8 @@ impl<'a> Slice<'a> {
 }
 
 /// The columns from this one, counted from 1, to the end of the tab that it lies in.
-fn columns_left(column: usize) -> usize {
-    4 - column.wrapping_sub(1) % 4
+fn columns_left(column: usize) -> usize
+    ensures { result ≡ 4 - (column + 3) % 4 }
+{
+    4 - (column % 4 + 3) % 4
 }

@@ -174,13 +174,14 @@ fn call_state(tokenizer: &mut Tokenizer, name: StateName) -> State
 pub struct FlowTable;
 
 impl Table for FlowTable {
+    ghost use Rattle.markdown_blocks.specs.Resolved.{resolved_as};
     ghost use Rattle.markdown_blocks.specs.States.{FlowStep};
 
     ghost step = { FlowStep (λ other. ⟦<ResolveName as PartialEq>⟧.eq other ResolveName.Content) };
 
     ghost scheme = { flow_table_scheme };
 
-    ghost resolves = { λ name old found new. Unit {0} };
+    ghost resolves = { resolved_as };
 
     fn call(tokenizer: &mut Tokenizer, name: StateName) -> State {
         call_state(tokenizer, name)

@@ -9,6 +9,6 @@ loop-at-preserved-then-at-events g c = record {
 
 pub loop-at-preserved : goal.loop-at-preserved
 loop-at-preserved g c = record {
-  all = placed-push_if (g.R.Reader.text c.args.reader.now) _ _ _ _ _ _ c.push.ensures.items c.loop-at.invariant.all c.requires c.loop-at-test.true;
+  all = placed-push_if (g.R.Reader.text c.args.reader.now) _ _ _ _ c.push.ensures.items c.loop-at.invariant.all (c.requires c.loop-at.at _ c.loop-at-test.true);
   found = c.loop-at.invariant.found;
 }

@@ -1,0 +1,9 @@
+use Rattle.std.proofs.Common.{arith}
+use Rattle.md_seam.proofs.ReadingLemmas.{placed-push_if}
+use Rattle.md_content.proofs.content.join.Goals as goal
+
+pub loop-at-preserved : goal.loop-at-preserved
+loop-at-preserved c = record {
+  within = omega arith;
+  placed = λ bytes h. placed-push_if bytes _ _ _ _ c.push.ensures.items (c.loop-at.invariant.placed bytes h) (h c.joined_to-last.result _ c.joined_to-last.ensures.within);
+}

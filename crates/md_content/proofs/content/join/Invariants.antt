@@ -1,0 +1,12 @@
+use Rattle.std.proofs.Common.{ℕ, List, length, ◌-◌, ◌≤◌}
+use Rattle.md_seam.specs.Parts.{ArePlaced}
+use Rattle.md_content.proofs.content.join.Given as goal
+
+abbrev pub invariant-loop-at : goal.invariant-loop-at
+invariant-loop-at l = record {
+  within : l.at ≤ length l.events;
+  placed : (bytes : List ℕ) → ArePlaced bytes l.events → ArePlaced bytes l.joined.items;
+}
+
+abbrev pub decreases-loop-at : goal.decreases-loop-at
+decreases-loop-at l = length l.events - l.at

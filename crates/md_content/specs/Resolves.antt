@@ -1,0 +1,19 @@
+-- What reading the lines of content does to a tokenizer.
+use Rattle.std.specs.Prelude.{◌≡◌, Bool, List, [], Option, Some, is_none}
+use Rattle.std.specs.List.{list_all}
+use Rattle.md_engine.specs.declared.event.Event.{Event}
+use Rattle.md_engine.specs.Found.{Found}
+use Rattle.md_engine.specs.World.{World}
+
+-- whether no part is left unread
+abbrev pub is_all_read : List Event → Bool
+is_all_read events = list_all (λ (e : Event). is_none e.link) events
+
+-- content without definitions has no label
+abbrev pub found_in_content : List Event → Found
+found_in_content events = record { done = is_all_read events; definitions = []; footnotes = [] }
+
+-- it changes events alone
+pub record Resolves (old : World) (found : Option Found) (new : World) : Type 0 where
+  pub rest : new ≡ record old { events = new.events }
+  pub found_is : found ≡ Some (found_in_content new.events)
