@@ -28,18 +28,25 @@ blank_fits = record { white = white_fits; start = fits flow_owner n.BlankLineSta
 
 break_fits : BreakFits flow_table_scheme
 break_fits = record {
-    white = white_fits; start = fits flow_owner n.ThematicBreakStart; before = fits flow_owner n.ThematicBreakBefore;
-    at_break = fits flow_owner n.ThematicBreakAtBreak; sequence = fits flow_owner n.ThematicBreakSequence
-  }
+  white = white_fits;
+  start = fits flow_owner n.ThematicBreakStart;
+  before = fits flow_owner n.ThematicBreakBefore;
+  at_break = fits flow_owner n.ThematicBreakAtBreak;
+  sequence = fits flow_owner n.ThematicBreakSequence;
+}
 
 chunk_fits : ChunkFits flow_table_scheme
 chunk_fits = record { start = fits flow_owner n.ContentChunkStart; inside = fits flow_owner n.ContentChunkInside }
 
 flow_fits : FlowFits flow_table_scheme
 flow_fits = record {
-    start = fits flow_owner n.FlowStart; blank_line_before = fits flow_owner n.FlowBlankLineBefore; before_thematic_break = fits flow_owner n.FlowBeforeThematicBreak;
-    before_content = fits flow_owner n.FlowBeforeContent; blank_line_after = fits flow_owner n.FlowBlankLineAfter; behind = fits flow_owner n.FlowAfter
-  }
+  start = fits flow_owner n.FlowStart;
+  blank_line_before = fits flow_owner n.FlowBlankLineBefore;
+  before_thematic_break = fits flow_owner n.FlowBeforeThematicBreak;
+  before_content = fits flow_owner n.FlowBeforeContent;
+  blank_line_after = fits flow_owner n.FlowBlankLineAfter;
+  behind = fits flow_owner n.FlowAfter;
+}
 
 -- where the line does not end here, something stands here
 goes-on : (w : World) → w.current ≡ looks w → ends_line w.current ≡ false → w.point.index < w.setting.limit

@@ -34,7 +34,7 @@ rest-none s e = ap (λ (t : Scratch). t.whitespace.size) e
 pub good_blank_start : (T : Scheme) (w : World) (x : Bool) → BlankFits T → rest_ready (spot w) (after_all T w.frames) → Does T n.BlankLineStart w (blank.start_code w x)
 good_blank_start T w true has r =
     white_try T blank_scheme _ n.BlankLineAfter w w.events w.scratch 1 any_size IsRest IsRest has.white has.start has.behind (rest-none w.scratch r.0) (λ some. rest-calm w.scratch r.0) r.1
-      (λ q t up way. (rest-calm w.scratch r.0, later_at _ _ (spot w) _ q t _ up way r.1)) (omega arith) (omega arith) (λ t up. omega arith) (omega arith)
+    (λ q t up way. (rest-calm w.scratch r.0, later_at _ _ (spot w) _ q t _ up way r.1)) (omega arith) (omega arith) (λ t up. omega arith) (omega arith)
 good_blank_start T w false has r =
     (turns T blank_scheme _ _ w w.events w.scratch has.start has.behind r (omega arith) (omega arith), refl)
 
@@ -58,7 +58,7 @@ good_start T w false y has r =
     (refuses T _ w _ _ w.events w.scratch r.1 r.0, refl)
 good_start T w true true has r =
     white_try T break_scheme _ n.ThematicBreakBefore w (entered w parts.ThematicBreak).events w.scratch 0 (small_indent w.setting.options) IsRest IsRest has.white has.start has.before (rest-none w.scratch r.0) (λ some. rest-calm w.scratch r.0) r.1
-      (λ q t up way. (rest-calm w.scratch r.0, later_at _ _ (spot w) _ q t _ up way r.1)) (omega arith) (omega arith) (λ t up. omega arith) (omega arith)
+    (λ q t up way. (rest-calm w.scratch r.0, later_at _ _ (spot w) _ q t _ up way r.1)) (omega arith) (omega arith) (λ t up. omega arith) (omega arith)
 good_start T w true false has r =
     (turns T break_scheme _ _ w (entered w parts.ThematicBreak).events w.scratch has.start has.before r (omega arith) (omega arith), refl)
 
@@ -79,8 +79,11 @@ good_before T w None has r =
 good_before T w (Some b) has r = go (is_marker b) refl
   where
     go : (x : Bool) → is_marker b ≡ x → Does T n.ThematicBreakBefore w (before_code w (Some b))
-    go true e = rw e ((turns T break_scheme _ n.ThematicBreakAtBreak w w.events (record w.scratch { marker = b }) has.before has.at_break
-      (record { marker = e; size = omega (arith, rest-size w.scratch r.0); rest = marked-rest w.scratch b r.0 }, later IsRest IsRest (spot w) (after_all T w.frames) w.point (record w.scratch { marker = b }) (stays w.setting.limit w.point) r.1) (omega arith) (low (is_current b (seen (spot w))))), refl)
+    go true e = rw e (
+      (turns T break_scheme _ n.ThematicBreakAtBreak w w.events (record w.scratch { marker = b }) has.before has.at_break
+          (record { marker = e; size = omega (arith, rest-size w.scratch r.0); rest = marked-rest w.scratch b r.0 }, later IsRest IsRest (spot w) (after_all T w.frames) w.point (record w.scratch { marker = b }) (stays w.setting.limit w.point) r.1) (omega arith) (low (is_current b (seen (spot w))))),
+      refl,
+    )
     go false e = rw e ((refuses T n.ThematicBreakBefore w IsRest IsRest w.events w.scratch r.1 r.0), refl)
 
 pub good_at_break : (T : Scheme) (w : World) (x y : Bool) → BreakFits T → break_ready n.ThematicBreakAtBreak (spot w) (after_all T w.frames) → is_current w.scratch.marker (seen (spot w)) ≡ x → Does T n.ThematicBreakAtBreak w (at_break_code w x y)
@@ -109,13 +112,15 @@ marked-calm s e = ap (λ (t : Scratch). record s { whitespace = t.whitespace }) 
 
 pub good_sequence : (T : Scheme) (w : World) (x y : Bool) → BreakFits T → break_ready n.ThematicBreakSequence (spot w) (after_all T w.frames) → is_current w.scratch.marker (seen (spot w)) ≡ x → sees_white (seen (spot w)) ≡ y → Does T n.ThematicBreakSequence w (sequence_code w x y)
 good_sequence T w true y has r e k =
-    let inside = seen-in (spot w) (is_current w.scratch.marker) refl e in
-    (consumes T break_scheme _ _ w w.events _ has.sequence has.sequence inside
-      (record { marker = r.0.marker; size = omega (arith, r.0.size, cells-grow w.setting w.point); rest = r.0.rest }, later _ _ (spot w) _ _ _ (takes w.setting w.point inside) r.1) (omega arith), refl)
+    let inside = seen-in (spot w) (is_current w.scratch.marker) refl e in (
+      consumes T break_scheme _ _ w w.events _ has.sequence has.sequence inside
+          (record { marker = r.0.marker; size = omega (arith, r.0.size, cells-grow w.setting w.point); rest = r.0.rest }, later _ _ (spot w) _ _ _ (takes w.setting w.point inside) r.1) (omega arith),
+      refl,
+    )
 good_sequence T w false true has r e k =
     let calm = marked-calm w.scratch r.0.rest in
     white_try T break_scheme _ n.ThematicBreakAtBreak w (exited w parts.ThematicBreakSequence).events w.scratch 0 any_size IsRest IsRest has.white has.sequence has.at_break (marked-none w.scratch r.0.rest) (λ some. absurd (omega arith)) r.1
-      (λ q t up way. (record { marker = r.0.marker; size = omega (arith, r.0.size, way.before); rest = ap calmed r.0.rest }, later_at _ _ (spot w) _ q t _ up way r.1))
-      (omega arith) (omega arith) (λ t up. rw (still-none w t up e k) (omega arith)) (rw e (omega arith))
+    (λ q t up way. (record { marker = r.0.marker; size = omega (arith, r.0.size, way.before); rest = ap calmed r.0.rest }, later_at _ _ (spot w) _ q t _ up way r.1))
+    (omega arith) (omega arith) (λ t up. rw (still-none w t up e k) (omega arith)) (rw e (omega arith))
 good_sequence T w false false has r e k =
     (turns T break_scheme _ _ w (exited w parts.ThematicBreakSequence).events w.scratch has.sequence has.at_break r (omega arith) (rw e (omega arith)), refl)

@@ -16,9 +16,10 @@ length-enclosed_lines opener closer [] text e = cc
 length-enclosed_lines opener closer (line ∷ lines) text e = go (enclosed opener closer false line) (length-enclosed_lines opener closer lines) e
   where
     go : (found : Enclosed) → ((t : Lines) → enclosed_lines opener closer lines ≡ Some t → length t.rest ≤ length lines) → (elim found [
-        Closed words rest ↦ Some (record { text = words ∷ []; rest = rest ∷ lines })
+      | Closed words rest ↦ Some (record { text = words ∷ []; rest = rest ∷ lines })
       | Open ↦ with_line line (enclosed_lines opener closer lines)
-      | Broken ↦ None ]) ≡ Some text → length text.rest ≤ suc (length lines)
+      | Broken ↦ None
+    ]) ≡ Some text → length text.rest ≤ suc (length lines)
     go (Closed words rest) below f = let k : record { text = words ∷ []; rest = rest ∷ lines } ≡ text = cc in omega (arith, ap (λ (x : Lines). length x.rest) k)
     go Open below f = let k = with_line-rest line (enclosed_lines opener closer lines) text f in omega (arith, below k.0 k.1, ap length k.2)
     go Broken below f = cc
@@ -31,6 +32,7 @@ length-label_at (rest ∷ lines) text e = go (begins_with 91 rest) (enclosed_lin
     kept : (label : Lines) (fits : Bool) → enclosed_lines 91 93 (after_optional 91 rest ∷ lines) ≡ Some label → (if fits then Some label else None) ≡ Some text → length text.rest ≤ suc (length lines)
     kept label true found f = let k : label ≡ text = cc in omega (arith, length-enclosed_lines 91 93 (after_optional 91 rest ∷ lines) label found, ap (λ (x : Lines). length x.rest) k)
     kept label false found f = cc
+
     go : (opens : Bool) (found : Option Lines) → enclosed_lines 91 93 (after_optional 91 rest ∷ lines) ≡ found → (if opens then (elim found [ Some label ↦ (if is_label label.text then Some label else None) | None ↦ None ]) else None) ≡ Some text → length text.rest ≤ suc (length lines)
     go true (Some label) found f = kept label (is_label label.text) found f
     go true None found f = cc
@@ -85,8 +87,9 @@ length-with_title : (label : List (List ℕ)) (d : Destination) (lines : List (L
 length-with_title label d lines cut e = go (title_after d.rest lines) refl e
   where
     go : (title : Option Lines) → title_after d.rest lines ≡ title → (elim title [
-        Some title ↦ Some (record { defined = record { label = label; destination = d.text; title = Some title.text }; rest = title.rest })
-      | None ↦ (if is_blank d.rest then Some (record { defined = record { label = label; destination = d.text; title = None }; rest = lines }) else None) ]) ≡ Some cut → length cut.rest ≤ length lines
+      | Some title ↦ Some (record { defined = record { label = label; destination = d.text; title = Some title.text }; rest = title.rest })
+      | None ↦ (if is_blank d.rest then Some (record { defined = record { label = label; destination = d.text; title = None }; rest = lines }) else None)
+    ]) ≡ Some cut → length cut.rest ≤ length lines
     go (Some title) g f =
         let k : record { defined = record { label = label; destination = d.text; title = Some title.text }; rest = title.rest } ≡ cut = cc in
         omega (arith, length-title_after d.rest lines title g, ap (λ (x : Cut). length x.rest) k)
@@ -113,9 +116,11 @@ length-definition_at lines cut e = go (label_at lines) refl e
     behind : (label : Lines) → label_at lines ≡ Some label → (more : Option (List (List ℕ))) → after_colon label.rest ≡ more → (elim more [ Some more ↦ with_destination label.text (after_gap more) | None ↦ None ]) ≡ Some cut → length cut.rest < length lines
     behind label g (Some more) h f = omega (arith, length-label_at lines label g, length-after_colon label.rest more h, length-after_gap more, length-with_destination label.text (after_gap more) cut f)
     behind label g None h f = cc
+
     go : (label : Option Lines) → label_at lines ≡ label → (elim label [
-        Some label ↦ elim (after_colon label.rest) [ Some more ↦ with_destination label.text (after_gap more) | None ↦ None ]
-      | None ↦ None ]) ≡ Some cut → length cut.rest < length lines
+      | Some label ↦ elim (after_colon label.rest) [ Some more ↦ with_destination label.text (after_gap more) | None ↦ None ]
+      | None ↦ None
+    ]) ≡ Some cut → length cut.rest < length lines
     go None g f = cc
     go (Some label) g f = behind label g (after_colon label.rest) refl f
 

@@ -113,15 +113,39 @@ record Rows : Type 0 where
 rows : Rows
 unfolding is_raw_name is_basic_name begins_raw begins_basic after_value after_assignment after_attribute ends_opening begins_complete kind_after html_kind is_raw_end html_ends enclosed enclosed_lines label_at balanced destination_at title_at definition_at cut_at_most cut_definitions pieces row_cells is_head delimiter_columns shut_paragraph front_of quote_taken item_continues footnote_continues opens_quote opens_item opens_footnote break_at heading_at code_at code_goes_on fence_at fence_goes_on html_at html_goes_on starts table_goes_on underline_depth underlined table_at fresh_line text_line all_continued stopped
 rows = record {
-    lazy = refl; lazy_in_two = refl; not_lazy = refl; lazy_break = refl; blank_in_quote = refl;
-    other_marker = refl; one_list = refl; nested_items = refl; blank_item = refl; number_two = refl; number_behind_quote = refl; break_no_item = refl;
-    cut_tab = refl; tab_in_item = refl; mark_before_tab = refl;
-    underline = refl; hashes = refl;
-    code = refl; code_in_quote = refl;
-    fence = refl; fence_cut_off = refl; fence_indent = refl; math = refl;
-    frontmatter = refl; no_frontmatter = refl; footnote = refl;
-    html = refl; tag_no_interrupt = refl; tag_lazy = refl;
-    definition = refl; underline_as_line = refl;
-    table_behind_text = refl; head_before_definition = refl; lazy_head = refl;
-    endings = refl
-  }
+  lazy = refl;
+  lazy_in_two = refl;
+  not_lazy = refl;
+  lazy_break = refl;
+  blank_in_quote = refl;
+  other_marker = refl;
+  one_list = refl;
+  nested_items = refl;
+  blank_item = refl;
+  number_two = refl;
+  number_behind_quote = refl;
+  break_no_item = refl;
+  cut_tab = refl;
+  tab_in_item = refl;
+  mark_before_tab = refl;
+  underline = refl;
+  hashes = refl;
+  code = refl;
+  code_in_quote = refl;
+  fence = refl;
+  fence_cut_off = refl;
+  fence_indent = refl;
+  math = refl;
+  frontmatter = refl;
+  no_frontmatter = refl;
+  footnote = refl;
+  html = refl;
+  tag_no_interrupt = refl;
+  tag_lazy = refl;
+  definition = refl;
+  underline_as_line = refl;
+  table_behind_text = refl;
+  head_before_definition = refl;
+  lazy_head = refl;
+  endings = refl;
+}

@@ -71,9 +71,11 @@ good_start T w false has r =
     (turns T white_scheme _ _ w w.events w.scratch has.start has.behind r (omega arith) (omega arith), refl)
 
 pub good_inside : (T : Scheme) (w : World) (x : Bool) → WhiteFits T → white_ready n.SpaceOrTabInside (spot w) (after_all T w.frames) → (x ≡ true → w.point.index < w.setting.limit) → Does T n.SpaceOrTabInside w (inside_code w x)
-good_inside T w true has r m =
-    (consumes T white_scheme _ _ w w.events _ has.inside has.inside (m refl)
-      (omega (arith, r.0, cells-grow w.setting w.point), later _ _ (spot w) _ _ _ (takes w.setting w.point (m refl)) r.1) (omega arith), refl)
+good_inside T w true has r m = (
+  consumes T white_scheme _ _ w w.events _ has.inside has.inside (m refl)
+      (omega (arith, r.0, cells-grow w.setting w.point), later _ _ (spot w) _ _ _ (takes w.setting w.point (m refl)) r.1) (omega arith),
+  refl,
+)
 good_inside T w false has r m =
     (turns T white_scheme _ _ w (exited w SpaceOrTab).events w.scratch has.inside has.behind r (omega arith) (omega arith), refl)
 
@@ -93,8 +95,8 @@ pub white_try : (T own : Scheme) (name next : StateName) (w : World) (events : L
     own.level next ≤ own.level name → 0 < own.level name →
     ((t : Setting) → Grown w.setting t → own.rank next (spot_at t w.point (calmed s)) % 64 < own.tries next % 64) → own.tries next % 64 < own.rank name (spot w) % 64 →
     Does T name w (white_then (record w { events = events; scratch = s }) min max (Next next) Nok)
-white_try T own name next w events s min max P Q white fn fx none calm ends r le pos low lt =
-    (begins_try T own white_scheme name n.SpaceOrTabStart w (λ t. t ≡ calmed s) (λ t. (t ≡ calmed s) × (0 < min)) events (asking min max 0 s)
+white_try T own name next w events s min max P Q white fn fx none calm ends r le pos low lt = (
+  begins_try T own white_scheme name n.SpaceOrTabStart w (λ t. t ≡ calmed s) (λ t. (t ≡ calmed s) × (0 < min)) events (asking min max 0 s)
       (record { ok = Next next; nok = Nok; is_check = false; events_len = length events; point = w.point }) fn white.start fx tt refl
       (record {
         ok = λ t q v is up way. rw is (r q v up way);
@@ -102,5 +104,8 @@ white_try T own name next w events s min max P Q white fn fx none calm ends r le
         ok_rank = λ t v is up. rw is (omega (arith, low v up));
         nok = λ t v is up. rw is.0 (ends.nok (calmed s) w.point v (calm is.1) up);
         nok_level = omega arith;
-        nok_rank = λ t v is up. omega arith })
-      (λ K e. (omega arith, e)) pos le lt, refl)
+        nok_rank = λ t v is up. omega arith;
+      })
+      (λ K e. (omega arith, e)) pos le lt,
+  refl,
+)

@@ -91,8 +91,9 @@ pub record Cut : Type 0 where
 -- The definition with this label and destination. Without a title it ends with the line of the destination.
 abbrev pub with_title : List (List ℕ) → Destination → List (List ℕ) → Option Cut
 with_title label d lines = elim (title_after d.rest lines) [
-    Some title ↦ Some (record { defined = record { label = label; destination = d.text; title = Some title.text }; rest = title.rest })
-  | None ↦ (if is_blank d.rest then Some (record { defined = record { label = label; destination = d.text; title = None }; rest = lines }) else None) ]
+  | Some title ↦ Some (record { defined = record { label = label; destination = d.text; title = Some title.text }; rest = title.rest })
+  | None ↦ (if is_blank d.rest then Some (record { defined = record { label = label; destination = d.text; title = None }; rest = lines }) else None)
+]
 
 -- the definition with this label, whose destination is next
 abbrev pub with_destination : List (List ℕ) → List (List ℕ) → Option Cut
@@ -102,8 +103,9 @@ with_destination label (line ∷ lines) = elim (destination_at line) [ Some d �
 -- the definition that is next
 unfoldable pub definition_at : List (List ℕ) → Option Cut
 definition_at lines = elim (label_at lines) [
-    Some label ↦ elim (after_colon label.rest) [ Some more ↦ with_destination label.text (after_gap more) | None ↦ None ]
-  | None ↦ None ]
+  | Some label ↦ elim (after_colon label.rest) [ Some more ↦ with_destination label.text (after_gap more) | None ↦ None ]
+  | None ↦ None
+]
 
 -- with this definition before the others
 abbrev pub with_definition : Defined → List Defined × List (List ℕ) → List Defined × List (List ℕ)

@@ -40,6 +40,7 @@ with_line line (Some more) = Some (record { text = line ∷ more.text; rest = mo
 unfoldable pub enclosed_lines : ℕ → ℕ → List (List ℕ) → Option Lines
 enclosed_lines opener closer [] = None
 enclosed_lines opener closer (line ∷ lines) = elim (enclosed opener closer false line) [
-    Closed text rest ↦ Some (record { text = text ∷ []; rest = rest ∷ lines })
+  | Closed text rest ↦ Some (record { text = text ∷ []; rest = rest ∷ lines })
   | Open ↦ with_line line (enclosed_lines opener closer lines)
-  | Broken ↦ None ]
+  | Broken ↦ None
+]

@@ -117,12 +117,12 @@ behind_word text = trim_start (drop (length (first_word text)) text)
 -- an opening fence; math has no info, and its meta is the whole rest
 abbrev pub opening : ℕ → ℕ → ℕ → List ℕ → Opening
 opening m size columns text = record {
-    marker = m;
-    size = size;
-    indent = columns;
-    info = if m == 36 then None else nonempty (first_word text);
-    meta = nonempty (if m == 36 then text else behind_word text)
-  }
+  marker = m;
+  size = size;
+  indent = columns;
+  info = if m == 36 then None else nonempty (first_word text);
+  meta = nonempty (if m == 36 then text else behind_word text);
+}
 
 abbrev pub fence_from : ParseOptions → ℕ → List ℕ → Option Came
 fence_from options columns [] = None

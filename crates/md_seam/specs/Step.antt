@@ -62,8 +62,9 @@ leaf_line options s r = leaf_line_by options s r s.leaf
 abbrev pub opened : ParseOptions → ℕ → Rest → Path
 opened options zero r = At (fresh_line options End r)
 opened options (suc n) r = elim (opens options false r) [
-    Some t ↦ Within End t.container (opened options n t.rest)
-  | None ↦ At (fresh_line options End r) ]
+  | Some t ↦ Within End t.container (opened options n t.rest)
+  | None ↦ At (fresh_line options End r)
+]
 
 -- a container, behind these blocks, that a line opens
 abbrev pub entered : ParseOptions → Blocks → Taken → Path
@@ -112,8 +113,9 @@ stopped options before container p r = stopped_by options before container p r (
 abbrev pub step : ParseOptions → Path → Rest → Path
 step options (At s) r = all_continued options s r
 step options (Within before container p) r = elim (continues options container r) [
-    Some t ↦ Within before t.container (step options p t.rest)
-  | None ↦ stopped options before container p r ]
+  | Some t ↦ Within before t.container (step options p t.rest)
+  | None ↦ stopped options before container p r
+]
 
 abbrev pub steps : ParseOptions → Path → List Rest → Path
 steps options p [] = p
