@@ -7,3 +7,4 @@ pub mod Loops
 pub mod Keeps
 pub mod StepOf
 pub mod Standing
+pub mod TextFeed

@@ -6,3 +6,4 @@ pub mod Run
 pub mod Scheme
 pub mod Meaning
 pub mod Standing
+pub mod TextFeed
