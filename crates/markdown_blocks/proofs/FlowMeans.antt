@@ -1,5 +1,5 @@
 -- Each state of flow takes one step of what flow means.
-use Rattle.std.proofs.Common.{◌≡◌, ℕ, ◌^◌, Bool, true, false, nat_eq, List, [], ◌∷◌, ◌++◌, length, take, Option, Some, None, refl, sym, ◌∙◌, ap, arith}
+use Rattle.std.proofs.Common.{◌≡◌, ℕ, ◌^◌, Bool, true, false, nat_eq, List, [], ◌∷◌, ◌++◌, length, take, Option, Some, None, refl, sym, ◌∙◌, ap, arith, append_assoc}
 use Rattle.std.proofs.lemmas.List.{take_all}
 use Rattle.md_engine.specs.declared.configuration.ParseOptions.{ParseOptions}
 use Rattle.md_engine.specs.declared.event.Event.{Event}
@@ -26,11 +26,12 @@ use Rattle.md_leaves.specs.BreakRule.{HasBreak, break_at}
 use Rattle.md_leaves.proofs.BlankSteps.{blank_after_steps, blank_start_steps}
 use Rattle.md_leaves.proofs.BreakSteps as break
 use Rattle.md_seam.specs.Ahead.{HasWhite}
-use Rattle.md_seam.specs.Nested.{pair}
+use Rattle.md_seam.specs.Nested.{enter, exit, pair}
 use Rattle.md_seam.specs.Spaces.{IsRest}
+use Rattle.md_seam.specs.Went.{entered, exited, taken}
 use Rattle.md_seam.proofs.SpacesGoods.{does-stands}
 use Rattle.md_seam.proofs.WhiteSteps.{white_after_steps, white_inside_steps, white_start_steps}
-use Rattle.markdown_blocks.specs.Flow.{before_content_went, before_thematic_break_went, blank_line_before_went, calm, ending_code, start_went}
+use Rattle.markdown_blocks.specs.Flow.{before_content_went, before_thematic_break_went, blank_line_after_went, blank_line_before_went, calm, ending_code, start_went}
 use Rattle.markdown_blocks.specs.FlowRule.{HasFlow, Rule, blank_ended, calmed_at, ended, flow_at, flow_behaves, tried}
 use Rattle.markdown_blocks.specs.States.{FlowStep, flow_table_scheme, flow_went}
 use Rattle.markdown_blocks.proofs.FlowLemmas.{flow_by_line}
@@ -87,17 +88,21 @@ ending_steps B feed from w options name None g has next is = passes B feed from 
 ending_steps B feed from w options name (Some b) g has next is = go (nat_eq b 10) refl
   where
     go : (x : Bool) → nat_eq b 10 ≡ x → Steps B feed from w (ending_code name (record w { flags = g }) (Some b)).to (ending_code name (record w { flags = g }) (Some b)).world
-    go true e = ?
+    go true e =
+        let p = after w.setting w.point in
+        let split : w.events ++ enter name w.point ∷ [] ++ exit name p ∷ [] ≡ w.events ++ pair name w.point p = append_assoc w.events (enter name w.point ∷ []) (exit name p ∷ []) in
+        rw e (moves B feed from (Next n.FlowStart) w (exited (taken (entered (record w { flags = g }) name)) name) (pair name w.point p) refl split
+          (is ∙ rw e (ap (λ (x : List Event). flow_at options (feed p) (record { events = x; point = p; scratch = w.scratch; flags = g })) (sym split)) ∙ sym (has.start _ _)))
     go false e = rw e (passes B feed from Nok w (record w { flags = g }) refl refl (is ∙ rw e refl))
 
--- the flags that a blank line leaves
-abbrev calm_flags : World → Option ℕ → Flags
-calm_flags w None = w.flags
-calm_flags w (Some b) = record w.flags { interrupt = false }
+-- behind a blank line
+calm-current : (w : World) (o : Option ℕ) → (calm w o).current ≡ w.current
+calm-current w None = refl
+calm-current w (Some b) = refl
 
 blank_line_after_steps : (B : Behaviour) (feed : Feed) (w : World) (options : ParseOptions) → HasFlow B options → Sees feed w →
-    Steps B feed (Next n.FlowBlankLineAfter) w (ending_code BlankLineEnding (calm w w.current) w.current).to (ending_code BlankLineEnding (calm w w.current) w.current).world
-blank_line_after_steps B feed w options has s = go w.current s.next
+    Steps B feed (Next n.FlowBlankLineAfter) w (blank_line_after_went w).to (blank_line_after_went w).world
+blank_line_after_steps B feed w options has s = rw (calm-current w w.current) (go w.current s.next)
   where
     go : (o : Option ℕ) → feed w.point ≡ ahead feed w o → Steps B feed (Next n.FlowBlankLineAfter) w (ending_code BlankLineEnding (calm w o) o).to (ending_code BlankLineEnding (calm w o) o).world
     go None e = ending_steps B feed _ w options BlankLineEnding None w.flags has e (has.blank_line_after _ _ ∙ ap (λ (x : List Cell). blank_ended (flow_at options) x (here w)) e)

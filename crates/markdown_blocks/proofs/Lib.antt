@@ -3,3 +3,4 @@ pub mod States
 pub mod Settings
 pub mod FlowLemmas
 pub mod FlowMeans
+pub mod FlowRuns
