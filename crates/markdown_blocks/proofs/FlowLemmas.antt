@@ -23,7 +23,7 @@ Shrinks n (Accepts h rest) = length rest ≤ n
 Shrinks n (Refuses s g) = Unit {0}
 Shrinks n Fails = Unit {0}
 
-white_rest-shrinks : (room : ℕ) (cells : List Cell) → length (white_rest room cells) ≤ length cells
+pub white_rest-shrinks : (room : ℕ) (cells : List Cell) → length (white_rest room cells) ≤ length cells
 white_rest-shrinks room [] = omega arith
 white_rest-shrinks zero (c ∷ cs) = omega arith
 white_rest-shrinks (suc room) (c ∷ cs) = go (is_white c.byte) (white_rest-shrinks room cs)
@@ -32,7 +32,7 @@ white_rest-shrinks (suc room) (c ∷ cs) = go (is_white c.byte) (white_rest-shri
     go true h = omega arith
     go false h = omega arith
 
-from_ending-shrinks : (cells : List Cell) → length (from_ending cells) ≤ length cells
+pub from_ending-shrinks : (cells : List Cell) → length (from_ending cells) ≤ length cells
 from_ending-shrinks [] = omega arith
 from_ending-shrinks (c ∷ cs) = go (nat_eq c.byte 10) (from_ending-shrinks cs)
   where

@@ -4,3 +4,4 @@ pub mod Settings
 pub mod FlowLemmas
 pub mod FlowMeans
 pub mod FlowRuns
+pub mod FlowEnds
