@@ -2,3 +2,4 @@ pub mod Goods
 pub mod States
 pub mod ContentSteps
 pub mod Settings
+pub mod ContentRuns
