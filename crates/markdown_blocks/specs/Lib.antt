@@ -2,3 +2,4 @@ pub mod Flow
 pub mod States
 pub mod Parsed
 pub mod Resolved
+pub mod FlowRule

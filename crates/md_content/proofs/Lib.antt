@@ -1,3 +1,5 @@
 pub mod Goods
 pub mod States
+pub mod ContentSteps
 pub mod Settings
+pub mod ContentRuns

@@ -1,4 +1,6 @@
 pub mod Paragraph
 pub mod Chunks
 pub mod States
+pub mod ChunkRule
+pub mod ParagraphRule
 pub mod Resolves

@@ -55,12 +55,12 @@ leave_keeps B feed w fs f (Next n) end e h = absurd end
 leave_keeps B feed w fs f (Retry n) end e h = absurd end
 leave_keeps B feed w fs f Error end e h = absurd end
 
-leaves-keep : (B : Behaviour) (feed : Feed) (s s' : State) (w w' : World) → Leaves s w s' w' → comes_to B feed s w ≡ comes_to B feed s' w'
+pub leaves-keep : (B : Behaviour) (feed : Feed) (s s' : State) (w w' : World) → Leaves s w s' w' → comes_to B feed s w ≡ comes_to B feed s' w'
 leaves-keep B feed s s' w w' l =
     leave_keeps B feed w l.outer l.frame s l.end l.frames l.below ∙ ap₂ (λ (x : State) (y : World). comes_to B feed x y) (sym l.next) (sym l.new)
 
 -- a state that stays and one that takes what stands here come to the same
-plain-same : (B : Behaviour) (feed : Feed) (w : World) (s : State) → comes_to B feed (plain s) w ≡ comes_to B feed s w
+pub plain-same : (B : Behaviour) (feed : Feed) (w : World) (s : State) → comes_to B feed (plain s) w ≡ comes_to B feed s w
 plain-same B feed w Ok = refl
 plain-same B feed w Nok = refl
 plain-same B feed w Error = refl
@@ -73,7 +73,7 @@ resume_all-join B feed events [] gs o = refl
 resume_all-join B feed events (f ∷ fs) gs o = resume_all-join B feed events fs gs (resume B feed events f o)
 
 -- a step of a construct keeps what the whole tokenizer comes to
-steps-keep : (B : Behaviour) (feed : Feed) (from to : State) (old new : World) → All (λ f. f.events_len ≤ length old.events) old.frames →
+pub steps-keep : (B : Behaviour) (feed : Feed) (from to : State) (old new : World) → All (λ f. f.events_len ≤ length old.events) old.frames →
     Steps B feed from old to new → comes_to B feed from old ≡ comes_to B feed to new
 steps-keep B feed from to old new h s =
     ap (resume_all B feed old.events old.frames) s.same

@@ -5,3 +5,6 @@ pub mod Falls
 pub mod Local
 pub mod Loops
 pub mod Keeps
+pub mod StepOf
+pub mod Standing
+pub mod TextFeed

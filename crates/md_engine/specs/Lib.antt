@@ -5,3 +5,5 @@ pub mod Found
 pub mod Run
 pub mod Scheme
 pub mod Meaning
+pub mod Standing
+pub mod TextFeed

@@ -1,1 +1,4 @@
 pub mod Goods
+pub mod BreakLemmas
+pub mod BlankSteps
+pub mod BreakSteps

@@ -1,2 +1,4 @@
 pub mod Blank
 pub mod Break
+pub mod BlankRule
+pub mod BreakRule

@@ -26,3 +26,4 @@ pub mod Grouped
 pub mod Meaning
 pub mod Outline
 pub mod Wrapped
+pub mod Ahead

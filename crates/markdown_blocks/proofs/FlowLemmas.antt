@@ -1,0 +1,98 @@
+-- Flow goes line by line.
+use Rattle.std.proofs.Common.{◌≡◌, ℕ, zero, suc, ◌<◌, ◌≤◌, ◌^◌, ◌+◌, Bool, true, false, cond, nat_eq, List, [], ◌∷◌, length, refl, sym, ◌∙◌, ap, arith}
+use Rattle.std.specs.Prelude.{◌&&◌, ◌||◌, nat_le, not}
+use Rattle.std.specs.List.{list_all}
+use Rattle.md_engine.specs.declared.configuration.ParseOptions.{ParseOptions}
+use Rattle.md_engine.specs.declared.event.Name.{Name}
+use Rattle.md_engine.specs.declared.event.Name.TheVariants.{BlankLineEnding, LineEnding}
+use Rattle.md_engine.specs.declared.tokenizer.Flags.{Flags}
+use Rattle.md_engine.specs.declared.tokenizer.Scratch.{Scratch}
+use Rattle.md_engine.specs.Meaning.{Accepts, Cell, Fails, Here, Outcome, Refuses}
+use Rattle.md_content.specs.ChunkRule.{chunk_at, inside_chunk}
+use Rattle.md_leaves.specs.BlankRule.{blank_at}
+use Rattle.md_leaves.specs.BreakRule.{before_marker, break_at}
+use Rattle.md_seam.specs.Ahead.{begins_white, from_ending, line_bytes, white_rest}
+use Rattle.md_seam.specs.Leaves.{is_rule}
+use Rattle.md_seam.specs.Rest.{is_blank, is_white}
+use Rattle.md_seam.specs.Spaces.{small_indent}
+use Rattle.markdown_blocks.specs.FlowRule.{Rule, blank_ended, calmed_at, content_of, ended, flow_at, flow_lines, line_then, nonblank_of, tried}
+
+-- what is left is no longer than what there was
+abbrev Shrinks : ℕ → Outcome → Type 0
+Shrinks n (Accepts h rest) = length rest ≤ n
+Shrinks n (Refuses s g) = Unit {0}
+Shrinks n Fails = Unit {0}
+
+pub white_rest-shrinks : (room : ℕ) (cells : List Cell) → length (white_rest room cells) ≤ length cells
+white_rest-shrinks room [] = omega arith
+white_rest-shrinks zero (c ∷ cs) = omega arith
+white_rest-shrinks (suc room) (c ∷ cs) = go (is_white c.byte) (white_rest-shrinks room cs)
+  where
+    go : (x : Bool) → length (white_rest room cs) ≤ length cs → length (cond x (white_rest room cs) (c ∷ cs)) ≤ length (c ∷ cs)
+    go true h = omega arith
+    go false h = omega arith
+
+pub from_ending-shrinks : (cells : List Cell) → length (from_ending cells) ≤ length cells
+from_ending-shrinks [] = omega arith
+from_ending-shrinks (c ∷ cs) = go (nat_eq c.byte 10) (from_ending-shrinks cs)
+  where
+    go : (x : Bool) → length (from_ending cs) ≤ length cs → length (cond x (c ∷ cs) (from_ending cs)) ≤ length (c ∷ cs)
+    go true h = omega arith
+    go false h = omega arith
+
+cond-shrinks : (n : ℕ) (x : Bool) (a b : Outcome) → Shrinks n a → Shrinks n b → Shrinks n (cond x a b)
+cond-shrinks n true a b p q = p
+cond-shrinks n false a b p q = q
+
+blank_at-shrinks : (cells : List Cell) (h : Here) → Shrinks (length cells) (blank_at cells h)
+unfolding blank_at
+blank_at-shrinks cells h = cond-shrinks _ (is_blank (line_bytes cells)) _ _ (from_ending-shrinks cells) tt
+
+before_marker-shrinks : (n : ℕ) (cells : List Cell) (h : Here) → length cells ≤ n → Shrinks n (before_marker cells h)
+unfolding before_marker
+before_marker-shrinks n [] h le = tt
+before_marker-shrinks n (c ∷ cs) h le = cond-shrinks n (is_rule (line_bytes (c ∷ cs))) _ _ (omega (arith, from_ending-shrinks (c ∷ cs))) tt
+
+break_at-shrinks : (options : ParseOptions) (cells : List Cell) (h : Here) → Shrinks (length cells) (break_at options cells h)
+unfolding break_at
+break_at-shrinks options cells h = cond-shrinks _ (not options.constructs.thematic_break) _ _ tt
+    (cond-shrinks _ (begins_white cells) _ _ (before_marker-shrinks _ _ _ (white_rest-shrinks (small_indent options) cells)) (before_marker-shrinks _ cells _ (omega arith)))
+
+chunk_at-shrinks : (cells : List Cell) (h : Here) → Shrinks (length cells) (chunk_at cells h)
+unfolding chunk_at inside_chunk
+chunk_at-shrinks cells h = from_ending-shrinks cells
+
+-- two ways to go on that agree on shorter rests
+abbrev Agree : ℕ → Rule → Rule → Type 0
+Agree n f g = (cells : List Cell) (h : Here) → length cells < n → f cells h ≡ g cells h
+
+-- two ways to go on behind a line that agree
+abbrev AgreeAt : ℕ → Rule → Rule → Type 0
+AgreeAt n f g = (cells : List Cell) (h : Here) → length cells ≤ n → f cells h ≡ g cells h
+
+ended-same : (n : ℕ) (f g : Rule) → Agree n f g → (name : Name) → AgreeAt n (ended f name) (ended g name)
+ended-same n f g agree name [] h le = refl
+ended-same n f g agree name (c ∷ cs) h le = ap (λ (o : Outcome). cond (nat_eq c.byte 10) o (Refuses h.scratch h.flags)) (agree cs _ (omega arith))
+
+tried-same : (n : ℕ) (f g : Rule) → AgreeAt n f g → (o : Outcome) (a b : Scratch → Flags → Outcome) → Shrinks n o → ((s : Scratch) (t : Flags) → a s t ≡ b s t) → tried o f a ≡ tried o g b
+tried-same n f g agree (Accepts h rest) a b le same = agree rest h le
+tried-same n f g agree (Refuses s t) a b le same = same s t
+tried-same n f g agree Fails a b le same = refl
+
+line_then-same : (options : ParseOptions) (f g : Rule) (cells : List Cell) (h : Here) → Agree (length cells) f g → line_then options f cells h ≡ line_then options g cells h
+line_then-same options f g cells h agree =
+    tried-same _ (blank_ended f) (blank_ended g) (λ rest k le. ended-same _ f g agree BlankLineEnding rest (calmed_at rest k) le) (blank_at cells h) _ _ (blank_at-shrinks cells h) (λ s t.
+    tried-same _ (ended f LineEnding) (ended g LineEnding) (ended-same _ f g agree LineEnding) (break_at options cells (record h { scratch = s; flags = t })) _ _ (break_at-shrinks options cells _) (λ s' t'.
+    tried-same _ (ended f LineEnding) (ended g LineEnding) (ended-same _ f g agree LineEnding) (chunk_at cells (record h { scratch = s'; flags = t' })) _ _ (chunk_at-shrinks cells _) (λ _ _. refl)))
+
+-- more lines than cells change nothing
+enough : (options : ParseOptions) (n m : ℕ) (cells : List Cell) (h : Here) → length cells < n → length cells < m → flow_lines options n cells h ≡ flow_lines options m cells h
+unfolding flow_lines
+enough options zero m cells h a b = absurd (omega arith)
+enough options (suc n) zero cells h a b = absurd (omega arith)
+enough options (suc n) (suc m) cells h a b = line_then-same options (flow_lines options n) (flow_lines options m) cells h (λ rest k lt. enough options n m rest k (omega arith) (omega arith))
+
+-- what flow means: the first line, and then the same behind it
+pub flow_by_line : (options : ParseOptions) (cells : List Cell) (h : Here) → flow_at options cells h ≡ line_then options (flow_at options) cells h
+unfolding flow_at flow_lines
+flow_by_line options cells h = line_then-same options (flow_lines options (length cells)) (flow_at options) cells h (λ rest k lt. enough options (length cells) (suc (length rest)) rest k lt (omega arith))

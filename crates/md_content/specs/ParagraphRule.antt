@@ -1,0 +1,41 @@
+-- What is left of a paragraph at each state: it goes on to the end of the text.
+use Rattle.std.specs.Prelude.{◌≡◌, ◌==◌, if◌then◌else◌, List, [], ◌∷◌, ◌++◌}
+use Rattle.md_engine.specs.declared.event.Event.{Event}
+use Rattle.md_engine.specs.declared.event.Name.TheVariants as parts
+use Rattle.md_engine.specs.declared.event.Point.{Point}
+use Rattle.md_engine.specs.declared.state.Name.TheVariants.{ParagraphStart, ParagraphLineStart, ParagraphInside}
+use Rattle.md_engine.specs.Meaning.{Accepts, Behaviour, Cell, Here, Outcome, Refuses}
+use Rattle.md_content.specs.ChunkRule.{enter_link}
+use Rattle.md_content.specs.Paragraph.{text_link}
+use Rattle.md_seam.specs.Ahead.{point_after}
+use Rattle.md_seam.specs.Nested.{enter, exit}
+
+-- each line is one part with its ending, of which the first has begun
+abbrev pub line_events : List Cell → Point → List Event
+line_events [] p = exit parts.Data p ∷ []
+line_events (c ∷ cs) p = if c.byte == 10 then exit parts.Data c.after ∷ enter_link parts.Data c.after text_link ∷ line_events cs c.after else line_events cs c.after
+
+unfoldable pub inside_paragraph : List Cell → Here → Outcome
+inside_paragraph cells h =
+    let p = point_after cells h.point in
+    Accepts (record h { events = h.events ++ line_events cells h.point ++ exit parts.Paragraph p ∷ []; point = p }) []
+
+-- from the start of a line
+unfoldable pub paragraph_line : List Cell → Here → Outcome
+paragraph_line cells h = inside_paragraph cells (record h { events = h.events ++ enter_link parts.Data h.point text_link ∷ [] })
+
+-- the whole paragraph
+unfoldable pub paragraph_at : List Cell → Here → Outcome
+paragraph_at cells h = paragraph_line cells (record h { events = h.events ++ enter parts.Paragraph h.point ∷ [] })
+
+pub record HasParagraph (B : Behaviour) : Type 0 where
+  pub start : (cells : List Cell) (h : Here) → B ParagraphStart cells h ≡ paragraph_at cells h
+  pub line_start : (cells : List Cell) (h : Here) → B ParagraphLineStart cells h ≡ paragraph_line cells h
+  pub inside : (cells : List Cell) (h : Here) → B ParagraphInside cells h ≡ inside_paragraph cells h
+
+-- what is left at each state of content
+abbrev pub content_behaves : Behaviour
+content_behaves ParagraphStart cells h = paragraph_at cells h
+content_behaves ParagraphLineStart cells h = paragraph_line cells h
+content_behaves ParagraphInside cells h = inside_paragraph cells h
+content_behaves _ cells h = Refuses h.scratch h.flags

@@ -1,0 +1,51 @@
+-- Steps of a construct, and what the feed has where a state is called.
+use Rattle.std.proofs.Common.{◌≡◌, ◌⊎◌, ◌^◌, ◌<◌, ◌≤◌, ℕ, Bool, true, false, nat_lt, List, [], ◌∷◌, ◌++◌, length, Option, Some, None, refl, sym, ◌∙◌, arith, append-nil, inl, inr}
+use Rattle.std.proofs.lemmas.Bool.Decides.{nat_tests}
+use Rattle.md_engine.specs.declared.event.Event.{Event}
+use Rattle.md_engine.specs.declared.state.State.{State}
+use Rattle.md_engine.specs.declared.tokenizer.Frame.{Frame}
+use Rattle.md_engine.specs.Meaning.{Behaviour, Cell, Feed, Follows, Steps, goes, here, line_of, resume}
+use Rattle.md_engine.specs.Run.{reading}
+use Rattle.md_engine.specs.World.{World, after, looks}
+
+-- a step that begins no attempt
+pub moves : (B : Behaviour) (feed : Feed) (from to : State) (old new : World) (added : List Event) → new.frames ≡ old.frames → new.events ≡ old.events ++ added →
+    goes B from (feed old.point) (here old) ≡ goes B to (feed new.point) (here new) → Steps B feed from old to new
+moves B feed from to old new added frames events same = record { begun = []; added = added; frames = frames; events = events; same = same }
+
+-- a step that adds no event either
+pub passes : (B : Behaviour) (feed : Feed) (from to : State) (old new : World) → new.frames ≡ old.frames → new.events ≡ old.events →
+    goes B from (feed old.point) (here old) ≡ goes B to (feed new.point) (here new) → Steps B feed from old to new
+passes B feed from to old new frames events same = moves B feed from to old new [] frames (events ∙ sym (append-nil old.events)) same
+
+-- a step that begins an attempt
+pub begins : (B : Behaviour) (feed : Feed) (from to : State) (old new : World) (added : List Event) (f : Frame) → new.frames ≡ f ∷ old.frames → new.events ≡ old.events ++ added →
+    goes B from (feed old.point) (here old) ≡ resume B feed new.events f (goes B to (feed new.point) (here new)) → Steps B feed from old to new
+begins B feed from to old new added f frames events same = record { begun = f ∷ []; added = added; frames = frames; events = events; same = same }
+
+-- and adds no event
+pub begins_only : (B : Behaviour) (feed : Feed) (from to : State) (old new : World) (f : Frame) → new.frames ≡ f ∷ old.frames → new.events ≡ old.events →
+    goes B from (feed old.point) (here old) ≡ resume B feed new.events f (goes B to (feed new.point) (here new)) → Steps B feed from old to new
+begins_only B feed from to old new f frames events same = begins B feed from to old new [] f frames (events ∙ sym (append-nil old.events)) same
+
+-- the cell of a byte that stands here
+abbrev pub cell_here : Feed → World → ℕ → Cell
+cell_here feed w b = record { byte = b; after = after w.setting w.point; line = line_of w.setting.line (feed w.point) }
+
+-- the cells from what stands here on
+abbrev pub ahead : Feed → World → Option ℕ → List Cell
+ahead feed w None = []
+ahead feed w (Some b) = cell_here feed w b ∷ feed (after w.setting w.point)
+
+-- the feed goes on with what the tokenizer sees
+pub record Sees (feed : Feed) (w : World) : Type 0 where
+  pub next : feed w.point ≡ ahead feed w w.current
+  pub short : length (feed w.point) < 2 ^ 63
+
+pub sees : (feed : Feed) (w : World) (is_end : Bool) → Follows feed w.setting is_end → (is_end ≡ true) ⊎ (w.point.index < w.setting.limit) → Sees feed (reading w)
+sees feed w is_end f may = record { next = go (nat_lt w.point.index w.setting.limit) refl may; short = f.short w.point }
+  where
+    go : (b : Bool) → nat_lt w.point.index w.setting.limit ≡ b → (is_end ≡ true) ⊎ (w.point.index < w.setting.limit) → feed w.point ≡ ahead feed w (looks w)
+    go true e may = let lt : w.point.index < w.setting.limit = grind (arith, nat_tests) in rw e (f.cell w.point lt)
+    go false e (inl end) = let le : w.setting.limit ≤ w.point.index = grind (arith, nat_tests) in rw e (f.none end w.point le)
+    go false e (inr lt) = grind (arith, nat_tests)

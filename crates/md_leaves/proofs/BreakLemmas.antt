@@ -1,0 +1,167 @@
+-- What is left of a break, cell by cell.
+use Rattle.std.proofs.Common.{◌≡◌, ℕ, zero, suc, ◌+◌, ◌≤◌, Bool, true, false, cond, ◌&&◌, ◌||◌, nat_eq, List, [], ◌∷◌, ◌++◌, length, refl, sym, ◌∙◌, ap, ap₂, arith, append_assoc, append-nil}
+use Rattle.std.specs.Prelude.{count_by, nat_le}
+use Rattle.std.proofs.lemmas.Bool.Decides.{Decides-eqb, nat_tests}
+use Rattle.std.proofs.lemmas.List.Sums.{sum_by-cons}
+use Rattle.md_engine.specs.declared.event.Name.TheVariants.{SpaceOrTab, ThematicBreakSequence}
+use Rattle.md_engine.specs.declared.event.Point.{Point}
+use Rattle.md_engine.specs.declared.tokenizer.Scratch.{Scratch}
+use Rattle.md_engine.specs.Meaning.{Cell, Here, Outcome, Refuses}
+use Rattle.md_leaves.specs.Break.{is_marker, without_marker}
+use Rattle.md_leaves.specs.BreakRule.{Apart, Marks, Run, White, at_break, before_marker, in_break, marks}
+use Rattle.md_seam.specs.Ahead.{line_bytes, white_end, white_rest}
+use Rattle.md_seam.specs.Nested.{enter, exit}
+use Rattle.md_seam.specs.Rest.{is_white}
+
+pub marks-none : (m : ℕ) → marks m [] ≡ 0
+unfolding marks
+marks-none m = refl
+
+marks-one : (m b : ℕ) (bs : List ℕ) → nat_eq b m ≡ true → marks m (b ∷ bs) ≡ 1 + marks m bs
+unfolding marks
+marks-one m b bs e = sum_by-cons (λ (x : ℕ). cond (nat_eq x m) 1 0) b bs ∙ rw e refl
+
+marks-other : (m b : ℕ) (bs : List ℕ) → nat_eq b m ≡ false → marks m (b ∷ bs) ≡ marks m bs
+unfolding marks
+marks-other m b bs e = sum_by-cons (λ (x : ℕ). cond (nat_eq x m) 1 0) b bs ∙ rw e (omega arith)
+
+-- one marker more
+pub in_break-mark : (c : Cell) (cs : List Cell) (h : Here) → nat_eq c.byte h.scratch.marker ≡ true → nat_eq c.byte 10 ≡ false →
+    in_break Marks (c ∷ cs) h ≡ in_break Marks cs (record h { point = c.after; scratch = record h.scratch { size = h.scratch.size + 1 } })
+unfolding in_break
+in_break-mark c cs h is ending =
+    let m = h.scratch.marker in
+    let n = marks m (line_bytes cs) in
+    let sum : h.scratch.size + (1 + n) ≡ h.scratch.size + 1 + n = omega arith in
+    rw (ending, is, marks-one m c.byte (line_bytes cs) is, sum) refl
+
+-- one column of whitespace more
+in_break-white : (c : Cell) (cs : List Cell) (h : Here) → nat_eq c.byte h.scratch.marker ≡ false → is_white c.byte ≡ true → nat_eq c.byte 10 ≡ false →
+    in_break White (c ∷ cs) h ≡ in_break White cs (record h { point = c.after })
+unfolding in_break
+in_break-white c cs h is white ending = rw (ending, is, marks-other h.scratch.marker c.byte (line_bytes cs) is, white) refl
+
+-- a line with something else is no break
+pub in_break-other : (run : Run) (c : Cell) (cs : List Cell) (h : Here) → nat_eq c.byte h.scratch.marker ≡ false → is_white c.byte ≡ false → nat_eq c.byte 10 ≡ false →
+    in_break run (c ∷ cs) h ≡ Refuses (without_marker h.scratch) h.flags
+unfolding in_break
+in_break-other run c cs h is white ending = rw (ending, is, white) refl
+
+-- equal numbers
+pub eq-of : (a b : ℕ) → nat_eq a b ≡ true → a ≡ b
+eq-of a b e = (Decides-eqb a b).0 e
+
+pub marker-no_ending : (m : ℕ) → is_marker m ≡ true → nat_eq m 10 ≡ false
+marker-no_ending m h = grind (arith, nat_tests)
+
+pub marker-no_white : (m : ℕ) → is_marker m ≡ true → is_white m ≡ false
+marker-no_white m h = grind (arith, nat_tests)
+
+-- whitespace is not what is no whitespace
+white-apart : (c m : ℕ) → is_white c ≡ true → is_white m ≡ false → nat_eq c m ≡ false
+white-apart c m s k = go (nat_eq c m) refl
+  where
+    go : (x : Bool) → nat_eq c m ≡ x → x ≡ false
+    go false e = refl
+    go true e = let same : is_white m ≡ true = rw (eq-of c m e) at s in let bad : true ≡ false = sym same ∙ k in cc
+
+-- whitespace ends no line
+pub white-no_ending : (c : ℕ) → is_white c ≡ true → nat_eq c 10 ≡ false
+white-no_ending c s = white-apart c 10 s refl
+
+-- where whitespace ends, the rest is what is left behind it
+white-ends : (c : Cell) (cs : List Cell) (h : Here) → is_white c.byte ≡ false →
+    in_break White (c ∷ cs) h ≡ in_break Apart (c ∷ cs) (record h { events = h.events ++ exit SpaceOrTab h.point ∷ [] })
+unfolding in_break
+white-ends c cs h k = go (nat_eq c.byte 10) (nat_eq c.byte h.scratch.marker) refl refl
+  where
+    go : (x y : Bool) → nat_eq c.byte 10 ≡ x → nat_eq c.byte h.scratch.marker ≡ y →
+        in_break White (c ∷ cs) h ≡ in_break Apart (c ∷ cs) (record h { events = h.events ++ exit SpaceOrTab h.point ∷ [] })
+    go true y e f = rw (e, append-nil) refl
+    go false true e f = rw (e, f) (simp append_assoc)
+    go false false e f = in_break-other White c cs h f k e ∙ sym (in_break-other Apart c cs _ f k e)
+
+-- where markers end and no whitespace stands
+pub marks-end : (c : Cell) (cs : List Cell) (h : Here) → is_white c.byte ≡ false → nat_eq c.byte h.scratch.marker ≡ false →
+    in_break Marks (c ∷ cs) h ≡ in_break Apart (c ∷ cs) (record h { events = h.events ++ exit ThematicBreakSequence h.point ∷ [] })
+unfolding in_break
+marks-end c cs h k f = go (nat_eq c.byte 10) refl
+  where
+    go : (x : Bool) → nat_eq c.byte 10 ≡ x →
+        in_break Marks (c ∷ cs) h ≡ in_break Apart (c ∷ cs) (record h { events = h.events ++ exit ThematicBreakSequence h.point ∷ [] })
+    go true e = rw (e, append-nil) refl
+    go false e = in_break-other Marks c cs h f k e ∙ sym (in_break-other Apart c cs _ f k e)
+
+pub marks-at_none : (h : Here) → in_break Marks [] h ≡ in_break Apart [] (record h { events = h.events ++ exit ThematicBreakSequence h.point ∷ [] })
+unfolding in_break
+marks-at_none h = rw append-nil refl
+
+white-at_none : (h : Here) → in_break White [] h ≡ in_break Apart [] (record h { events = h.events ++ exit SpaceOrTab h.point ∷ [] })
+unfolding in_break
+white-at_none h = rw append-nil refl
+
+-- from markers to whitespace
+pub marks-white : (c : Cell) (cs : List Cell) (h : Here) → is_white c.byte ≡ true → nat_eq c.byte h.scratch.marker ≡ false →
+    in_break Marks (c ∷ cs) h ≡ in_break White (c ∷ cs) (record h { events = h.events ++ exit ThematicBreakSequence h.point ∷ [] ++ enter SpaceOrTab h.point ∷ [] })
+unfolding in_break
+marks-white c cs h s f = rw (white-no_ending c.byte s, f, s) (simp append_assoc)
+
+-- from between runs to markers
+pub apart-mark : (c : Cell) (cs : List Cell) (h : Here) → nat_eq c.byte h.scratch.marker ≡ true → nat_eq c.byte 10 ≡ false →
+    in_break Apart (c ∷ cs) h ≡ in_break Marks (c ∷ cs) (record h { events = h.events ++ enter ThematicBreakSequence h.point ∷ [] })
+unfolding in_break
+apart-mark c cs h is e = rw (e, is) (simp append_assoc)
+
+-- behind whitespace that ends
+unfoldable pub here_after : ℕ → List Cell → Here → Here
+here_after room cells h = record h { events = h.events ++ exit SpaceOrTab (white_end room cells h.point) ∷ []; point = white_end room cells h.point }
+
+run-go_on : (room : ℕ) (c : Cell) (cs : List Cell) (h : Here) → is_white c.byte ≡ true →
+    at_break (white_rest room cs) (here_after room cs (record h { point = c.after })) ≡ at_break (white_rest (suc room) (c ∷ cs)) (here_after (suc room) (c ∷ cs) h)
+unfolding here_after
+run-go_on room c cs h s = rw s refl
+
+run-stop : (room : ℕ) (c : Cell) (cs : List Cell) (h : Here) → is_white c.byte ≡ false →
+    in_break Apart (c ∷ cs) (record h { events = h.events ++ exit SpaceOrTab h.point ∷ [] }) ≡ at_break (white_rest (suc room) (c ∷ cs)) (here_after (suc room) (c ∷ cs) h)
+unfolding here_after at_break
+run-stop room c cs h k = rw (k, k) refl
+
+-- behind a run of whitespace, however long
+pub white-run : (room : ℕ) (cells : List Cell) (h : Here) → length cells ≤ room → is_white h.scratch.marker ≡ false →
+    in_break White cells h ≡ at_break (white_rest room cells) (here_after room cells h)
+unfolding at_break here_after
+white-run room [] h le apart = white-at_none h
+white-run zero (c ∷ cs) h le apart = absurd (omega arith)
+white-run (suc room) (c ∷ cs) h le apart = go (is_white c.byte) refl (white-run room cs (record h { point = c.after }) (omega arith) apart)
+  where
+    go : (x : Bool) → is_white c.byte ≡ x → in_break White cs (record h { point = c.after }) ≡ at_break (white_rest room cs) (here_after room cs (record h { point = c.after })) →
+        in_break White (c ∷ cs) h ≡ at_break (white_rest (suc room) (c ∷ cs)) (here_after (suc room) (c ∷ cs) h)
+    go true s ih = in_break-white c cs h (white-apart c.byte h.scratch.marker s apart) s (white-no_ending c.byte s) ∙ ih ∙ run-go_on room c cs h s
+    go false k ih = white-ends c cs h k ∙ run-stop room c cs h k
+
+three-of : (n : ℕ) → nat_le 3 (0 + (1 + n)) ≡ nat_le 2 n
+three-of n = go (nat_le 2 n) refl
+  where
+    go : (x : Bool) → nat_le 2 n ≡ x → nat_le 3 (0 + (1 + n)) ≡ x
+    go true e = grind (arith, nat_tests)
+    go false e = grind (arith, nat_tests)
+
+counted : (m : ℕ) (bs : List ℕ) → count_by (λ b. nat_eq b m) bs ≡ marks m bs
+unfolding marks
+counted m bs = refl
+
+-- a rule is a break with its first byte as marker, of which none was taken
+pub before-mark : (c : Cell) (cs : List Cell) (h : Here) → is_marker c.byte ≡ true → h.scratch.size ≡ 0 →
+    before_marker (c ∷ cs) h ≡ in_break Apart (c ∷ cs) (record h { scratch = record h.scratch { marker = c.byte } })
+unfolding before_marker in_break
+before-mark c cs h mark none =
+    let same : nat_eq c.byte c.byte ≡ true = grind (arith, nat_tests) in
+    rw (marker-no_ending c.byte mark, mark, none, marks-one c.byte c.byte (line_bytes cs) same, same, three-of (marks c.byte (line_bytes cs)), counted c.byte (line_bytes cs)) refl
+
+pub before-other : (c : Cell) (cs : List Cell) (h : Here) → is_marker c.byte ≡ false → before_marker (c ∷ cs) h ≡ Refuses (without_marker h.scratch) h.flags
+unfolding before_marker
+before-other c cs h mark = go (nat_eq c.byte 10) refl
+  where
+    go : (x : Bool) → nat_eq c.byte 10 ≡ x → before_marker (c ∷ cs) h ≡ Refuses (without_marker h.scratch) h.flags
+    go true e = rw e refl
+    go false e = rw (e, mark) refl

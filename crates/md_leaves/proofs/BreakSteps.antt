@@ -1,0 +1,207 @@
+-- Each state of a thematic break takes one step of its rule.
+use Rattle.std.proofs.Common.{◌≡◌, ℕ, ◌+◌, ◌<◌, ◌≤◌, ◌^◌, Bool, true, false, cond, ◌&&◌, nat_eq, List, [], ◌∷◌, ◌++◌, length, Option, Some, None, refl, sym, ◌∙◌, ap, ap₂, arith, append_assoc, append-nil, add-zero}
+use Rattle.std.specs.Prelude.{nat_le}
+use Rattle.std.proofs.lemmas.Bool.Decides.{nat_tests}
+use Rattle.md_engine.specs.declared.configuration.ParseOptions.{ParseOptions}
+use Rattle.md_engine.specs.declared.event.Event.{Event}
+use Rattle.md_engine.specs.declared.event.Name.TheVariants.{SpaceOrTab, ThematicBreak}
+use Rattle.md_engine.specs.declared.event.Name.TheVariants as parts
+use Rattle.md_engine.specs.declared.state.Name.TheVariants as n
+use Rattle.md_engine.specs.declared.state.State.{State}
+use Rattle.md_engine.specs.declared.state.State.TheVariants.{Nok, Next, Retry}
+use Rattle.md_engine.specs.declared.tokenizer.Frame.{Frame}
+use Rattle.md_engine.specs.declared.tokenizer.Scratch.{Scratch}
+use Rattle.md_engine.specs.declared.tokenizer.Whitespace.{Whitespace}
+use Rattle.md_engine.specs.Meaning.{Accepts, Behaviour, Cell, Feed, Here, Refuses, Steps, goes, here, resume}
+use Rattle.md_engine.specs.World.{World, after}
+use Rattle.md_engine.proofs.StepOf.{Sees, ahead, begins, cell_here, moves, passes}
+use Rattle.md_leaves.specs.Break.{at_break_code, before_code, is_marker, sequence_code, start_code, without_marker}
+use Rattle.md_leaves.specs.BreakRule.{Apart, HasBreak, Marks, White, at_break, before_marker, break_at, in_break}
+use Rattle.md_leaves.proofs.BreakLemmas.{apart-mark, before-mark, before-other, eq-of, here_after, in_break-mark, in_break-other, marker-no_ending, marker-no_white, marks-at_none, marks-end, marks-none, marks-white, white-run}
+use Rattle.md_seam.specs.Ahead.{begins_white, white_end, white_rest}
+use Rattle.md_seam.specs.Nested.{enter, exit}
+use Rattle.md_seam.specs.Rest.{is_white}
+use Rattle.md_seam.specs.Spaces.{IsRest, any_size, asking, calmed, ends_line, is_current, sees_white, small_indent}
+use Rattle.md_seam.proofs.WhiteSteps.{begins-seen, behind_white, white-tried}
+
+-- what is seen of a byte
+sees-byte : (feed : Feed) (w : World) (m : ℕ) → Sees feed w → is_current m w.current ≡ true →
+    (b : ℕ) × (feed w.point ≡ cell_here feed w b ∷ feed (after w.setting w.point)) × (nat_eq b m ≡ true)
+sees-byte feed w m s e = go w.current e s.next
+  where
+    go : (o : Option ℕ) → is_current m o ≡ true → feed w.point ≡ ahead feed w o → (b : ℕ) × (feed w.point ≡ cell_here feed w b ∷ feed (after w.setting w.point)) × (nat_eq b m ≡ true)
+    go None e k = cc
+    go (Some b) e k = (b, k, e)
+
+sees-other_white : (feed : Feed) (w : World) (m : ℕ) → Sees feed w → is_current m w.current ≡ false → sees_white w.current ≡ true →
+    (b : ℕ) × (feed w.point ≡ cell_here feed w b ∷ feed (after w.setting w.point)) × (nat_eq b m ≡ false) × (is_white b ≡ true)
+sees-other_white feed w m s e f = go w.current e f s.next
+  where
+    go : (o : Option ℕ) → is_current m o ≡ false → sees_white o ≡ true → feed w.point ≡ ahead feed w o → (b : ℕ) × (feed w.point ≡ cell_here feed w b ∷ feed (after w.setting w.point)) × (nat_eq b m ≡ false) × (is_white b ≡ true)
+    go None e f k = cc
+    go (Some b) e f k = (b, k, e, f)
+
+abbrev behind_marks : Here → Here
+behind_marks h = record h { events = h.events ++ exit parts.ThematicBreakSequence h.point ∷ [] }
+
+-- neither a marker nor whitespace stands here
+marks-stop : (feed : Feed) (w : World) (h : Here) (o : Option ℕ) → is_current h.scratch.marker o ≡ false → sees_white o ≡ false → in_break Marks (ahead feed w o) h ≡ at_break (ahead feed w o) (behind_marks h)
+unfolding at_break
+marks-stop feed w h None e f = marks-at_none h
+marks-stop feed w h (Some b) e f = marks-end (cell_here feed w b) (feed (after w.setting w.point)) h f e ∙ rw f refl
+
+to-white : (cells : List Cell) (c : Cell) (cs : List Cell) (h : Here) → cells ≡ c ∷ cs → is_white c.byte ≡ true → nat_eq c.byte h.scratch.marker ≡ false →
+    in_break Marks cells h ≡ in_break White cells (record h { events = h.events ++ exit parts.ThematicBreakSequence h.point ∷ [] ++ enter SpaceOrTab h.point ∷ [] })
+to-white cells c cs h e s k = ap (λ (x : List Cell). in_break Marks x h) e ∙ marks-white c cs h s k
+    ∙ ap (λ (x : List Cell). in_break White x (record h { events = h.events ++ exit parts.ThematicBreakSequence h.point ∷ [] ++ enter SpaceOrTab h.point ∷ [] })) (sym e)
+
+-- whitespace at rest is as it is when calmed
+calm-same : (s : Scratch) → IsRest (without_marker s) → calmed s ≡ s
+calm-same s r = ap (λ (x : Whitespace). let t : Scratch = record s { whitespace = x } in t) (sym (ap (λ (t : Scratch). t.whitespace) r))
+
+abbrev white_frame : State → World → List Event → Frame
+white_frame ok w events = record { ok = ok; nok = Nok; is_check = false; events_len = length events; point = w.point }
+
+-- the same place, its events written in another way
+joined : (room : ℕ) (cells : List Cell) (h : Here) → calmed h.scratch ≡ h.scratch →
+    here_after room cells (record h { events = h.events ++ enter SpaceOrTab h.point ∷ [] }) ≡ behind_white room cells h
+unfolding here_after
+joined room cells h same =
+    ap₂ (λ (es : List Event) (t : Scratch). let r : Here = record h { events = es; point = white_end room cells h.point; scratch = t } in r) (append_assoc h.events (enter SpaceOrTab h.point ∷ []) _) (sym same)
+
+pub sequence_steps : (B : Behaviour) (options : ParseOptions) (feed : Feed) (w : World) (x y : Bool) → HasBreak B options → Sees feed w → IsRest (without_marker w.scratch) → is_marker w.scratch.marker ≡ true →
+    is_current w.scratch.marker w.current ≡ x → sees_white w.current ≡ y → Steps B feed (Next n.ThematicBreakSequence) w (sequence_code w x y).to (sequence_code w x y).world
+sequence_steps B options feed w true y has s r mark e f =
+    let saw = sees-byte feed w w.scratch.marker s e in
+    let ending : nat_eq saw.0 10 ≡ false = rw (eq-of saw.0 w.scratch.marker saw.2) (marker-no_ending w.scratch.marker mark) in
+    passes B feed _ _ w (sequence_code w true y).world refl refl
+      (has.sequence _ _ ∙ ap (λ (x : List Cell). in_break Marks x (here w)) saw.1
+        ∙ in_break-mark (cell_here feed w saw.0) (feed (after w.setting w.point)) (here w) saw.2 ending ∙ sym (has.sequence _ _))
+sequence_steps B options feed w false true has s r mark e f =
+    let saw = sees-other_white feed w w.scratch.marker s e f in
+    let h : Here = behind_marks (here w) in
+    let frame : Frame = white_frame (Next n.ThematicBreakAtBreak) w h.events in
+    begins B feed _ _ w (sequence_code w false true).world (exit parts.ThematicBreakSequence w.point ∷ []) frame refl refl
+      (has.sequence _ _
+        ∙ to-white (feed w.point) (cell_here feed w saw.0) (feed (after w.setting w.point)) (here w) saw.1 saw.3 saw.2
+        ∙ white-run any_size (feed w.point) (record h { events = h.events ++ enter SpaceOrTab h.point ∷ [] }) (omega (arith, s.short)) (marker-no_white w.scratch.marker mark)
+        ∙ ap (at_break (white_rest any_size (feed w.point))) (joined any_size (feed w.point) h (calm-same w.scratch r))
+        ∙ sym (has.at_break _ _)
+        ∙ white-tried B feed frame h.events (feed w.point) h 0 any_size has.white (begins-seen feed w s ∙ f) (omega arith) (omega arith) refl)
+sequence_steps B options feed w false false has s r mark e f =
+    moves B feed _ _ w (sequence_code w false false).world (exit parts.ThematicBreakSequence w.point ∷ []) refl refl
+      (has.sequence _ _ ∙ ap (λ (x : List Cell). in_break Marks x (here w)) s.next
+        ∙ marks-stop feed w (here w) w.current e f ∙ ap (λ (x : List Cell). at_break x (behind_marks (here w))) (sym s.next) ∙ sym (has.at_break _ _))
+
+-- no whitespace stands before a marker
+at_break-mark : (c : Cell) (cs : List Cell) (h : Here) → nat_eq c.byte h.scratch.marker ≡ true → is_marker h.scratch.marker ≡ true →
+    at_break (c ∷ cs) h ≡ in_break Marks (c ∷ cs) (record h { events = h.events ++ enter parts.ThematicBreakSequence h.point ∷ [] })
+unfolding at_break
+at_break-mark c cs h is mark =
+    let white : is_white c.byte ≡ false = rw (eq-of c.byte h.scratch.marker is) (marker-no_white h.scratch.marker mark) in
+    let ending : nat_eq c.byte 10 ≡ false = rw (eq-of c.byte h.scratch.marker is) (marker-no_ending h.scratch.marker mark) in
+    rw white (apart-mark c cs h is ending)
+
+at_break-end : (feed : Feed) (w : World) (h : Here) (o : Option ℕ) → ends_line o && nat_le 3 h.scratch.size ≡ true →
+    at_break (ahead feed w o) h ≡ Accepts (record h { events = h.events ++ exit ThematicBreak h.point ∷ []; scratch = without_marker h.scratch; flags = record h.flags { interrupt = false } }) (ahead feed w o)
+unfolding at_break in_break
+at_break-end feed w h None e = rw (marks-none, add-zero, e, append-nil) refl
+at_break-end feed w h (Some b) e = go (nat_eq b 10) refl e
+  where
+    go : (x : Bool) → nat_eq b 10 ≡ x → x && nat_le 3 h.scratch.size ≡ true →
+        at_break (ahead feed w (Some b)) h ≡ Accepts (record h { events = h.events ++ exit ThematicBreak h.point ∷ []; scratch = without_marker h.scratch; flags = record h.flags { interrupt = false } }) (ahead feed w (Some b))
+    go true is e = let ten : b ≡ 10 = eq-of b 10 is in rw (ten, marks-none, add-zero, e, append-nil) refl
+    go false is e = cc
+
+at_break-no : (feed : Feed) (w : World) (h : Here) (o : Option ℕ) → is_current h.scratch.marker o ≡ false → ends_line o && nat_le 3 h.scratch.size ≡ false →
+    at_break (ahead feed w o) h ≡ Refuses (without_marker h.scratch) h.flags
+unfolding at_break in_break
+at_break-no feed w h None k e = rw (marks-none, add-zero, e) refl
+at_break-no feed w h (Some b) k e = go (is_white b) (nat_eq b 10) refl refl e
+  where
+    go : (x y : Bool) → is_white b ≡ x → nat_eq b 10 ≡ y → y && nat_le 3 h.scratch.size ≡ false → at_break (ahead feed w (Some b)) h ≡ Refuses (without_marker h.scratch) h.flags
+    go true y s t e = rw s refl
+    go false true s t e = let ten : b ≡ 10 = eq-of b 10 t in rw (ten, marks-none, add-zero, e) refl
+    go false false s t e = rw s (in_break-other Apart (cell_here feed w b) (feed (after w.setting w.point)) h k s t)
+
+pub at_break_steps : (B : Behaviour) (options : ParseOptions) (feed : Feed) (w : World) (x y : Bool) → HasBreak B options → Sees feed w → is_marker w.scratch.marker ≡ true →
+    is_current w.scratch.marker w.current ≡ x → ends_line w.current && nat_le 3 w.scratch.size ≡ y → Steps B feed (Next n.ThematicBreakAtBreak) w (at_break_code w x y).to (at_break_code w x y).world
+at_break_steps B options feed w true y has s mark e f =
+    let saw = sees-byte feed w w.scratch.marker s e in
+    moves B feed _ _ w (at_break_code w true y).world (enter parts.ThematicBreakSequence w.point ∷ []) refl refl
+      (has.at_break _ _ ∙ ap (λ (x : List Cell). at_break x (here w)) saw.1
+        ∙ at_break-mark (cell_here feed w saw.0) (feed (after w.setting w.point)) (here w) saw.2 mark
+        ∙ ap (λ (x : List Cell). in_break Marks x (record (here w) { events = w.events ++ enter parts.ThematicBreakSequence w.point ∷ [] })) (sym saw.1) ∙ sym (has.sequence _ _))
+at_break_steps B options feed w false true has s mark e f =
+    moves B feed _ _ w (at_break_code w false true).world (exit ThematicBreak w.point ∷ []) refl refl
+      (has.at_break _ _ ∙ rw s.next (at_break-end feed w (here w) w.current f))
+at_break_steps B options feed w false false has s mark e f =
+    passes B feed _ _ w (at_break_code w false false).world refl refl (has.at_break _ _ ∙ rw s.next (at_break-no feed w (here w) w.current e f))
+
+before-none : (h : Here) → before_marker [] h ≡ Refuses (without_marker h.scratch) h.flags
+unfolding before_marker
+before-none h = refl
+
+-- between two runs, where the marker stands
+at_break-apart : (c : Cell) (cs : List Cell) (h : Here) → is_marker c.byte ≡ true → in_break Apart (c ∷ cs) h ≡ at_break (c ∷ cs) h
+unfolding at_break
+at_break-apart c cs h mark = rw (marker-no_white c.byte mark) refl
+
+pub before_steps : (B : Behaviour) (options : ParseOptions) (feed : Feed) (w : World) → HasBreak B options → Sees feed w → IsRest w.scratch →
+    Steps B feed (Next n.ThematicBreakBefore) w (before_code w w.current).to (before_code w w.current).world
+before_steps B options feed w has s r = go w.current s.next
+  where
+    rest : without_marker w.scratch ≡ w.scratch
+    rest = ap without_marker r ∙ sym r
+    refused : before_marker (feed w.point) (here w) ≡ Refuses (without_marker w.scratch) w.flags → Steps B feed (Next n.ThematicBreakBefore) w Nok w
+    refused e = passes B feed _ Nok w w refl refl (has.before _ _ ∙ e ∙ ap (λ (x : Scratch). Refuses x w.flags) rest)
+    go : (o : Option ℕ) → feed w.point ≡ ahead feed w o → Steps B feed (Next n.ThematicBreakBefore) w (before_code w o).to (before_code w o).world
+    go None e = refused (ap (λ (x : List Cell). before_marker x (here w)) e ∙ before-none (here w))
+    go (Some b) e = by (is_marker b) refl
+      where
+        by : (x : Bool) → is_marker b ≡ x → Steps B feed (Next n.ThematicBreakBefore) w (before_code w (Some b)).to (before_code w (Some b)).world
+        by true k =
+            let c = cell_here feed w b in
+            let cs = feed (after w.setting w.point) in
+            let h : Here = record (here w) { scratch = record w.scratch { marker = b } } in
+            rw k (passes B feed _ (Retry n.ThematicBreakAtBreak) w (record w { scratch = record w.scratch { marker = b } }) refl refl
+              (has.before _ _ ∙ ap (λ (x : List Cell). before_marker x (here w)) e ∙ before-mark c cs (here w) k (ap (λ (t : Scratch). t.size) r)
+                ∙ at_break-apart c cs h k ∙ ap (λ (x : List Cell). at_break x h) (sym e) ∙ sym (has.at_break _ _)))
+        by false k = rw k (refused (ap (λ (x : List Cell). before_marker x (here w)) e ∙ before-other (cell_here feed w b) (feed (after w.setting w.point)) (here w) k))
+
+small-some : (options : ParseOptions) → 1 ≤ small_indent options
+small-some options = go options.constructs.code_indented
+  where
+    go : (b : Bool) → 1 ≤ cond b 3 any_size
+    go true = omega arith
+    go false = omega arith
+
+abbrev entered_here : Here → Here
+entered_here h = record h { events = h.events ++ enter ThematicBreak h.point ∷ [] }
+
+at-off : (options : ParseOptions) (cells : List Cell) (h : Here) → options.constructs.thematic_break ≡ false → break_at options cells h ≡ Refuses h.scratch h.flags
+unfolding break_at
+at-off options cells h off = rw off refl
+
+at-white : (options : ParseOptions) (cells : List Cell) (h : Here) → options.constructs.thematic_break ≡ true → begins_white cells ≡ true →
+    break_at options cells h ≡ before_marker (white_rest (small_indent options) cells) (behind_white (small_indent options) cells (entered_here h))
+unfolding break_at
+at-white options cells h on s = rw (on, s) refl
+
+at-none : (options : ParseOptions) (cells : List Cell) (h : Here) → options.constructs.thematic_break ≡ true → begins_white cells ≡ false → break_at options cells h ≡ before_marker cells (entered_here h)
+unfolding break_at
+at-none options cells h on s = rw (on, s) refl
+
+pub start_steps : (B : Behaviour) (feed : Feed) (w : World) (x y : Bool) → HasBreak B w.setting.options → Sees feed w → w.setting.options.constructs.thematic_break ≡ x → sees_white w.current ≡ y →
+    Steps B feed (Next n.ThematicBreakStart) w (start_code w x y).to (start_code w x y).world
+start_steps B feed w false y has s e f = passes B feed _ _ w w refl refl (has.start _ _ ∙ at-off _ (feed w.point) (here w) e)
+start_steps B feed w true true has s e f =
+    let h : Here = entered_here (here w) in
+    let frame : Frame = white_frame (Next n.ThematicBreakBefore) w h.events in
+    let white : begins_white (feed w.point) ≡ true = begins-seen feed w s ∙ f in
+    begins B feed _ _ w (start_code w true true).world (enter ThematicBreak w.point ∷ []) frame refl refl
+      (has.start _ _ ∙ at-white _ (feed w.point) (here w) e white ∙ sym (has.before _ _)
+        ∙ white-tried B feed frame h.events (feed w.point) h 0 (small_indent w.setting.options) has.white white (small-some w.setting.options) (omega arith) refl)
+start_steps B feed w true false has s e f =
+    moves B feed _ _ w (start_code w true false).world (enter ThematicBreak w.point ∷ []) refl refl
+      (has.start _ _ ∙ at-none _ (feed w.point) (here w) e (begins-seen feed w s ∙ f) ∙ sym (has.before _ _))

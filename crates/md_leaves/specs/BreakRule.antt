@@ -1,0 +1,82 @@
+-- The rule of a thematic break, as what is left of it at each state (CommonMark 4.1).
+use Rattle.std.specs.Prelude.{◌≡◌, ℕ, ◌+◌, Bool, false, ◌&&◌, ◌||◌, ◌==◌, not, nat_le, if◌then◌else◌, List, [], ◌∷◌, ◌++◌, count_by}
+use Rattle.std.specs.List.{list_all}
+use Rattle.md_engine.specs.declared.configuration.ParseOptions.{ParseOptions}
+use Rattle.md_engine.specs.declared.event.Event.{Event}
+use Rattle.md_engine.specs.declared.event.Name.TheVariants.{SpaceOrTab, ThematicBreak, ThematicBreakSequence}
+use Rattle.md_engine.specs.declared.event.Point.{Point}
+use Rattle.md_engine.specs.declared.state.Name.TheVariants.{ThematicBreakStart, ThematicBreakBefore, ThematicBreakAtBreak, ThematicBreakSequence as Sequence}
+use Rattle.md_engine.specs.Meaning.{Accepts, Behaviour, Cell, Here, Outcome, Refuses}
+use Rattle.md_leaves.specs.Break.{without_marker}
+use Rattle.md_seam.specs.Ahead.{HasWhite, begins_white, from_ending, line_bytes, line_cells, line_end, white_end, white_rest}
+use Rattle.md_seam.specs.Leaves.{is_rule}
+use Rattle.md_seam.specs.Nested.{enter, exit}
+use Rattle.md_seam.specs.Rest.{is_white}
+use Rattle.md_seam.specs.Spaces.{calmed, small_indent}
+
+-- in which run of a line a place lies
+pub data Run : Type 0 where
+  -- between two runs
+  Apart : Run
+  Marks : Run
+  White : Run
+
+-- the runs of markers and of whitespace that are left of a line: each is one part, as long as it can be
+abbrev pub runs : Run → ℕ → List Cell → Point → List Event
+runs Apart m [] p = []
+runs Marks m [] p = exit ThematicBreakSequence p ∷ []
+runs White m [] p = exit SpaceOrTab p ∷ []
+runs Apart m (c ∷ cs) p = if c.byte == m then enter ThematicBreakSequence p ∷ runs Marks m cs c.after else enter SpaceOrTab p ∷ runs White m cs c.after
+runs Marks m (c ∷ cs) p = if c.byte == m then runs Marks m cs c.after else exit ThematicBreakSequence p ∷ enter SpaceOrTab p ∷ runs White m cs c.after
+runs White m (c ∷ cs) p = if c.byte == m then exit SpaceOrTab p ∷ enter ThematicBreakSequence p ∷ runs Marks m cs c.after else runs White m cs c.after
+
+-- a break to the end of the line
+abbrev pub broken : Run → ℕ → List Cell → Here → Outcome
+broken run m cells h =
+    let p = line_end cells h.point in
+    Accepts (record {
+      events = h.events ++ runs run m (line_cells cells) h.point ++ exit ThematicBreak p ∷ [];
+      point = p;
+      scratch = without_marker h.scratch;
+      flags = record h.flags { interrupt = false };
+    }) (from_ending cells)
+
+-- how many of the marker there are
+unfoldable pub marks : ℕ → List ℕ → ℕ
+marks m bytes = count_by (λ b. b == m) bytes
+
+-- what is left of a break in a line, in this run: only the marker and whitespace, and three markers in all
+unfoldable pub in_break : Run → List Cell → Here → Outcome
+in_break run cells h =
+    let m = h.scratch.marker in
+    let bytes = line_bytes cells in
+    if list_all (λ b. (b == m) || is_white b) bytes && nat_le 3 (h.scratch.size + marks m bytes)
+    then broken run m cells h
+    else Refuses (without_marker h.scratch) h.flags
+
+-- behind a run
+unfoldable pub at_break : List Cell → Here → Outcome
+at_break cells h = if begins_white cells then Refuses (without_marker h.scratch) h.flags else in_break Apart cells h
+
+-- behind the indent
+unfoldable pub before_marker : List Cell → Here → Outcome
+before_marker [] h = Refuses (without_marker h.scratch) h.flags
+before_marker (c ∷ cs) h = if is_rule (line_bytes (c ∷ cs)) then broken Apart c.byte (c ∷ cs) h else Refuses (without_marker h.scratch) h.flags
+
+-- the whole rule, if breaks are on: a small indent, and a rule behind it
+unfoldable pub break_at : ParseOptions → List Cell → Here → Outcome
+break_at options cells h =
+    let entered = h.events ++ enter ThematicBreak h.point ∷ [] in
+    let room = small_indent options in
+    let p = white_end room cells h.point in
+    if not options.constructs.thematic_break then Refuses h.scratch h.flags
+    else if begins_white cells
+    then before_marker (white_rest room cells) (record h { events = entered ++ enter SpaceOrTab h.point ∷ exit SpaceOrTab p ∷ []; point = p; scratch = calmed h.scratch })
+    else before_marker cells (record h { events = entered })
+
+pub record HasBreak (B : Behaviour) (options : ParseOptions) : Type 0 where
+  pub white : HasWhite B
+  pub start : (cells : List Cell) (h : Here) → B ThematicBreakStart cells h ≡ break_at options cells h
+  pub before : (cells : List Cell) (h : Here) → B ThematicBreakBefore cells h ≡ before_marker cells h
+  pub at_break : (cells : List Cell) (h : Here) → B ThematicBreakAtBreak cells h ≡ at_break cells h
+  pub sequence : (cells : List Cell) (h : Here) → B Sequence cells h ≡ in_break Marks cells h
