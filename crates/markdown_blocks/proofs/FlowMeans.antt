@@ -59,26 +59,26 @@ blank_line_before_steps : (B : Behaviour) (feed : Feed) (w : World) (options : P
 blank_line_before_steps B feed w options has =
     let f : Frame = frame_here (Next n.FlowBlankLineAfter) (Next n.FlowBeforeThematicBreak) w in
     begins_only B feed _ _ w (blank_line_before_went w).world f refl refl
-      (has.blank_line_before _ _ ∙ flow_by_line options (feed w.point) (here w)
-        ∙ resumed B feed w (Next n.FlowBlankLineAfter) (Next n.FlowBeforeThematicBreak) (blank_at (feed w.point) (here w)) (blank_ended (flow_at options)) _ has.blank_line_after (λ s g. has.before_thematic_break _ _)
-        ∙ ap (resume B feed w.events f) (sym (has.blank.start _ _)))
+    (has.blank_line_before _ _ ∙ flow_by_line options (feed w.point) (here w)
+    ∙ resumed B feed w (Next n.FlowBlankLineAfter) (Next n.FlowBeforeThematicBreak) (blank_at (feed w.point) (here w)) (blank_ended (flow_at options)) _ has.blank_line_after (λ s g. has.before_thematic_break _ _)
+    ∙ ap (resume B feed w.events f) (sym (has.blank.start _ _)))
 
 before_thematic_break_steps : (B : Behaviour) (feed : Feed) (w : World) (options : ParseOptions) → HasFlow B options →
     Steps B feed (Next n.FlowBeforeThematicBreak) w (before_thematic_break_went w).to (before_thematic_break_went w).world
 before_thematic_break_steps B feed w options has =
     let f : Frame = frame_here (Next n.FlowAfter) (Next n.FlowBeforeContent) w in
     begins_only B feed _ _ w (before_thematic_break_went w).world f refl refl
-      (has.before_thematic_break _ _
-        ∙ resumed B feed w (Next n.FlowAfter) (Next n.FlowBeforeContent) (break_at options (feed w.point) (here w)) (ended (flow_at options) LineEnding) _ has.behind (λ s g. has.before_content _ _)
-        ∙ ap (resume B feed w.events f) (sym (has.break.start _ _)))
+    (has.before_thematic_break _ _
+    ∙ resumed B feed w (Next n.FlowAfter) (Next n.FlowBeforeContent) (break_at options (feed w.point) (here w)) (ended (flow_at options) LineEnding) _ has.behind (λ s g. has.before_content _ _)
+    ∙ ap (resume B feed w.events f) (sym (has.break.start _ _)))
 
 before_content_steps : (B : Behaviour) (feed : Feed) (w : World) (options : ParseOptions) → HasFlow B options → Steps B feed (Next n.FlowBeforeContent) w (before_content_went w).to (before_content_went w).world
 before_content_steps B feed w options has =
     let f : Frame = frame_here (Next n.FlowAfter) Nok w in
     begins_only B feed _ _ w (before_content_went w).world f refl refl
-      (has.before_content _ _
-        ∙ resumed B feed w (Next n.FlowAfter) Nok (chunk_at (feed w.point) (here w)) (ended (flow_at options) LineEnding) Refuses has.behind (λ s g. refl)
-        ∙ ap (resume B feed w.events f) (sym (has.chunk.start _ _)))
+    (has.before_content _ _
+    ∙ resumed B feed w (Next n.FlowAfter) Nok (chunk_at (feed w.point) (here w)) (ended (flow_at options) LineEnding) Refuses has.behind (λ s g. refl)
+    ∙ ap (resume B feed w.events f) (sym (has.chunk.start _ _)))
 
 -- the ending of a line, behind a world that differs in its flags
 ending_steps : (B : Behaviour) (feed : Feed) (from : State) (w : World) (options : ParseOptions) (name : Name) (o : Option ℕ) (g : Flags) → HasFlow B options → feed w.point ≡ ahead feed w o →
@@ -92,7 +92,7 @@ ending_steps B feed from w options name (Some b) g has next is = go (nat_eq b 10
         let p = after w.setting w.point in
         let split : w.events ++ enter name w.point ∷ [] ++ exit name p ∷ [] ≡ w.events ++ pair name w.point p = append_assoc w.events (enter name w.point ∷ []) (exit name p ∷ []) in
         rw e (moves B feed from (Next n.FlowStart) w (exited (taken (entered (record w { flags = g }) name)) name) (pair name w.point p) refl split
-          (is ∙ rw e (ap (λ (x : List Event). flow_at options (feed p) (record { events = x; point = p; scratch = w.scratch; flags = g })) (sym split)) ∙ sym (has.start _ _)))
+        (is ∙ rw e (ap (λ (x : List Event). flow_at options (feed p) (record { events = x; point = p; scratch = w.scratch; flags = g })) (sym split)) ∙ sym (has.start _ _)))
     go false e = rw e (passes B feed from Nok w (record w { flags = g }) refl refl (is ∙ rw e refl))
 
 -- behind a blank line
@@ -110,11 +110,16 @@ blank_line_after_steps B feed w options has s = rw (calm-current w w.current) (g
 
 flow_has : (options : ParseOptions) → HasFlow (flow_behaves options) options
 flow_has options = record {
-    blank = record { white = white; start = λ _ _. refl; behind = λ _ _. refl };
-    break = record { white = white; start = λ _ _. refl; before = λ _ _. refl; at_break = λ _ _. refl; sequence = λ _ _. refl };
-    chunk = record { start = λ _ _. refl; inside = λ _ _. refl };
-    start = λ _ _. refl; blank_line_before = λ _ _. refl; blank_line_after = λ _ _. refl; before_thematic_break = λ _ _. refl; before_content = λ _ _. refl; behind = λ _ _. refl
-  }
+  blank = record { white = white; start = λ _ _. refl; behind = λ _ _. refl };
+  break = record { white = white; start = λ _ _. refl; before = λ _ _. refl; at_break = λ _ _. refl; sequence = λ _ _. refl };
+  chunk = record { start = λ _ _. refl; inside = λ _ _. refl };
+  start = λ _ _. refl;
+  blank_line_before = λ _ _. refl;
+  blank_line_after = λ _ _. refl;
+  before_thematic_break = λ _ _. refl;
+  before_content = λ _ _. refl;
+  behind = λ _ _. refl;
+}
   where
     white : HasWhite (flow_behaves options)
     white = record { start = λ _ _. refl; inside = λ _ _. refl; behind = λ _ _. refl }
@@ -125,8 +130,10 @@ flow_steps is_content feed name w s at = go name at
   where
     B : Behaviour
     B = flow_behaves w.setting.options
+
     has : HasFlow B w.setting.options
     has = flow_has w.setting.options
+
     go : (name : StateName) → stands flow_table_scheme w (Next name) → Steps B feed (Next name) w (flow_went is_content name w).to (flow_went is_content name w).world
     go n.BlankLineStart at = blank_start_steps B feed w _ has.blank s at.0 refl
     go n.BlankLineAfter at = blank_after_steps B feed w _ has.blank s refl
@@ -154,7 +161,7 @@ steps-as B feed from to s w new v e k steps = rw (e, k) steps
 pub flow_means : (is_content : ResolveName → Bool) (options : ParseOptions) (is_end : Bool) → MeansAt (FlowStep is_content) flow_table_scheme options (flow_behaves options) is_end
 flow_means is_content options is_end feed name w to new f called step =
     steps-as (flow_behaves options) feed (Next name) _ to (reading w) _ new step.to_is step.new_is
-      (rw (sym called.options) (flow_steps is_content feed name (reading w) (sees feed w is_end f called.may) called.stands))
+    (rw (sym called.options) (flow_steps is_content feed name (reading w) (sees feed w is_end f called.may) called.stands))
 
 -- and comes to where the table stands
 pub flow_stands : (is_content : ResolveName → Bool) → StandsOn (FlowStep is_content) flow_table_scheme

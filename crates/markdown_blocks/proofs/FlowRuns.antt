@@ -22,7 +22,7 @@ pub flow_push : (is_content : ResolveName → Bool) (s s' : State) (w w' : World
     (comes_to (flow_behaves w.setting.options) (text_feed (reads_to w total).setting) s w ≡ comes_to (flow_behaves w.setting.options) (text_feed (reads_to w total).setting) s' w') × stands flow_table_scheme w' (plain s')
 flow_push is_content s s' w w' limit total small le at run =
     runs-mean (FlowStep is_content) flow_table_scheme w.setting.options (flow_behaves w.setting.options) false (text_feed (reads_to w total).setting) s (reads_to w limit) (flow_means is_content w.setting.options false) (flow_stands is_content)
-      (text-follows (reads_to w total).setting limit false small le (λ e. cc)) refl at s' w' run
+    (text-follows (reads_to w total).setting limit false small le (λ e. cc)) refl at s' w' run
 
 -- a flush comes to where the tokenizer ends
 pub flow_flush : (is_content : ResolveName → Bool) (R : Resolution) (s : State) (w : World) (resolve : Bool) (found : Found) (new : World) → w.setting.limit < 2 ^ 61 → stands flow_table_scheme w (plain s) →
@@ -30,7 +30,7 @@ pub flow_flush : (is_content : ResolveName → Bool) (R : Resolution) (s : State
     comes_to (flow_behaves w.setting.options) (text_feed w.setting) s w ≡ goes (flow_behaves w.setting.options) f.end (text_feed w.setting f.at.point) (here f.at)
 flow_flush is_content R s w resolve found new small at f =
     flush-means (FlowStep is_content) R flow_table_scheme w.setting.options (flow_behaves w.setting.options) (text_feed w.setting) s w resolve found new (flow_means is_content w.setting.options true) (flow_stands is_content)
-      (text-follows w.setting w.setting.limit true small (omega arith) (λ e. refl)) refl at f
+    (text-follows w.setting w.setting.limit true small (omega arith) (λ e. refl)) refl at f
 
 -- a tokenizer that comes to what flow means of some cells ends with all of them taken, and with its events
 pub flow_outcome : (is_content : ResolveName → Bool) (R : Resolution) (s : State) (w : World) (resolve : Bool) (found : Found) (new : World) (cells : List Cell) (h : Here) → w.setting.limit < 2 ^ 61 → stands flow_table_scheme w (plain s) →
@@ -40,8 +40,10 @@ flow_outcome is_content R s w resolve found new cells h small at is f = go f.end
   where
     ends : Finishes (flow_at w.setting.options cells h)
     ends = flow_finishes w.setting.options cells h
+
     P : Outcome → Type 0
     P o = Finishes o
+
     go : (e : State) → IsEnd e → flow_at w.setting.options cells h ≡ goes (flow_behaves w.setting.options) e (text_feed w.setting f.at.point) (here f.at) → flow_at w.setting.options cells h ≡ Accepts (here f.at) []
     go Ok t k = k ∙ ap (Accepts (here f.at)) (subst P k ends)
     go Nok t k = absurd (subst P k ends)

@@ -20,7 +20,7 @@ pub content_push : (s s' : State) (w w' : World) (limit total : ℕ) → total <
     (comes_to content_behaves (text_feed (reads_to w total).setting) s w ≡ comes_to content_behaves (text_feed (reads_to w total).setting) s' w') × stands content_scheme w' (plain s')
 content_push s s' w w' limit total small le at run =
     runs-mean ContentStep content_scheme w.setting.options content_behaves false (text_feed (reads_to w total).setting) s (reads_to w limit) (content_means w.setting.options false) content_stands
-      (text-follows (reads_to w total).setting limit false small le (λ e. cc)) refl at s' w' run
+    (text-follows (reads_to w total).setting limit false small le (λ e. cc)) refl at s' w' run
 
 -- a flush comes to where the tokenizer ends
 pub content_flush : (R : Resolution) (s : State) (w : World) (resolve : Bool) (found : Found) (new : World) → w.setting.limit < 2 ^ 61 → stands content_scheme w (plain s) →
@@ -28,7 +28,7 @@ pub content_flush : (R : Resolution) (s : State) (w : World) (resolve : Bool) (f
     comes_to content_behaves (text_feed w.setting) s w ≡ goes content_behaves f.end (text_feed w.setting f.at.point) (here f.at)
 content_flush R s w resolve found new small at f =
     flush-means ContentStep R content_scheme w.setting.options content_behaves (text_feed w.setting) s w resolve found new (content_means w.setting.options true) content_stands
-      (text-follows w.setting w.setting.limit true small (omega arith) (λ e. refl)) refl at f
+    (text-follows w.setting w.setting.limit true small (omega arith) (λ e. refl)) refl at f
 
 -- one that accepts ends with these events
 pub content_outcome : (R : Resolution) (s : State) (w : World) (resolve : Bool) (found : Found) (new : World) (h : Here) → w.setting.limit < 2 ^ 61 → stands content_scheme w (plain s) →

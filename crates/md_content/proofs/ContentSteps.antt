@@ -47,7 +47,7 @@ chunk_inside_steps B feed is_name w true has s e =
     moves B feed _ _ w (chunk_inside_code is_name w true).world (exit parts.Content w.point ∷ []) refl refl (has.inside _ _ ∙ rw s.next (chunk-ends feed w (here w) w.current e))
 chunk_inside_steps B feed is_name w false has s e =
     passes B feed _ _ w (chunk_inside_code is_name w false).world refl refl
-      (has.inside _ _ ∙ ap (λ (x : List Cell). inside_chunk x (here w)) s.next ∙ chunk-more feed w (here w) w.current e ∙ sym (has.inside _ _))
+    (has.inside _ _ ∙ ap (λ (x : List Cell). inside_chunk x (here w)) s.next ∙ chunk-more feed w (here w) w.current e ∙ sym (has.inside _ _))
 
 -- The paragraph.
 
@@ -77,18 +77,20 @@ paragraph_inside_steps B feed w has s = go w.current s.next
     go : (o : Option ℕ) → feed w.point ≡ ahead feed w o → Steps B feed (Next n.ParagraphInside) w (inside_code w o).to (inside_code w o).world
     go None e =
         moves B feed _ _ w (inside_code w None).world (exit parts.Data w.point ∷ exit parts.Paragraph w.point ∷ []) refl (append_assoc w.events (exit parts.Data w.point ∷ []) _)
-          (has.inside _ _ ∙ ap (λ (x : List Cell). inside_paragraph x (here w)) e ∙ text-none (here w) ∙ ap (Accepts (here (inside_code w None).world)) (sym e))
+        (has.inside _ _ ∙ ap (λ (x : List Cell). inside_paragraph x (here w)) e ∙ text-none (here w) ∙ ap (Accepts (here (inside_code w None).world)) (sym e))
     go (Some b) e = by (nat_eq b 10) refl
       where
         c : Cell
         c = cell_here feed w b
+
         cs : List Cell
         cs = feed (after w.setting w.point)
+
         by : (x : Bool) → nat_eq b 10 ≡ x → Steps B feed (Next n.ParagraphInside) w (inside_code w (Some b)).to (inside_code w (Some b)).world
         by true k = rw k (moves B feed _ (Next n.ParagraphLineStart) w _ (exit parts.Data (after w.setting w.point) ∷ []) refl refl
-          (has.inside _ _ ∙ ap (λ (x : List Cell). inside_paragraph x (here w)) e ∙ text-ending c cs (here w) k ∙ sym (has.line_start _ _)))
+            (has.inside _ _ ∙ ap (λ (x : List Cell). inside_paragraph x (here w)) e ∙ text-ending c cs (here w) k ∙ sym (has.line_start _ _)))
         by false k = rw k (passes B feed _ (Next n.ParagraphInside) w _ refl refl
-          (has.inside _ _ ∙ ap (λ (x : List Cell). inside_paragraph x (here w)) e ∙ text-more c cs (here w) k ∙ sym (has.inside _ _)))
+            (has.inside _ _ ∙ ap (λ (x : List Cell). inside_paragraph x (here w)) e ∙ text-more c cs (here w) k ∙ sym (has.inside _ _)))
 
 has_paragraph : HasParagraph content_behaves
 has_paragraph = record { start = λ _ _. refl; line_start = λ _ _. refl; inside = λ _ _. refl }

@@ -25,7 +25,8 @@ runs-mean T S options B is_end feed s w m on f o at s' w' (ThenCalls t v t' v' r
     let Q : State → Type 0 = λ x. stands S v x in
     let here' : stands S v (Next c.name) = subst Q c.names before.1 in
     let kept : v.setting ≡ w.setting = runs-setting T is_end s w t v r in
-    let called : IsCalled S options is_end c.name v = record { may = c.may; options = ap (λ (x : Setting). x.options) kept ∙ o; stands = here' } in
-    (before.0 ∙ sym (plain-same B feed v t) ∙ ap (λ (x : State). comes_to B feed x v) c.names
-      ∙ steps-keep B feed (Next c.name) t' (reading v) v' c.within (m feed c.name v t' v' (subst P (sym kept) f) called c.step),
-     on c.name v t' v' here' c.step)
+    let called : IsCalled S options is_end c.name v = record { may = c.may; options = ap (λ (x : Setting). x.options) kept ∙ o; stands = here' } in (
+      before.0 ∙ sym (plain-same B feed v t) ∙ ap (λ (x : State). comes_to B feed x v) c.names
+          ∙ steps-keep B feed (Next c.name) t' (reading v) v' c.within (m feed c.name v t' v' (subst P (sym kept) f) called c.step),
+      on c.name v t' v' here' c.step,
+    )

@@ -49,6 +49,7 @@ cells-none x p le = go (cells_left x.limit p)
   where
     past : nat_lt p.index x.limit ≡ false
     past = grind (arith, nat_tests)
+
     go : (n : ℕ) → cells_from x n p ≡ []
     go zero = refl
     go (suc n) = rw past refl
@@ -68,11 +69,11 @@ cells-short x p lt = let most = cells-most x (cells_left x.limit p) p in omega (
 -- the cells of a text follow it while less of it may be read, and at its end
 pub text-follows : (x : Setting) (limit : ℕ) (is_end : Bool) → x.limit < 2 ^ 61 → limit ≤ x.limit → (is_end ≡ true → limit ≡ x.limit) → Follows (text_feed x) (record x { limit = limit }) is_end
 text-follows x limit is_end small le end = record {
-    cell = λ p lt. let next = cells-next x p (omega arith) in next ∙ ap (λ (c : Cell). c ∷ text_feed x (after x p)) (ap (λ (l : List Cell). let c : Cell = record { byte = seen_at x.bytes p; after = after x p; line = line_of x.line l } in c) (sym next));
-    short = λ p. cells-short x p small;
-    said = λ p start lt. ap (line_of x.line) (cells-next x p (omega arith));
-    none = λ e p past. cells-none x p (let same = end e in omega arith)
-  }
+  cell = λ p lt. let next = cells-next x p (omega arith) in next ∙ ap (λ (c : Cell). c ∷ text_feed x (after x p)) (ap (λ (l : List Cell). let c : Cell = record { byte = seen_at x.bytes p; after = after x p; line = line_of x.line l } in c) (sym next));
+  short = λ p. cells-short x p small;
+  said = λ p start lt. ap (line_of x.line) (cells-next x p (omega arith));
+  none = λ e p past. cells-none x p (let same = end e in omega arith);
+}
 
 -- what a tokenizer comes to is where it has come to at the end
 pub flush-means : (T : Step) (R : Resolution) (S : Scheme) (options : ParseOptions) (B : Behaviour) (feed : Feed) (s : State) (w : World) (resolve : Bool) (found : Found) (new : World) →

@@ -54,10 +54,10 @@ blank-white : (B : Behaviour) (feed : Feed) (has : HasBlank B) (cells : List Cel
 blank-white B feed has cells h f events short s r k ok =
     let same : calmed h.scratch ≡ h.scratch = ap calmed r ∙ sym r in
     begun cells h s ∙ blank-run any_size (h.events ++ enter SpaceOrTab h.point ∷ []) cells h (omega arith)
-      ∙ ap₂ (λ (es : List Event) (t : Scratch). after_blank (white_rest any_size cells) (record h { events = es; point = white_end any_size cells h.point; scratch = t })) (append_assoc h.events (enter SpaceOrTab h.point ∷ []) _) (sym same)
-      ∙ sym (has.behind _ _)
-      ∙ ap (λ (x : State). goes B x (white_rest any_size cells) (behind_white any_size cells h)) (sym ok)
-      ∙ white-tried B feed f events cells h 1 any_size has.white s (omega arith) (omega arith) k
+    ∙ ap₂ (λ (es : List Event) (t : Scratch). after_blank (white_rest any_size cells) (record h { events = es; point = white_end any_size cells h.point; scratch = t })) (append_assoc h.events (enter SpaceOrTab h.point ∷ []) _) (sym same)
+    ∙ sym (has.behind _ _)
+    ∙ ap (λ (x : State). goes B x (white_rest any_size cells) (behind_white any_size cells h)) (sym ok)
+    ∙ white-tried B feed f events cells h 1 any_size has.white s (omega arith) (omega arith) k
 
 none-ahead : (feed : Feed) (w : World) (h : Here) (o : Option ℕ) → sees_white o ≡ false → blank_at (ahead feed w o) h ≡ after_blank (ahead feed w o) h
 unfolding blank_at after_blank
@@ -73,7 +73,7 @@ pub blank_start_steps : (B : Behaviour) (feed : Feed) (w : World) (x : Bool) →
 blank_start_steps B feed w true has s r e =
     let f : Frame = record { ok = Next n.BlankLineAfter; nok = Nok; is_check = false; events_len = length w.events; point = w.point } in
     begins_only B feed _ _ w (start_code w true).world f refl refl
-      (has.start _ _ ∙ blank-white B feed has (feed w.point) (here w) f w.events s.short (begins-seen feed w s ∙ e) r refl refl)
+    (has.start _ _ ∙ blank-white B feed has (feed w.point) (here w) f w.events s.short (begins-seen feed w s ∙ e) r refl refl)
 blank_start_steps B feed w false has s r e =
     passes B feed _ _ w w refl refl (has.start _ _ ∙ rw s.next (none-ahead feed w (here w) w.current e) ∙ sym (has.behind _ _))
 

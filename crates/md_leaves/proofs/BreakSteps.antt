@@ -75,23 +75,23 @@ sequence_steps B options feed w true y has s r mark e f =
     let saw = sees-byte feed w w.scratch.marker s e in
     let ending : nat_eq saw.0 10 ≡ false = rw (eq-of saw.0 w.scratch.marker saw.2) (marker-no_ending w.scratch.marker mark) in
     passes B feed _ _ w (sequence_code w true y).world refl refl
-      (has.sequence _ _ ∙ ap (λ (x : List Cell). in_break Marks x (here w)) saw.1
-        ∙ in_break-mark (cell_here feed w saw.0) (feed (after w.setting w.point)) (here w) saw.2 ending ∙ sym (has.sequence _ _))
+    (has.sequence _ _ ∙ ap (λ (x : List Cell). in_break Marks x (here w)) saw.1
+    ∙ in_break-mark (cell_here feed w saw.0) (feed (after w.setting w.point)) (here w) saw.2 ending ∙ sym (has.sequence _ _))
 sequence_steps B options feed w false true has s r mark e f =
     let saw = sees-other_white feed w w.scratch.marker s e f in
     let h : Here = behind_marks (here w) in
     let frame : Frame = white_frame (Next n.ThematicBreakAtBreak) w h.events in
     begins B feed _ _ w (sequence_code w false true).world (exit parts.ThematicBreakSequence w.point ∷ []) frame refl refl
-      (has.sequence _ _
-        ∙ to-white (feed w.point) (cell_here feed w saw.0) (feed (after w.setting w.point)) (here w) saw.1 saw.3 saw.2
-        ∙ white-run any_size (feed w.point) (record h { events = h.events ++ enter SpaceOrTab h.point ∷ [] }) (omega (arith, s.short)) (marker-no_white w.scratch.marker mark)
-        ∙ ap (at_break (white_rest any_size (feed w.point))) (joined any_size (feed w.point) h (calm-same w.scratch r))
-        ∙ sym (has.at_break _ _)
-        ∙ white-tried B feed frame h.events (feed w.point) h 0 any_size has.white (begins-seen feed w s ∙ f) (omega arith) (omega arith) refl)
+    (has.sequence _ _
+    ∙ to-white (feed w.point) (cell_here feed w saw.0) (feed (after w.setting w.point)) (here w) saw.1 saw.3 saw.2
+    ∙ white-run any_size (feed w.point) (record h { events = h.events ++ enter SpaceOrTab h.point ∷ [] }) (omega (arith, s.short)) (marker-no_white w.scratch.marker mark)
+    ∙ ap (at_break (white_rest any_size (feed w.point))) (joined any_size (feed w.point) h (calm-same w.scratch r))
+    ∙ sym (has.at_break _ _)
+    ∙ white-tried B feed frame h.events (feed w.point) h 0 any_size has.white (begins-seen feed w s ∙ f) (omega arith) (omega arith) refl)
 sequence_steps B options feed w false false has s r mark e f =
     moves B feed _ _ w (sequence_code w false false).world (exit parts.ThematicBreakSequence w.point ∷ []) refl refl
-      (has.sequence _ _ ∙ ap (λ (x : List Cell). in_break Marks x (here w)) s.next
-        ∙ marks-stop feed w (here w) w.current e f ∙ ap (λ (x : List Cell). at_break x (behind_marks (here w))) (sym s.next) ∙ sym (has.at_break _ _))
+    (has.sequence _ _ ∙ ap (λ (x : List Cell). in_break Marks x (here w)) s.next
+    ∙ marks-stop feed w (here w) w.current e f ∙ ap (λ (x : List Cell). at_break x (behind_marks (here w))) (sym s.next) ∙ sym (has.at_break _ _))
 
 -- no whitespace stands before a marker
 at_break-mark : (c : Cell) (cs : List Cell) (h : Here) → nat_eq c.byte h.scratch.marker ≡ true → is_marker h.scratch.marker ≡ true →
@@ -129,12 +129,12 @@ pub at_break_steps : (B : Behaviour) (options : ParseOptions) (feed : Feed) (w :
 at_break_steps B options feed w true y has s mark e f =
     let saw = sees-byte feed w w.scratch.marker s e in
     moves B feed _ _ w (at_break_code w true y).world (enter parts.ThematicBreakSequence w.point ∷ []) refl refl
-      (has.at_break _ _ ∙ ap (λ (x : List Cell). at_break x (here w)) saw.1
-        ∙ at_break-mark (cell_here feed w saw.0) (feed (after w.setting w.point)) (here w) saw.2 mark
-        ∙ ap (λ (x : List Cell). in_break Marks x (record (here w) { events = w.events ++ enter parts.ThematicBreakSequence w.point ∷ [] })) (sym saw.1) ∙ sym (has.sequence _ _))
+    (has.at_break _ _ ∙ ap (λ (x : List Cell). at_break x (here w)) saw.1
+    ∙ at_break-mark (cell_here feed w saw.0) (feed (after w.setting w.point)) (here w) saw.2 mark
+    ∙ ap (λ (x : List Cell). in_break Marks x (record (here w) { events = w.events ++ enter parts.ThematicBreakSequence w.point ∷ [] })) (sym saw.1) ∙ sym (has.sequence _ _))
 at_break_steps B options feed w false true has s mark e f =
     moves B feed _ _ w (at_break_code w false true).world (exit ThematicBreak w.point ∷ []) refl refl
-      (has.at_break _ _ ∙ rw s.next (at_break-end feed w (here w) w.current f))
+    (has.at_break _ _ ∙ rw s.next (at_break-end feed w (here w) w.current f))
 at_break_steps B options feed w false false has s mark e f =
     passes B feed _ _ w (at_break_code w false false).world refl refl (has.at_break _ _ ∙ rw s.next (at_break-no feed w (here w) w.current e f))
 
@@ -153,8 +153,10 @@ before_steps B options feed w has s r = go w.current s.next
   where
     rest : without_marker w.scratch ≡ w.scratch
     rest = ap without_marker r ∙ sym r
+
     refused : before_marker (feed w.point) (here w) ≡ Refuses (without_marker w.scratch) w.flags → Steps B feed (Next n.ThematicBreakBefore) w Nok w
     refused e = passes B feed _ Nok w w refl refl (has.before _ _ ∙ e ∙ ap (λ (x : Scratch). Refuses x w.flags) rest)
+
     go : (o : Option ℕ) → feed w.point ≡ ahead feed w o → Steps B feed (Next n.ThematicBreakBefore) w (before_code w o).to (before_code w o).world
     go None e = refused (ap (λ (x : List Cell). before_marker x (here w)) e ∙ before-none (here w))
     go (Some b) e = by (is_marker b) refl
@@ -165,8 +167,8 @@ before_steps B options feed w has s r = go w.current s.next
             let cs = feed (after w.setting w.point) in
             let h : Here = record (here w) { scratch = record w.scratch { marker = b } } in
             rw k (passes B feed _ (Retry n.ThematicBreakAtBreak) w (record w { scratch = record w.scratch { marker = b } }) refl refl
-              (has.before _ _ ∙ ap (λ (x : List Cell). before_marker x (here w)) e ∙ before-mark c cs (here w) k (ap (λ (t : Scratch). t.size) r)
-                ∙ at_break-apart c cs h k ∙ ap (λ (x : List Cell). at_break x h) (sym e) ∙ sym (has.at_break _ _)))
+            (has.before _ _ ∙ ap (λ (x : List Cell). before_marker x (here w)) e ∙ before-mark c cs (here w) k (ap (λ (t : Scratch). t.size) r)
+            ∙ at_break-apart c cs h k ∙ ap (λ (x : List Cell). at_break x h) (sym e) ∙ sym (has.at_break _ _)))
         by false k = rw k (refused (ap (λ (x : List Cell). before_marker x (here w)) e ∙ before-other (cell_here feed w b) (feed (after w.setting w.point)) (here w) k))
 
 small-some : (options : ParseOptions) → 1 ≤ small_indent options
@@ -200,8 +202,8 @@ start_steps B feed w true true has s e f =
     let frame : Frame = white_frame (Next n.ThematicBreakBefore) w h.events in
     let white : begins_white (feed w.point) ≡ true = begins-seen feed w s ∙ f in
     begins B feed _ _ w (start_code w true true).world (enter ThematicBreak w.point ∷ []) frame refl refl
-      (has.start _ _ ∙ at-white _ (feed w.point) (here w) e white ∙ sym (has.before _ _)
-        ∙ white-tried B feed frame h.events (feed w.point) h 0 (small_indent w.setting.options) has.white white (small-some w.setting.options) (omega arith) refl)
+    (has.start _ _ ∙ at-white _ (feed w.point) (here w) e white ∙ sym (has.before _ _)
+    ∙ white-tried B feed frame h.events (feed w.point) h 0 (small_indent w.setting.options) has.white white (small-some w.setting.options) (omega arith) refl)
 start_steps B feed w true false has s e f =
     moves B feed _ _ w (start_code w true false).world (enter ThematicBreak w.point ∷ []) refl refl
-      (has.start _ _ ∙ at-none _ (feed w.point) (here w) e (begins-seen feed w s ∙ f) ∙ sym (has.before _ _))
+    (has.start _ _ ∙ at-none _ (feed w.point) (here w) e (begins-seen feed w s ∙ f) ∙ sym (has.before _ _))

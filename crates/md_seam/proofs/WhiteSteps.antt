@@ -91,7 +91,7 @@ white_inside_steps B feed w true true has s e f =
     let saw = sees-white feed w s e in
     let lt : w.scratch.whitespace.size < w.scratch.whitespace.max = grind (arith, nat_tests) in
     passes B feed _ _ w (inside_code w true).world refl refl
-      (has.inside _ _ ∙ ap (λ (x : List Cell). inside_white x (here w)) saw.1 ∙ inside-more (cell_here feed w saw.0) (feed (after w.setting w.point)) (here w) saw.2 lt ∙ sym (has.inside _ _))
+    (has.inside _ _ ∙ ap (λ (x : List Cell). inside_white x (here w)) saw.1 ∙ inside-more (cell_here feed w saw.0) (feed (after w.setting w.point)) (here w) saw.2 lt ∙ sym (has.inside _ _))
 white_inside_steps B feed w true false has s e f =
     let le : w.scratch.whitespace.max ≤ w.scratch.whitespace.size = grind (arith, nat_tests) in
     moves B feed _ _ w (inside_code w false).world (exit SpaceOrTab w.point ∷ []) refl refl (has.inside _ _ ∙ inside-stop feed w (here w) s (inr le) ∙ sym (has.behind _ _))

@@ -2,8 +2,6 @@
 // disagreed, and on standard error how much was tried.
 #![tactic(auto)]
 
-
-
 use blocks_vectors::report::Report;
 use blocks_vectors::task::Task;
 use plain_body::Plain;
