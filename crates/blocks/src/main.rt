@@ -1,7 +1,6 @@
 // The program `blocks`: it reads a Markdown text from its standard input and prints the outline of the text.
 #![tactic(auto)]
 
-pub mod body;
 pub mod run;
 
 use md_program::system::arguments;

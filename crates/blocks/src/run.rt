@@ -1,9 +1,9 @@
 // A run of the program.
 ghost use Rattle.std.specs.Prelude.{map, string_bytes};
 ghost use Rattle.md_program.specs.Ends.{Runs};
-ghost use Rattle.blocks.specs.Built.{Outlines, built_from};
+ghost use Rattle.blocks_body.specs.Built.{Outlines, built_from};
 
-use crate::body::Blocks;
+use blocks_body::Blocks;
 use std::alloc::Global;
 use std::io::{Read, Write};
 

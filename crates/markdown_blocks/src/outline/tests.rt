@@ -106,3 +106,27 @@ fn reads_texts(rt: HostRuntime) {
 fn reads_texts_without_breaks(rt: HostRuntime) {
     check(&rt, rt.alloc(), "***\n\n a", false, "p|***|p|a|");
 }
+
+// So many times the same text.
+fn repeated(alloc: Global, part: &str, count: usize) -> Result<String, AllocError> {
+    let mut all = String::new(alloc);
+    for _ in 0..count {
+        all.push_str(part)?;
+    }
+    Ok(all)
+}
+
+#[test]
+fn reads_large_texts(rt: HostRuntime) -> Result<(), AllocError> {
+    for (part, count, want) in [
+        ("*", 1_000_000, "b"),
+        (" ", 1_000_000, ""),
+        ("\n", 100_000, ""),
+    ] {
+        let text = repeated(rt.alloc(), part, count)?;
+        if text.len() <= usize::MAX / 8 {
+            check(&rt, rt.alloc(), &text, true, want);
+        }
+    }
+    Ok(())
+}

@@ -1,5 +1,7 @@
-// From a text to its outline.
-ghost use Rattle.blocks.specs.Built.{Outlines, built_from};
+// The parser as a body of the programs that print or try outlines.
+#![tactic(auto)]
+
+ghost use Rattle.blocks_body.specs.Built.{Outlines, built_from};
 
 use markdown_blocks::outline::outline;
 use markdown_blocks::parser::parse;
