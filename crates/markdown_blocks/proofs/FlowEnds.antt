@@ -10,11 +10,11 @@ use Rattle.md_engine.specs.Meaning.{Accepts, Cell, Fails, Here, Outcome, Refuses
 use Rattle.md_content.specs.ChunkRule.{chunk_at, inside_chunk}
 use Rattle.md_leaves.specs.BlankRule.{blank_at}
 use Rattle.md_leaves.specs.BreakRule.{before_marker, break_at}
-use Rattle.md_seam.specs.Ahead.{begins_white, from_ending, line_bytes, white_rest}
+use Rattle.md_seam.specs.Ahead.{begins_white, from_ending, line_bytes}
 use Rattle.md_seam.specs.Leaves.{is_rule}
 use Rattle.md_seam.specs.Rest.{is_blank}
 use Rattle.md_seam.specs.Spaces.{small_indent}
-use Rattle.markdown_blocks.specs.FlowRule.{Rule, blank_ended, calmed_at, content_of, ended, flow_at, flow_lines, line_then, nonblank_of, tried}
+use Rattle.markdown_blocks.specs.FlowRule.{Rule, blank_ended, calmed_at, content_of, ended, flow_at, flow_lines, line_then, tried}
 use Rattle.markdown_blocks.proofs.FlowLemmas.{from_ending-shrinks, white_rest-shrinks}
 
 -- all is taken

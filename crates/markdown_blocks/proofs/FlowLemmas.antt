@@ -1,7 +1,6 @@
 -- Flow goes line by line.
-use Rattle.std.proofs.Common.{◌≡◌, ℕ, zero, suc, ◌<◌, ◌≤◌, ◌^◌, ◌+◌, Bool, true, false, cond, nat_eq, List, [], ◌∷◌, length, refl, sym, ◌∙◌, ap, arith}
-use Rattle.std.specs.Prelude.{◌&&◌, ◌||◌, nat_le, not}
-use Rattle.std.specs.List.{list_all}
+use Rattle.std.proofs.Common.{◌≡◌, ℕ, zero, suc, ◌<◌, ◌≤◌, Bool, true, false, cond, nat_eq, List, [], ◌∷◌, length, refl, ap, arith}
+use Rattle.std.specs.Prelude.{not}
 use Rattle.md_engine.specs.declared.configuration.ParseOptions.{ParseOptions}
 use Rattle.md_engine.specs.declared.event.Name.{Name}
 use Rattle.md_engine.specs.declared.event.Name.TheVariants.{BlankLineEnding, LineEnding}
@@ -15,7 +14,7 @@ use Rattle.md_seam.specs.Ahead.{begins_white, from_ending, line_bytes, white_res
 use Rattle.md_seam.specs.Leaves.{is_rule}
 use Rattle.md_seam.specs.Rest.{is_blank, is_white}
 use Rattle.md_seam.specs.Spaces.{small_indent}
-use Rattle.markdown_blocks.specs.FlowRule.{Rule, blank_ended, calmed_at, content_of, ended, flow_at, flow_lines, line_then, nonblank_of, tried}
+use Rattle.markdown_blocks.specs.FlowRule.{Rule, blank_ended, calmed_at, ended, flow_at, flow_lines, line_then, tried}
 
 -- what is left is no longer than what there was
 abbrev Shrinks : ℕ → Outcome → Type 0

@@ -1,5 +1,5 @@
 -- Each state of flow takes one step of what flow means.
-use Rattle.std.proofs.Common.{◌≡◌, ℕ, ◌^◌, Bool, true, false, nat_eq, List, [], ◌∷◌, ◌++◌, length, take, Option, Some, None, refl, sym, ◌∙◌, ap, arith, append_assoc}
+use Rattle.std.proofs.Common.{◌≡◌, ℕ, Bool, true, false, nat_eq, List, [], ◌∷◌, ◌++◌, length, take, Option, Some, None, refl, sym, ◌∙◌, ap, arith, append_assoc}
 use Rattle.std.proofs.lemmas.List.{take_all}
 use Rattle.md_engine.specs.declared.configuration.ParseOptions.{ParseOptions}
 use Rattle.md_engine.specs.declared.event.Event.{Event}
@@ -9,30 +9,29 @@ use Rattle.md_engine.specs.declared.resolve.Name.{Name as ResolveName}
 use Rattle.md_engine.specs.declared.state.Name.{Name as StateName}
 use Rattle.md_engine.specs.declared.state.Name.TheVariants as n
 use Rattle.md_engine.specs.declared.state.State.{State}
-use Rattle.md_engine.specs.declared.state.State.TheVariants.{Nok, Next, Retry}
+use Rattle.md_engine.specs.declared.state.State.TheVariants.{Nok, Next}
 use Rattle.md_engine.specs.declared.tokenizer.Flags.{Flags}
 use Rattle.md_engine.specs.declared.tokenizer.Frame.{Frame}
 use Rattle.md_engine.specs.declared.tokenizer.Scratch.{Scratch}
-use Rattle.md_engine.specs.Meaning.{Accepts, Behaviour, Cell, Fails, Feed, Follows, Here, Outcome, Refuses, Steps, goes, here, resume}
+use Rattle.md_engine.specs.Meaning.{Accepts, Behaviour, Cell, Fails, Feed, Here, Outcome, Refuses, Steps, goes, here, resume}
 use Rattle.md_engine.specs.Run.{reading}
 use Rattle.md_engine.specs.Scheme.{stands}
-use Rattle.md_engine.specs.Standing.{IsCalled, MeansAt, StandsOn}
-use Rattle.md_engine.specs.World.{World, after, looks}
-use Rattle.md_engine.proofs.StepOf.{Sees, ahead, begins_only, cell_here, moves, passes, sees}
-use Rattle.md_content.specs.ChunkRule.{HasChunk, chunk_at}
+use Rattle.md_engine.specs.Standing.{MeansAt, StandsOn}
+use Rattle.md_engine.specs.World.{World, after}
+use Rattle.md_engine.proofs.StepOf.{Sees, ahead, begins_only, moves, passes, sees}
+use Rattle.md_content.specs.ChunkRule.{chunk_at}
 use Rattle.md_content.proofs.ContentSteps.{chunk_inside_steps, chunk_start_steps}
-use Rattle.md_leaves.specs.BlankRule.{HasBlank, blank_at}
-use Rattle.md_leaves.specs.BreakRule.{HasBreak, break_at}
+use Rattle.md_leaves.specs.BlankRule.{blank_at}
+use Rattle.md_leaves.specs.BreakRule.{break_at}
 use Rattle.md_leaves.proofs.BlankSteps.{blank_after_steps, blank_start_steps}
 use Rattle.md_leaves.proofs.BreakSteps as break
 use Rattle.md_seam.specs.Ahead.{HasWhite}
 use Rattle.md_seam.specs.Nested.{enter, exit, pair}
-use Rattle.md_seam.specs.Spaces.{IsRest}
 use Rattle.md_seam.specs.Went.{entered, exited, taken}
 use Rattle.md_seam.proofs.SpacesGoods.{does-stands}
 use Rattle.md_seam.proofs.WhiteSteps.{white_after_steps, white_inside_steps, white_start_steps}
 use Rattle.markdown_blocks.specs.Flow.{before_content_went, before_thematic_break_went, blank_line_after_went, blank_line_before_went, calm, ending_code, start_went}
-use Rattle.markdown_blocks.specs.FlowRule.{HasFlow, Rule, blank_ended, calmed_at, ended, flow_at, flow_behaves, tried}
+use Rattle.markdown_blocks.specs.FlowRule.{HasFlow, Rule, blank_ended, ended, flow_at, flow_behaves, tried}
 use Rattle.markdown_blocks.specs.States.{FlowStep, flow_table_scheme, flow_went}
 use Rattle.markdown_blocks.proofs.FlowLemmas.{flow_by_line}
 use Rattle.markdown_blocks.proofs.States.{flow_does}

@@ -1,9 +1,9 @@
 -- What a whole run of content comes to, as a function of the text.
-use Rattle.std.proofs.Common.{◌≡◌, ◌^◌, ◌<◌, ◌≤◌, ℕ, Bool, false, true, List, [], refl, sym, ◌∙◌, arith}
+use Rattle.std.proofs.Common.{◌≡◌, ◌^◌, ◌<◌, ◌≤◌, ℕ, Bool, false, true, [], refl, sym, ◌∙◌, arith}
 use Rattle.md_engine.specs.declared.state.State.{State}
 use Rattle.md_engine.specs.declared.state.State.TheVariants.{Error, Ok, Nok, Next, Retry}
 use Rattle.md_engine.specs.Found.{Found}
-use Rattle.md_engine.specs.Meaning.{Accepts, Cell, Here, comes_to, goes, here}
+use Rattle.md_engine.specs.Meaning.{Accepts, Here, comes_to, goes, here}
 use Rattle.md_engine.specs.Run.{Flushes, IsEnd, Resolution, Runs, plain}
 use Rattle.md_engine.specs.Scheme.{stands}
 use Rattle.md_engine.specs.TextFeed.{text_feed}

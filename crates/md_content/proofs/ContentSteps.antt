@@ -6,12 +6,12 @@ use Rattle.md_engine.specs.declared.resolve.Name.{Name as ResolveName}
 use Rattle.md_engine.specs.declared.state.Name.{Name as StateName}
 use Rattle.md_engine.specs.declared.state.Name.TheVariants as n
 use Rattle.md_engine.specs.declared.state.State.{State}
-use Rattle.md_engine.specs.declared.state.State.TheVariants.{Next, Retry}
-use Rattle.md_engine.specs.Meaning.{Accepts, Behaviour, Cell, Feed, Follows, Here, Steps, here}
+use Rattle.md_engine.specs.declared.state.State.TheVariants.{Next}
+use Rattle.md_engine.specs.Meaning.{Accepts, Behaviour, Cell, Feed, Here, Steps, here}
 use Rattle.md_engine.specs.Run.{reading}
 use Rattle.md_engine.specs.Scheme.{stands}
-use Rattle.md_engine.specs.Standing.{IsCalled, MeansAt, StandsOn}
-use Rattle.md_engine.specs.World.{World, after, looks}
+use Rattle.md_engine.specs.Standing.{MeansAt, StandsOn}
+use Rattle.md_engine.specs.World.{World, after}
 use Rattle.md_engine.proofs.StepOf.{Sees, ahead, cell_here, moves, passes, sees}
 use Rattle.md_content.specs.ChunkRule.{HasChunk, chunk_at, enter_link, inside_chunk}
 use Rattle.md_content.specs.Chunks.{chunk_inside_code, chunk_start_went, content_link}

@@ -1,7 +1,5 @@
 -- Each state of a blank line takes one step of its rule.
-use Rattle.std.proofs.Common.{◌≡◌, ℕ, zero, suc, ◌+◌, ◌<◌, ◌≤◌, ◌^◌, Bool, true, false, cond, nat_eq, List, [], ◌∷◌, ◌++◌, length, Option, Some, None, refl, sym, ◌∙◌, ap, arith, append_assoc, append-nil, ap₂}
-use Rattle.std.specs.Prelude.{nat_le}
-use Rattle.std.proofs.lemmas.Bool.Decides.{nat_tests}
+use Rattle.std.proofs.Common.{◌≡◌, ℕ, zero, suc, ◌<◌, ◌≤◌, ◌^◌, Bool, true, false, cond, nat_eq, List, [], ◌∷◌, ◌++◌, length, Option, Some, None, refl, sym, ◌∙◌, ap, arith, append_assoc, append-nil, ap₂}
 use Rattle.md_engine.specs.declared.event.Event.{Event}
 use Rattle.md_engine.specs.declared.event.Name.TheVariants.{SpaceOrTab}
 use Rattle.md_engine.specs.declared.state.Name.TheVariants as n
@@ -10,12 +8,12 @@ use Rattle.md_engine.specs.declared.state.State.TheVariants.{Nok, Next}
 use Rattle.md_engine.specs.declared.tokenizer.Frame.{Frame}
 use Rattle.md_engine.specs.declared.tokenizer.Scratch.{Scratch}
 use Rattle.md_engine.specs.Meaning.{Accepts, Behaviour, Cell, Feed, Here, Outcome, Refuses, Steps, goes, here, resume}
-use Rattle.md_engine.specs.World.{World, after}
-use Rattle.md_engine.proofs.StepOf.{Sees, ahead, begins_only, cell_here, passes}
+use Rattle.md_engine.specs.World.{World}
+use Rattle.md_engine.proofs.StepOf.{Sees, ahead, begins_only, passes}
 use Rattle.md_leaves.specs.Blank.{after_code, start_code}
 use Rattle.md_leaves.specs.BlankRule.{HasBlank, after_blank, blank_at}
 use Rattle.md_leaves.proofs.BreakLemmas.{white-no_ending}
-use Rattle.md_seam.specs.Ahead.{after_white, begins_white, from_ending, inside_white, line_bytes, line_end, white_at, white_end, white_rest, white_size}
+use Rattle.md_seam.specs.Ahead.{begins_white, from_ending, line_bytes, line_end, white_end, white_rest}
 use Rattle.md_seam.specs.Nested.{enter, exit}
 use Rattle.md_seam.specs.Rest.{is_blank, is_white}
 use Rattle.md_seam.specs.Spaces.{IsRest, any_size, asking, calmed, ends_line, sees_white}
