@@ -1,6 +1,8 @@
 // How to use the library: this program prints how many paragraphs and breaks a text has, and the lines of the paragraphs.
 #![tactic(auto)]
 
+ghost use Rattle.markdown_blocks.specs.Parsed.{IsSmall};
+
 use markdown_blocks::configuration::{Constructs, ParseOptions};
 use markdown_blocks::message::Message;
 use markdown_blocks::outline::{Word, outline};
@@ -33,7 +35,9 @@ const BREAKS: ParseOptions = ParseOptions {
 };
 
 /// The lines of all paragraphs, and a line `---` for each break.
-fn plain_text(alloc: Global, text: &str) -> Result<String, Message> {
+fn plain_text(alloc: Global, text: &str) -> Result<String, Message>
+    requires { IsSmall text.now }
+{
     let (events, state) = parse(alloc, text, &BREAKS)?;
     let mut plain = String::new(alloc);
     for line in outline(alloc, &events, &state)?.iter() {
