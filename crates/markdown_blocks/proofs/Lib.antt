@@ -5,3 +5,4 @@ pub mod FlowLemmas
 pub mod FlowMeans
 pub mod FlowRuns
 pub mod FlowEnds
+pub mod RowFacts

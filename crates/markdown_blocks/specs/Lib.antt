@@ -3,3 +3,5 @@ pub mod States
 pub mod Parsed
 pub mod Resolved
 pub mod FlowRule
+pub mod Rows
+pub mod Sections

@@ -4,3 +4,4 @@ pub mod States
 pub mod ChunkRule
 pub mod ParagraphRule
 pub mod Resolves
+pub mod Joined

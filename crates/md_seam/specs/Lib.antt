@@ -27,3 +27,4 @@ pub mod Meaning
 pub mod Outline
 pub mod Wrapped
 pub mod Ahead
+pub mod Substituted

@@ -1,0 +1,22 @@
+-- The blocks of a text where only breaks are on, line by line.
+use Rattle.std.specs.Prelude.{ℕ, List, [], ◌∷◌, ◌++◌}
+use Rattle.md_engine.specs.declared.configuration.ParseOptions.{ParseOptions}
+use Rattle.md_seam.specs.Rest.{trim_start}
+use Rattle.md_seam.specs.Tree.{Blocks, Break, End, More, Paragraph}
+use Rattle.markdown_blocks.specs.Rows.{BlankRow, BreakRow, RowKind, TextRow, line_kind}
+
+-- the open paragraph, if it has lines, before these blocks
+abbrev pub with_open : List (List ℕ) → Blocks → Blocks
+with_open [] bs = bs
+with_open (line ∷ lines) bs = More (Paragraph (line ∷ lines)) bs
+
+-- the blocks of some lines, behind the lines of an open paragraph
+abbrev mutual
+  pub sections_by : ParseOptions → List (List ℕ) → List ℕ → List (List ℕ) → RowKind → Blocks
+  sections_by options open line lines BlankRow = with_open open (sections options [] lines)
+  sections_by options open line lines BreakRow = with_open open (More Break (sections options [] lines))
+  sections_by options open line lines TextRow = sections options (open ++ trim_start line ∷ []) lines
+
+  pub sections : ParseOptions → List (List ℕ) → List (List ℕ) → Blocks
+  sections options open [] = with_open open End
+  sections options open (line ∷ lines) = sections_by options open line lines (line_kind options line)

@@ -1,0 +1,44 @@
+-- Lines of content that follow one another, joined: the ending between two belongs to the first.
+use Rattle.std.specs.Prelude.{Bool, true, false, ◌&&◌, if◌then◌else◌, List, [], ◌∷◌}
+use Rattle.md_engine.specs.declared.event.Event.{Event}
+use Rattle.md_engine.specs.declared.event.Kind.{Kind}
+use Rattle.md_engine.specs.declared.event.Kind.TheVariants.{Enter, Exit}
+use Rattle.md_engine.specs.declared.event.Name.{Name}
+use Rattle.md_engine.specs.declared.event.Name.TheVariants as n
+use Rattle.md_seam.specs.Substituted.{is_prefix}
+
+abbrev pub is_content : Name → Bool
+is_content n.Content = true
+is_content _ = false
+
+abbrev pub is_line_ending : Name → Bool
+is_line_ending n.LineEnding = true
+is_line_ending _ = false
+
+abbrev pub is_enter : Kind → Bool
+is_enter Enter = true
+is_enter Exit = false
+
+abbrev pub is_exit : Kind → Bool
+is_exit Exit = true
+is_exit Enter = false
+
+-- whether a line of content begins behind container prefixes
+abbrev pub content_behind : List Event → Bool
+content_behind [] = false
+content_behind (e ∷ es) = if is_prefix e.name then content_behind es else is_enter e.kind && is_content e.name
+
+-- whether a line of content that ends before these events goes on behind them: with its ending, and another line of content
+abbrev pub goes_on : List Event → Bool
+goes_on (e ∷ f ∷ es) = is_line_ending e.name && content_behind es
+goes_on _ = false
+
+-- each line of content that goes on ends behind its ending
+abbrev pub joined : List Event → List Event
+joined [] = []
+joined (e ∷ []) = e ∷ []
+joined (e ∷ f ∷ []) = e ∷ f ∷ []
+joined (e ∷ f ∷ g ∷ es) =
+    if is_exit e.kind && is_content e.name && goes_on (f ∷ g ∷ es)
+    then record e { point = g.point } ∷ joined es
+    else e ∷ joined (f ∷ g ∷ es)

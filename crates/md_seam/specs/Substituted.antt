@@ -1,0 +1,79 @@
+-- Linked parts, and the events that stand in their places once they are read.
+use Rattle.std.specs.Prelude.{◌≡◌, ℕ, zero, suc, Bool, true, false, ◌||◌, ◌==◌, nat_lt, nat_le, if◌then◌else◌, List, [], ◌∷◌, ◌++◌, length, take, drop, Option, Some, None}
+use Rattle.std.specs.Option.{is_some}
+use Rattle.std.specs.List.{prefix_len}
+use Rattle.md_engine.specs.declared.event.Content.{Content}
+use Rattle.md_engine.specs.declared.event.Event.{Event}
+use Rattle.md_engine.specs.declared.event.Kind.{Kind}
+use Rattle.md_engine.specs.declared.event.Kind.TheVariants.{Enter, Exit}
+use Rattle.md_engine.specs.declared.event.Link.{Link}
+use Rattle.md_engine.specs.declared.event.Name.{Name}
+use Rattle.md_engine.specs.declared.event.Name.TheVariants as n
+use Rattle.md_seam.specs.declared.inline.Chunk.{Chunk}
+
+-- what a reader may give for a part: of which content it is, and its chunks
+abbrev pub Readings : Type 1
+Readings = Content → List Chunk → List Event → Type 0
+
+-- whether a name belongs to a container prefix, which may stand between two chunks of a part
+abbrev pub is_prefix : Name → Bool
+is_prefix n.SpaceOrTab = true
+is_prefix n.BlockQuotePrefix = true
+is_prefix n.BlockQuoteMarker = true
+is_prefix _ = false
+
+abbrev pub wanted_link : (Content → Bool) → Option Link → Option Content
+wanted_link wants None = None
+wanted_link wants (Some link) = if wants link.content then Some link.content else None
+
+abbrev pub wanted_at : (Content → Bool) → Kind → Option Link → Option Content
+wanted_at wants Enter link = wanted_link wants link
+wanted_at wants Exit link = None
+
+-- what the chunk that begins with an event holds, if one does that the reader wants
+abbrev pub wanted : (Content → Bool) → Event → Option Content
+wanted wants e = wanted_at wants e.kind e.link
+
+-- an event that begins a chunk, and the one behind it
+abbrev pub chunk_of : Event → Event → Chunk
+chunk_of e f = record { first = e.point; after = f.point }
+
+-- the chunks that go on a part, behind its first: between them stand container prefixes alone
+abbrev pub chunks_behind : (Content → Bool) → List Event → List Chunk
+chunks_behind wants [] = []
+chunks_behind wants (e ∷ []) = []
+chunks_behind wants (e ∷ f ∷ es) =
+    if is_some (wanted wants e) then chunk_of e f ∷ chunks_behind wants es
+    else if is_prefix e.name then chunks_behind wants (f ∷ es)
+    else []
+
+abbrev pub belongs_by : ℕ → Kind → ℕ → Bool
+belongs_by end Enter index = nat_lt index end
+belongs_by end Exit index = nat_le index end
+
+-- whether an event belongs to a chunk that ends at this byte, or to one before it
+abbrev pub belongs : ℕ → Event → Bool
+belongs end e = belongs_by end e.kind e.point.index
+
+-- how many of the events that are left stand in the place of a chunk that ends at this byte: all of them in the last one
+abbrev pub share : ℕ → List Event → ℕ → ℕ
+share zero left end = length left
+share (suc more) left end = prefix_len (belongs end) left
+
+-- The events with what was read in the places of the parts that the reader wants. Of a part that has begun, these events are
+-- left, for so many chunks.
+abbrev pub Substituted : (Content → Bool) → Readings → List Event → ℕ → List Event → List Event → Type 0
+Substituted wants reads left chunks [] out = out ≡ []
+Substituted wants reads left chunks (e ∷ []) out = out ≡ e ∷ []
+Substituted wants reads left chunks (e ∷ f ∷ es) out = elim (wanted wants e) [
+  | None ↦ (rest : List Event) × (is : out ≡ e ∷ rest) × Substituted wants reads left chunks (f ∷ es) rest
+  | Some content ↦ elim chunks [
+    | zero ↦
+        (answer rest : List Event) × (read : reads content (chunk_of e f ∷ chunks_behind wants es) answer)
+        × (is : out ≡ take (share (length (chunks_behind wants es)) answer f.point.index) answer ++ rest)
+        × Substituted wants reads (drop (share (length (chunks_behind wants es)) answer f.point.index) answer) (length (chunks_behind wants es)) es rest
+    | suc more ↦
+        (rest : List Event) × (is : out ≡ take (share more left f.point.index) left ++ rest)
+        × Substituted wants reads (drop (share more left f.point.index) left) more es rest
+  ]
+]
