@@ -39,7 +39,7 @@ pub record IsEnding (bytes : List ℕ) (p q : Point) : Type 0 where
 
 -- these lines, from this point to the end of the text
 abbrev pub AreRows : ParseOptions → List ℕ → Point → List (List ℕ) → List Row → Type 0
-AreRows options bytes p (line ∷ []) (row ∷ []) = (is : IsRow options bytes line row) × (first : row.first ≡ p) × (last : row.after ≡ None) × (all : row.end.index ≡ length bytes)
+AreRows options bytes p (line ∷ []) (row ∷ []) = (is : IsRow options bytes line row) × (first : row.first ≡ p) × (last : row.after ≡ None) × (row.end.index ≡ length bytes)
 AreRows options bytes p (line ∷ next ∷ lines) (row ∷ below ∷ rows) =
     (is : IsRow options bytes line row) × (first : row.first ≡ p) × (q : Point) × (after : row.after ≡ Some q) × (ending : IsEnding bytes row.end q) × AreRows options bytes q (next ∷ lines) (below ∷ rows)
 AreRows options bytes p _ _ = ⊥

@@ -11,12 +11,10 @@ with_open [] bs = bs
 with_open (line ∷ lines) bs = More (Paragraph (line ∷ lines)) bs
 
 -- the blocks of some lines, behind the lines of an open paragraph
-abbrev mutual
-  pub sections_by : ParseOptions → List (List ℕ) → List ℕ → List (List ℕ) → RowKind → Blocks
-  sections_by options open line lines BlankRow = with_open open (sections options [] lines)
-  sections_by options open line lines BreakRow = with_open open (More Break (sections options [] lines))
-  sections_by options open line lines TextRow = sections options (open ++ trim_start line ∷ []) lines
-
-  pub sections : ParseOptions → List (List ℕ) → List (List ℕ) → Blocks
-  sections options open [] = with_open open End
-  sections options open (line ∷ lines) = sections_by options open line lines (line_kind options line)
+abbrev pub sections : ParseOptions → List (List ℕ) → List (List ℕ) → Blocks
+sections options held [] = with_open held End
+sections options held (line ∷ lines) = elim (line_kind options line) [
+  | BlankRow ↦ with_open held (sections options [] lines)
+  | BreakRow ↦ with_open held (More Break (sections options [] lines))
+  | TextRow ↦ sections options (held ++ trim_start line ∷ []) lines
+]
