@@ -1,0 +1,53 @@
+#!/usr/bin/env bash
+# Tries wrong bodies that no contract can refuse, or that one may come to let through, without proof: each must change a row.
+#
+# Each file of scripts/wrong-bodies has lines `file:`, `old:` (standing once in that file) and `new:`. It is applied to a copy of
+# the crates, whose bench then has to find rows that disagree, or that it can't try. The bench on the copy as it is must find none.
+set -euo pipefail
+cd "$(dirname "$0")/.."
+copy=$(mktemp -d)
+trap 'rm -rf "$copy"' EXIT
+rows() {
+    rm -rf "$copy/crates"
+    mkdir "$copy/crates"
+    cp crates.txt HANDLES "$copy/"
+    tar -C crates --exclude=out -cf - . | tar -C "$copy/crates" -xf -
+    if [ -n "$1" ]; then
+        python3 - "$1" "$copy" <<'PYTHON'
+import sys
+edit, copy = sys.argv[1:]
+lines = [line.rstrip("\n").split(": ", 1) for line in open(edit) if line.strip() and not line.startswith("#")]
+while lines:
+    (_, name), (_, old), (_, new) = lines[:3]
+    lines = lines[3:]
+    text = open(f"{copy}/{name}").read()
+    if text.count(old) != 1:
+        sys.exit(f"{edit}: `{old}` stands {text.count(old)} times in {name}")
+    open(f"{copy}/{name}", "w").write(text.replace(old, new))
+PYTHON
+    fi
+    (cd "$copy/crates/blocks_bench" && rt try 2>&1) || true
+}
+found() {
+    tr -d '\0' <<<"$1" | grep -o '[0-9]* tried, [0-9]* wrong' | tail -1
+}
+passed=0
+failed=0
+right=$(found "$(rows "" | tr -d '\0')")
+case "$right" in
+    *[1-9]*" tried, 0 wrong") passed=1 ;;
+    *) echo "without an edit: ${right:-no result}"; failed=1 ;;
+esac
+for edit in scripts/wrong-bodies/*.edit; do
+    answer=$(rows "$edit" | tr -d '\0')
+    said=$(found "$answer")
+    if [ -n "$said" ] && [ "$said" != "$right" ]; then
+        passed=$((passed + 1))
+    else
+        echo "$edit: no row changes (${said:-no result})"
+        tail -3 <<<"$answer"
+        failed=$((failed + 1))
+    fi
+done
+echo "wrong bodies: $passed passed, $failed failed"
+[ "$failed" = 0 ]
