@@ -192,7 +192,7 @@ line-feed x (b ∷ bs) rest p h =
 
 -- What is known of them.
 
-point_after-append : (xs ys : List Cell) (p : Point) → point_after (xs ++ ys) p ≡ point_after ys (point_after xs p)
+pub point_after-append : (xs ys : List Cell) (p : Point) → point_after (xs ++ ys) p ≡ point_after ys (point_after xs p)
 point_after-append [] ys p = refl
 point_after-append (c ∷ xs) ys p = point_after-append xs ys c.after
 
@@ -200,7 +200,7 @@ tab-end : (line : Line) (n byte : ℕ) (p q : Point) → point_after (tab_cells 
 tab-end line zero byte p q = tab_end-last p
 tab-end line (suc n) byte p q = tab-end line n 32 (next_column p) (next_column p) ∙ tab_end-next n p
 
-byte-end : (line : Line) (b : ℕ) (p : Point) → 1 ≤ p.column → point_after (byte_cells line b p) p ≡ past_byte b p
+pub byte-end : (line : Line) (b : ℕ) (p : Point) → 1 ≤ p.column → point_after (byte_cells line b p) p ≡ past_byte b p
 byte-end line b p one = go (b == 9) refl
   where
     go : (t : Bool) → (b == 9) ≡ t → point_after (byte_cells line b p) p ≡ past_byte b p
@@ -222,7 +222,7 @@ spread-end line (b ∷ bs) p one =
 abbrev pub bytes_of : List Cell → List ℕ
 bytes_of cells = map (λ (c : Cell). c.byte) cells
 
-bytes-append : (xs ys : List Cell) → bytes_of (xs ++ ys) ≡ bytes_of xs ++ bytes_of ys
+pub bytes-append : (xs ys : List Cell) → bytes_of (xs ++ ys) ≡ bytes_of xs ++ bytes_of ys
 bytes-append [] ys = refl
 bytes-append (c ∷ xs) ys = ap (λ (l : List ℕ). c.byte ∷ l) (bytes-append xs ys)
 

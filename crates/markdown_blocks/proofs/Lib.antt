@@ -7,3 +7,4 @@ pub mod FlowRuns
 pub mod FlowEnds
 pub mod RowFacts
 pub mod FeedLines
+pub mod LineKinds
