@@ -404,7 +404,7 @@ drop-past bytes i xs rest e = sym (drop-drop (length xs) i bytes) ∙ ap (drop (
 pub front-within : (bytes : List ℕ) (i : ℕ) (xs rest : List ℕ) → drop i bytes ≡ xs ++ rest → i ≤ length bytes → i + length xs + length rest ≡ length bytes
 front-within bytes i xs rest e le = let size = ap length e in let parts = length-append xs rest in let left = length-drop i bytes in omega arith
 
-ending-some : (ending : Ending) → 0 < length (ending_bytes ending)
+pub ending-some : (ending : Ending) → 0 < length (ending_bytes ending)
 ending-some LineFeed = omega arith
 ending-some Return = omega arith
 ending-some Both = omega arith

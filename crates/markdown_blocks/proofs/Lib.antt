@@ -8,3 +8,4 @@ pub mod FlowEnds
 pub mod RowFacts
 pub mod FeedLines
 pub mod LineKinds
+pub mod RowLemmas
