@@ -9,3 +9,4 @@ pub mod RowFacts
 pub mod FeedLines
 pub mod LineKinds
 pub mod RowLemmas
+pub mod RowsBetween

@@ -116,10 +116,10 @@ white-count b bs e = ap (λ (t : Bool). cond t (1 + prefix_len is_white bs) 0) e
 none-count : (b : ℕ) (bs : List ℕ) → is_white b ≡ false → prefix_len is_white (b ∷ bs) ≡ 0
 none-count b bs e = ap (λ (t : Bool). cond t (1 + prefix_len is_white bs) 0) e
 
-trim-white : (b : ℕ) (bs : List ℕ) → is_white b ≡ true → trim_start (b ∷ bs) ≡ trim_start bs
+pub trim-white : (b : ℕ) (bs : List ℕ) → is_white b ≡ true → trim_start (b ∷ bs) ≡ trim_start bs
 trim-white b bs e = ap (λ (n : ℕ). drop n (b ∷ bs)) (white-count b bs e)
 
-trim-none : (b : ℕ) (bs : List ℕ) → is_white b ≡ false → trim_start (b ∷ bs) ≡ b ∷ bs
+pub trim-none : (b : ℕ) (bs : List ℕ) → is_white b ≡ false → trim_start (b ∷ bs) ≡ b ∷ bs
 trim-none b bs e = ap (λ (n : ℕ). drop n (b ∷ bs)) (none-count b bs e)
 
 front-white : (b : ℕ) (bs : List ℕ) → is_white b ≡ true → white_front (b ∷ bs) ≡ b ∷ white_front bs
