@@ -1,5 +1,5 @@
 -- The cells of a line: what is fed from a point of a line to the line's end, and the cell of its ending.
-use Rattle.std.proofs.Common.{◌≡◌, ℕ, zero, suc, ◌+◌, ◌-◌, ◌%◌, ◌^◌, ◌<◌, ◌≤◌, Bool, true, false, cond, ◌&&◌, ◌||◌, List, [], ◌∷◌, ◌++◌, length, take, drop, Option, Some, None, refl, sym, ap, ◌∙◌, subst, add-one, arith, append_assoc}
+use Rattle.std.proofs.Common.{◌≡◌, ℕ, zero, suc, ◌+◌, ◌-◌, ◌%◌, ◌^◌, ◌<◌, ◌≤◌, Bool, true, false, cond, ◌&&◌, List, [], ◌∷◌, ◌++◌, length, take, drop, Option, Some, refl, sym, ap, ◌∙◌, subst, add-one, arith, append_assoc}
 use Rattle.std.specs.Prelude.{◌==◌, not, nat_lt, nat_le, map, slice_get, slice_index, slice_range, if◌then◌else◌, count_by}
 use Rattle.std.specs.List.{list_all}
 use Rattle.std.proofs.lemmas.Bool.{eqb-true, or_parts}
@@ -421,6 +421,8 @@ is-ending bytes ending rest p e h =
       in_text = omega arith;
       before = subst (EndsBefore ending) (sym (drop-past bytes p.index (ending_bytes ending) rest e)) h;
       whole = refl;
+      line = refl;
+      column = refl;
     }
 
 -- behind a piece of a line

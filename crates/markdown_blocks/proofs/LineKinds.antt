@@ -1,10 +1,9 @@
 -- What a line is, by its bytes and by its cells.
-use Rattle.std.proofs.Common.{◌≡◌, ℕ, zero, suc, ◌+◌, ◌-◌, ◌%◌, ◌^◌, ◌<◌, ◌≤◌, Bool, true, false, cond, ◌&&◌, ◌||◌, List, [], ◌∷◌, ◌++◌, length, take, drop, refl, sym, ap, ◌∙◌, subst, arith, append_assoc, append-nil}
-use Rattle.std.specs.Prelude.{◌==◌, not, nat_lt, nat_le, count_by}
+use Rattle.std.proofs.Common.{◌≡◌, ℕ, zero, suc, ◌+◌, ◌^◌, ◌<◌, ◌≤◌, Bool, true, false, cond, ◌&&◌, ◌||◌, List, [], ◌∷◌, ◌++◌, length, take, drop, refl, sym, ap, ◌∙◌, subst, arith, append_assoc, append-nil}
+use Rattle.std.specs.Prelude.{◌==◌, nat_le, count_by}
 use Rattle.std.specs.List.{list_all, prefix_len}
 use Rattle.std.proofs.lemmas.Bool.{eqb-true, or_parts}
 use Rattle.std.proofs.lemmas.Bool.Decides.{nat_tests}
-use Rattle.std.proofs.lemmas.List.{take-append-drop}
 use Rattle.md_engine.specs.declared.configuration.ParseOptions.{ParseOptions}
 use Rattle.md_engine.specs.declared.event.Point.{Point}
 use Rattle.md_engine.specs.declared.tokenizer.Line.{Line}
@@ -15,8 +14,8 @@ use Rattle.md_seam.specs.Places.{past_byte, past_text}
 use Rattle.md_seam.specs.Rest.{is_blank, is_white, trim_start}
 use Rattle.md_seam.specs.Spaces.{any_size, small_indent}
 use Rattle.md_seam.proofs.TextsLemmas.{NoEnding}
-use Rattle.markdown_blocks.specs.Rows.{BlankRow, BreakRow, RowKind, TextRow, first_cell, is_break, line_kind, row_kind}
-use Rattle.markdown_blocks.proofs.FeedLines.{NoFeed, all-spread, byte-end, byte_cells, bytes-append, bytes_of, cell, columns_more, count-spread, from_ending-append, line_cells-append, next_column, no_feed-spread, point_after-append, spread, spread-end, tab_cells}
+use Rattle.markdown_blocks.specs.Rows.{BlankRow, BreakRow, TextRow, is_break, line_kind, row_kind}
+use Rattle.markdown_blocks.proofs.FeedLines.{all-spread, byte-end, byte_cells, bytes_of, cell, columns_more, count-spread, from_ending-append, line_cells-append, next_column, no_feed-spread, spread, spread-end, tab_cells}
 
 -- nothing comes, or an ending
 abbrev pub Stops : List Cell → Type 0

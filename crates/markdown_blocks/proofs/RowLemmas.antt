@@ -1,6 +1,6 @@
 -- The lines that flow reads are those of the text.
-use Rattle.std.proofs.Common.{append-nil, ◌≡◌, ℕ, zero, suc, ◌+◌, ◌-◌, ◌^◌, ◌<◌, ◌≤◌, Bool, true, false, cond, ◌&&◌, ◌||◌, List, [], ◌∷◌, ◌++◌, length, take, drop, refl, sym, ap, ◌∙◌, subst, arith, append_assoc, inl, inr, ◌⊎◌}
-use Rattle.std.specs.Prelude.{◌==◌, IsTrue, Option, Some, None, nat_lt, nat_le, slice_range}
+use Rattle.std.proofs.Common.{◌≡◌, ℕ, zero, suc, ◌+◌, ◌^◌, ◌<◌, ◌≤◌, Bool, true, false, cond, List, [], ◌∷◌, ◌++◌, length, drop, refl, sym, ap, ◌∙◌, subst, arith, append-nil, append_assoc, inl, inr, ◌⊎◌}
+use Rattle.std.specs.Prelude.{◌==◌, IsTrue, Some}
 use Rattle.std.specs.List.{prefix_len}
 use Rattle.std.proofs.lemmas.Bool.{eqb-true, or_from}
 use Rattle.std.proofs.lemmas.Bool.Decides.{nat_tests}
@@ -13,13 +13,12 @@ use Rattle.md_engine.specs.declared.event.Point.{Point}
 use Rattle.md_engine.specs.declared.tokenizer.Line.{Line}
 use Rattle.md_engine.specs.Meaning.{Cell}
 use Rattle.md_engine.specs.TextFeed.{text_feed}
-use Rattle.md_engine.specs.World.{Setting}
+use Rattle.md_engine.specs.World.{Setting, fresh, reads_to}
 use Rattle.md_engine.proofs.TextFeed.{text-follows}
 use Rattle.md_leaves.specs.BlankRule.{blank_events}
 use Rattle.md_leaves.specs.BreakRule.{Apart, Marks, Run, White, runs}
-use Rattle.md_seam.specs.Ahead.{begins_white, from_ending, line_cells, line_end, point_after, white_end, white_rest}
-use Rattle.md_seam.specs.Nested.{Balanced, Forward, Matches, exit, last_point, open_after, pair}
-use Rattle.md_seam.specs.Lines.{begins_with}
+use Rattle.md_seam.specs.Ahead.{begins_white, from_ending, line_cells, line_end, point_after, white_rest}
+use Rattle.md_seam.specs.Nested.{Balanced, Forward, Matches, last_point, open_after, pair}
 use Rattle.md_seam.specs.Places.{at_or_before, first_point, past_byte, past_text}
 use Rattle.md_seam.specs.Rest.{is_white, trim_start}
 use Rattle.md_seam.specs.Spaces.{small_indent}
@@ -27,7 +26,7 @@ use Rattle.md_seam.specs.Texts.{split_lines}
 use Rattle.md_seam.proofs.NestedLemmas.{at_or_before-refl, at_or_before-trans, balanced-append, balanced-none, forward-append, forward-from, last_point-append}
 use Rattle.md_seam.proofs.SpelledLemmas.{Quiet, Roles, roles-append}
 use Rattle.md_seam.proofs.TextsLemmas.{Both, Ending, EndsBefore, LineFeed, NoEnding, Return, ending_bytes, split-line, split-next}
-use Rattle.markdown_blocks.specs.Rows.{BlankRow, BreakRow, Row, RowKind, TextRow, after_ending, break_inside, first_cell, inside_of, line_kind, row_at, row_kind, rows_at}
+use Rattle.markdown_blocks.specs.Rows.{BlankRow, BreakRow, Row, RowKind, TextRow, after_ending, break_inside, first_cell, inside_of, row_at, row_kind, rows_at}
 use Rattle.markdown_blocks.proofs.FeedLines.{HasEnding, HasLine, behind_last, begun-none, byte-end, byte_cells, cell, columns_more, drop-past, ending-feed, ending-some, feed-none, front-within, is-ending, line-feed, next_column, past_ending, past_text-column, past_text-index, past_text-whole, slice-front, spread, spread-end, tab_cells}
 use Rattle.markdown_blocks.proofs.LineKinds.{Stops, kind-spread, no_ending-trim, small-end, small-rest, spread-line, spread-line_end, spread-rest, white_front}
 use Rattle.markdown_blocks.proofs.RowFacts.{AreRows, IsEnding, IsRow}
@@ -223,6 +222,7 @@ is-row options bytes said line behind p rest off short h k one vs text =
       size = index;
       end = end;
       first_whole = vs;
+      first_column = one;
       end_whole = ap (λ (q : Point). q.vs) end ∙ past_text-whole line p vs;
       quiet = inside.quiet;
       balanced = inside.balanced;
@@ -379,3 +379,9 @@ pub text-rows : (options : ParseOptions) (x : Setting) → options.constructs.co
     AreRows options x.bytes first_point (split_lines x.bytes) (rows_at options (suc (length (text_feed x first_point))) (text_feed x first_point) first_point)
 text-rows options x off skips limit small = rows-are options (suc (length (text_feed x first_point))) x first_point off
     (record { small = small; limit = limit; skips = skips; index = omega arith; whole = refl; column = omega arith }) (omega arith)
+
+-- So are those of a text that a new tokenizer reads to its end.
+pub fresh-rows : (options : ParseOptions) (bytes : List ℕ) → options.constructs.code_indented ≡ false → length bytes < 2 ^ 61 →
+    let feed = text_feed (reads_to (fresh bytes options first_point) (length bytes)).setting in
+    AreRows options bytes first_point (split_lines bytes) (rows_at options (suc (length (feed first_point))) (feed first_point) first_point)
+fresh-rows options bytes off small = text-rows options (reads_to (fresh bytes options first_point) (length bytes)).setting off refl refl small

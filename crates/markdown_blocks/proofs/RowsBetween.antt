@@ -1,8 +1,8 @@
 -- The points of the lines that flow reads stand between characters.
-use Rattle.std.proofs.Common.{◌≡◌, ℕ, zero, suc, ◌+◌, ◌-◌, ◌<◌, ◌≤◌, Bool, true, false, cond, ◌&&◌, ◌||◌, List, [], ◌∷◌, ◌++◌, length, take, drop, get_or, refl, sym, ap, ◌∙◌, subst, arith, inl, inr, ◌⊎◌}
-use Rattle.std.specs.Prelude.{◌==◌, IsTrue, Option, Some, None, nat_lt, nat_le, slice_index, slice_range}
+use Rattle.std.proofs.Common.{◌≡◌, ℕ, zero, suc, ◌+◌, ◌-◌, ◌<◌, ◌≤◌, Bool, true, false, cond, ◌&&◌, ◌||◌, List, [], ◌∷◌, ◌++◌, length, drop, refl, sym, ap, ◌∙◌, arith, inl, inr, ◌⊎◌}
+use Rattle.std.specs.Prelude.{◌==◌, IsTrue, Option, Some, None, nat_lt, slice_index, slice_range}
 use Rattle.std.specs.List.{list_all}
-use Rattle.std.proofs.lemmas.Bool.{and_from, and_parts, eq-eqb, eqb-true, or_left, or_right, or_cases}
+use Rattle.std.proofs.lemmas.Bool.{and_from, and_parts, eq-eqb, or_left, or_right}
 use Rattle.std.proofs.lemmas.Bool.Decides.{nat_tests}
 use Rattle.std.proofs.lemmas.List.{get_or-drop, get_or-take}
 use Rattle.md_engine.specs.declared.configuration.ParseOptions.{ParseOptions}
@@ -10,10 +10,8 @@ use Rattle.md_engine.specs.declared.event.Event.{Event}
 use Rattle.md_engine.specs.declared.event.Name.{Name}
 use Rattle.md_engine.specs.declared.event.Name.TheVariants as n
 use Rattle.md_engine.specs.declared.event.Point.{Point}
-use Rattle.md_content.specs.ChunkRule.{enter_link}
-use Rattle.md_content.specs.Chunks.{content_link}
 use Rattle.md_seam.specs.Leaves.{is_rule, is_rule_marker}
-use Rattle.md_seam.specs.Nested.{Forward, around, enter, exit, last_point, pair}
+use Rattle.md_seam.specs.Nested.{Forward, around, exit, last_point, pair}
 use Rattle.md_seam.specs.Places.{at_or_before}
 use Rattle.md_seam.specs.Rest.{is_blank, is_white, trim_start}
 use Rattle.md_seam.proofs.NestedLemmas.{at_or_before-trans, forward-last}
@@ -70,8 +68,7 @@ between-ending bytes p q h =
     let none : p.index + 0 ≡ p.index = omega arith in
     let last : slice_index bytes (p.index + (length (ending_bytes h.ending) - 1)) ≡ slice_index (ending_bytes h.ending) (length (ending_bytes h.ending) - 1) =
     range-at bytes p.index q.index (length (ending_bytes h.ending) - 1) (ending_bytes h.ending) h.text (omega arith) in
-    let before : p.index + (length (ending_bytes h.ending) - 1) ≡ q.index - 1 = omega arith in
-    (
+    let before : p.index + (length (ending_bytes h.ending) - 1) ≡ q.index - 1 = omega arith in (
       between-at bytes p.index (ap (λ (i : ℕ). nat_lt (slice_index bytes i) 128) (sym none) ∙ ap (λ (b : ℕ). nat_lt b 128) first ∙ ending-first h.ending),
       between-before bytes q.index (ap (λ (i : ℕ). nat_lt (slice_index bytes i) 128) (sym before) ∙ ap (λ (b : ℕ). nat_lt b 128) last ∙ ending-last h.ending),
     )
@@ -216,21 +213,25 @@ some-same p q o e k = let same : Some p ≡ Some q = sym e ∙ k in cc
 -- the points of its rows stand between characters
 pub are-between : (options : ParseOptions) (bytes : List ℕ) (p : Point) (lines : List (List ℕ)) (rows : List Row) → AreRows options bytes p lines rows → is_between bytes p.index ≡ true → RowsBetween bytes rows
 are-between options bytes p (line ∷ []) (row ∷ []) h k =
-    let end = between-end bytes row.end.index h.3 in
-    (record {
-      first = ap (λ (q : Point). is_between bytes q.index) h.1 ∙ k;
-      end = end;
-      after = λ q e. absurd (none-after row q h.2 e);
-      inside = between-inside options bytes line row h.0 end;
-    }, tt)
+    let end = between-end bytes row.end.index h.3 in (
+      record {
+        first = ap (λ (q : Point). is_between bytes q.index) h.1 ∙ k;
+        end = end;
+        after = λ q e. absurd (none-after row q h.2 e);
+        inside = between-inside options bytes line row h.0 end;
+      },
+      tt,
+    )
 are-between options bytes p (line ∷ next ∷ lines) (row ∷ below ∷ rows) h k =
-    let ends = between-ending bytes row.end h.2 h.4 in
-    (record {
-      first = ap (λ (q : Point). is_between bytes q.index) h.1 ∙ k;
-      end = ends.0;
-      after = λ q e. ap (λ (r : Point). is_between bytes r.index) (some-same q h.2 row.after e h.3) ∙ ends.1;
-      inside = between-inside options bytes line row h.0 ends.0;
-    }, are-between options bytes h.2 (next ∷ lines) (below ∷ rows) h.5 ends.1)
+    let ends = between-ending bytes row.end h.2 h.4 in (
+      record {
+        first = ap (λ (q : Point). is_between bytes q.index) h.1 ∙ k;
+        end = ends.0;
+        after = λ q e. ap (λ (r : Point). is_between bytes r.index) (some-same q h.2 row.after e h.3) ∙ ends.1;
+        inside = between-inside options bytes line row h.0 ends.0;
+      },
+      are-between options bytes h.2 (next ∷ lines) (below ∷ rows) h.5 ends.1,
+    )
 are-between options bytes p [] rows h k = absurd h
 are-between options bytes p (line ∷ []) [] h k = absurd h
 are-between options bytes p (line ∷ next ∷ lines) [] h k = absurd h
