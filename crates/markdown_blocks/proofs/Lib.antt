@@ -6,3 +6,7 @@ pub mod FlowMeans
 pub mod FlowRuns
 pub mod FlowEnds
 pub mod RowFacts
+pub mod FeedLines
+pub mod LineKinds
+pub mod RowLemmas
+pub mod RowsBetween

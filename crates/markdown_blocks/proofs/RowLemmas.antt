@@ -1,0 +1,387 @@
+-- The lines that flow reads are those of the text.
+use Rattle.std.proofs.Common.{◌≡◌, ℕ, zero, suc, ◌+◌, ◌^◌, ◌<◌, ◌≤◌, Bool, true, false, cond, List, [], ◌∷◌, ◌++◌, length, drop, refl, sym, ap, ◌∙◌, subst, arith, append-nil, append_assoc, inl, inr, ◌⊎◌}
+use Rattle.std.specs.Prelude.{◌==◌, IsTrue, Some}
+use Rattle.std.specs.List.{prefix_len}
+use Rattle.std.proofs.lemmas.Bool.{eqb-true, or_from}
+use Rattle.std.proofs.lemmas.Bool.Decides.{nat_tests}
+use Rattle.std.proofs.lemmas.List.{length-append, take-append-drop}
+use Rattle.md_engine.specs.declared.configuration.ParseOptions.{ParseOptions}
+use Rattle.md_engine.specs.declared.event.Event.{Event}
+use Rattle.md_engine.specs.declared.event.Name.{Name}
+use Rattle.md_engine.specs.declared.event.Name.TheVariants as n
+use Rattle.md_engine.specs.declared.event.Point.{Point}
+use Rattle.md_engine.specs.declared.tokenizer.Line.{Line}
+use Rattle.md_engine.specs.Meaning.{Cell}
+use Rattle.md_engine.specs.TextFeed.{text_feed}
+use Rattle.md_engine.specs.World.{Setting, fresh, reads_to}
+use Rattle.md_engine.proofs.TextFeed.{text-follows}
+use Rattle.md_leaves.specs.BlankRule.{blank_events}
+use Rattle.md_leaves.specs.BreakRule.{Apart, Marks, Run, White, runs}
+use Rattle.md_seam.specs.Ahead.{begins_white, from_ending, line_cells, line_end, point_after, white_rest}
+use Rattle.md_seam.specs.Nested.{Balanced, Forward, Matches, last_point, open_after, pair}
+use Rattle.md_seam.specs.Places.{at_or_before, first_point, past_byte, past_text}
+use Rattle.md_seam.specs.Rest.{is_white, trim_start}
+use Rattle.md_seam.specs.Spaces.{small_indent}
+use Rattle.md_seam.specs.Texts.{split_lines}
+use Rattle.md_seam.proofs.NestedLemmas.{at_or_before-refl, at_or_before-trans, balanced-append, balanced-none, forward-append, forward-from, last_point-append}
+use Rattle.md_seam.proofs.SpelledLemmas.{Quiet, Roles, roles-append}
+use Rattle.md_seam.proofs.TextsLemmas.{Both, Ending, EndsBefore, LineFeed, NoEnding, Return, ending_bytes, split-line, split-next}
+use Rattle.markdown_blocks.specs.Rows.{BlankRow, BreakRow, Row, RowKind, TextRow, after_ending, break_inside, first_cell, inside_of, row_at, row_kind, rows_at}
+use Rattle.markdown_blocks.proofs.FeedLines.{HasEnding, HasLine, behind_last, begun-none, byte-end, byte_cells, cell, columns_more, drop-past, ending-feed, ending-some, feed-none, front-within, is-ending, line-feed, next_column, past_ending, past_text-column, past_text-index, past_text-whole, slice-front, spread, spread-end, tab_cells}
+use Rattle.markdown_blocks.proofs.LineKinds.{Stops, kind-spread, no_ending-trim, small-end, small-rest, spread-line, spread-line_end, spread-rest, white_front}
+use Rattle.markdown_blocks.proofs.RowFacts.{AreRows, IsEnding, IsRow}
+
+-- Points go forward.
+
+-- the points behind the cells never go back
+abbrev Climbs : Point → List Cell → Type 0
+Climbs p [] = Unit {0}
+Climbs p (c ∷ cs) = IsTrue (at_or_before p c.after) × Climbs c.after cs
+
+climbs-append : (xs ys : List Cell) (p : Point) → Climbs p xs → Climbs (point_after xs p) ys → Climbs p (xs ++ ys)
+climbs-append [] ys p h k = k
+climbs-append (c ∷ xs) ys p h k = (h.0, climbs-append xs ys c.after h.1 k)
+
+-- a later byte, or a later column of the same
+before-byte : (p q : Point) → p.index < q.index → IsTrue (at_or_before p q)
+before-byte p q lt = grind (arith, nat_tests)
+
+before-column : (p : Point) → IsTrue (at_or_before p (next_column p))
+before-column p = grind (arith, nat_tests)
+
+climbs-tab : (line : Line) (n byte : ℕ) (p : Point) → Climbs p (tab_cells line n byte p)
+climbs-tab line zero byte p = (before-byte p (behind_last p) (omega arith), tt)
+climbs-tab line (suc n) byte p = (before-column p, climbs-tab line n 32 (next_column p))
+
+climbs-byte : (line : Line) (b : ℕ) (p : Point) → Climbs p (byte_cells line b p)
+climbs-byte line b p = go (b == 9)
+  where
+    go : (t : Bool) → Climbs p (cond t (tab_cells line (columns_more p) 9 p) (cell b (past_byte b p) line ∷ []))
+    go true = climbs-tab line (columns_more p) 9 p
+    go false = (before-byte p (past_byte b p) (omega arith), tt)
+
+climbs-spread : (line : Line) (bytes : List ℕ) (p : Point) → 1 ≤ p.column → Climbs p (spread line bytes p)
+climbs-spread line [] p one = tt
+climbs-spread line (b ∷ bs) p one =
+    climbs-append (byte_cells line b p) (spread line bs (past_byte b p)) p (climbs-byte line b p)
+    (subst (λ (q : Point). Climbs q (spread line bs (past_byte b p))) (sym (byte-end line b p one)) (climbs-spread line bs (past_byte b p) (omega arith)))
+
+before-text : (bytes : List ℕ) (p : Point) → IsTrue (at_or_before p (past_text bytes p))
+before-text [] p = at_or_before-refl p
+before-text (b ∷ bs) p = at_or_before-trans p (past_byte b p) (past_text bs (past_byte b p)) (before-byte p (past_byte b p) (omega arith)) (before-text bs (past_byte b p))
+
+past_text-append : (xs ys : List ℕ) (p : Point) → past_text (xs ++ ys) p ≡ past_text ys (past_text xs p)
+past_text-append [] ys p = refl
+past_text-append (b ∷ xs) ys p = past_text-append xs ys (past_byte b p)
+
+-- What stands inside.
+
+-- quiet events, nested, between two points
+record Inside (p q : Point) (es : List Event) : Type 0 where
+  quiet : Roles Quiet es
+  balanced : Balanced es
+  forward : Forward p es
+  within : IsTrue (at_or_before (last_point p es) q)
+
+inside-none : (p q : Point) → IsTrue (at_or_before p q) → Inside p q []
+inside-none p q h = record { quiet = tt; balanced = balanced-none; forward = tt; within = h }
+
+inside-white : (p q : Point) → IsTrue (at_or_before p q) → Inside p q (pair n.SpaceOrTab p q)
+inside-white p q h = record { quiet = (tt, (tt, tt)); balanced = record { matches = (tt, (refl, tt)); closed = refl }; forward = (at_or_before-refl p, (h, tt)); within = at_or_before-refl q }
+
+inside-maybe : (t : Bool) (p q : Point) → IsTrue (at_or_before p q) → Inside p q (cond t (pair n.SpaceOrTab p q) [])
+inside-maybe true p q h = inside-white p q h
+inside-maybe false p q h = inside-none p q h
+
+last-from : (p q r : Point) (es : List Event) → IsTrue (at_or_before p q) → IsTrue (at_or_before (last_point q es) r) → IsTrue (at_or_before (last_point p es) r)
+last-from p q r [] h k = at_or_before-trans p q r h k
+last-from p q r (e ∷ es) h k = k
+
+inside-append : (p q r : Point) (xs ys : List Event) → Inside p q xs → Inside q r ys → Inside p r (xs ++ ys)
+inside-append p q r xs ys a b = record {
+  quiet = roles-append Quiet xs ys a.quiet b.quiet;
+  balanced = balanced-append xs ys a.balanced b.balanced;
+  forward = forward-append p xs ys a.forward (forward-from (last_point p xs) q ys a.within b.forward);
+  within = subst (λ (s : Point). IsTrue (at_or_before s r)) (sym (last_point-append p xs ys)) (last-from (last_point p xs) q r ys a.within b.within);
+}
+
+-- The runs of a break.
+
+either : (P : List Event → Type 0) (t : Bool) (xs ys : List Event) → P xs → P ys → P (cond t xs ys)
+either P true xs ys h k = h
+either P false xs ys h k = k
+
+quiet-runs : (run : Run) (m : ℕ) (cells : List Cell) (p : Point) → Roles Quiet (runs run m cells p)
+quiet-runs Apart m [] p = tt
+quiet-runs Marks m [] p = (tt, tt)
+quiet-runs White m [] p = (tt, tt)
+quiet-runs Apart m (c ∷ cs) p = either (Roles Quiet) (c.byte == m) _ _ (tt, quiet-runs Marks m cs c.after) (tt, quiet-runs White m cs c.after)
+quiet-runs Marks m (c ∷ cs) p = either (Roles Quiet) (c.byte == m) _ _ (quiet-runs Marks m cs c.after) (tt, (tt, quiet-runs White m cs c.after))
+quiet-runs White m (c ∷ cs) p = either (Roles Quiet) (c.byte == m) _ _ (tt, (tt, quiet-runs Marks m cs c.after)) (quiet-runs White m cs c.after)
+
+-- what is open in a run
+abbrev open_in : Run → List Name
+open_in Apart = []
+open_in Marks = n.ThematicBreakSequence ∷ []
+open_in White = n.SpaceOrTab ∷ []
+
+matches-runs : (run : Run) (m : ℕ) (cells : List Cell) (p : Point) → Matches (open_in run) (runs run m cells p)
+matches-runs Apart m [] p = tt
+matches-runs Marks m [] p = (refl, tt)
+matches-runs White m [] p = (refl, tt)
+matches-runs Apart m (c ∷ cs) p = either (Matches []) (c.byte == m) _ _ (tt, matches-runs Marks m cs c.after) (tt, matches-runs White m cs c.after)
+matches-runs Marks m (c ∷ cs) p = either (Matches (n.ThematicBreakSequence ∷ [])) (c.byte == m) _ _ (matches-runs Marks m cs c.after) (refl, (tt, matches-runs White m cs c.after))
+matches-runs White m (c ∷ cs) p = either (Matches (n.SpaceOrTab ∷ [])) (c.byte == m) _ _ (refl, (tt, matches-runs Marks m cs c.after)) (matches-runs White m cs c.after)
+
+abbrev Closes : List Name → List Event → Type 0
+Closes names es = open_after names es ≡ []
+
+closes-runs : (run : Run) (m : ℕ) (cells : List Cell) (p : Point) → Closes (open_in run) (runs run m cells p)
+closes-runs Apart m [] p = refl
+closes-runs Marks m [] p = refl
+closes-runs White m [] p = refl
+closes-runs Apart m (c ∷ cs) p = either (Closes []) (c.byte == m) _ _ (closes-runs Marks m cs c.after) (closes-runs White m cs c.after)
+closes-runs Marks m (c ∷ cs) p = either (Closes (n.ThematicBreakSequence ∷ [])) (c.byte == m) _ _ (closes-runs Marks m cs c.after) (closes-runs White m cs c.after)
+closes-runs White m (c ∷ cs) p = either (Closes (n.SpaceOrTab ∷ [])) (c.byte == m) _ _ (closes-runs Marks m cs c.after) (closes-runs White m cs c.after)
+
+-- from a point on, and up to a point
+abbrev Spans : Point → Point → List Event → Type 0
+Spans p r es = Forward p es × IsTrue (at_or_before (last_point p es) r)
+
+spans-runs : (run : Run) (m : ℕ) (cells : List Cell) (p q : Point) → IsTrue (at_or_before p q) → Climbs q cells → Spans p (point_after cells q) (runs run m cells q)
+spans-runs Apart m [] p q h k = (tt, h)
+spans-runs Marks m [] p q h k = ((h, tt), at_or_before-refl q)
+spans-runs White m [] p q h k = ((h, tt), at_or_before-refl q)
+spans-runs Apart m (c ∷ cs) p q h k =
+    let marks = spans-runs Marks m cs q c.after k.0 k.1 in
+    let white = spans-runs White m cs q c.after k.0 k.1 in
+    either (Spans p (point_after cs c.after)) (c.byte == m) _ _ ((h, marks.0), marks.1) ((h, white.0), white.1)
+spans-runs Marks m (c ∷ cs) p q h k =
+    let white = spans-runs White m cs q c.after k.0 k.1 in
+    either (Spans p (point_after cs c.after)) (c.byte == m) _ _ (spans-runs Marks m cs p c.after (at_or_before-trans p q c.after h k.0) k.1) ((h, (at_or_before-refl q, white.0)), white.1)
+spans-runs White m (c ∷ cs) p q h k =
+    let marks = spans-runs Marks m cs q c.after k.0 k.1 in
+    either (Spans p (point_after cs c.after)) (c.byte == m) _ _ ((h, (at_or_before-refl q, marks.0)), marks.1) (spans-runs White m cs p c.after (at_or_before-trans p q c.after h k.0) k.1)
+
+inside-runs : (m : ℕ) (cells : List Cell) (p : Point) → Climbs p cells → Inside p (point_after cells p) (runs Apart m cells p)
+inside-runs m cells p k =
+    let spans = spans-runs Apart m cells p p (at_or_before-refl p) k in
+    record { quiet = quiet-runs Apart m cells p; balanced = record { matches = matches-runs Apart m cells p; closed = closes-runs Apart m cells p }; forward = spans.0; within = spans.1 }
+
+-- A row.
+
+inside-blank : (line : Line) (bytes : List ℕ) (p : Point) (rest : List Cell) → NoEnding bytes → Stops rest → 1 ≤ p.column → Inside p (past_text bytes p) (blank_events (spread line bytes p ++ rest) p)
+inside-blank line bytes p rest h k one =
+    subst (λ (q : Point). Inside p (past_text bytes p) (cond (begins_white (spread line bytes p ++ rest)) (pair n.SpaceOrTab p q) [])) (sym (spread-line_end line bytes p rest h k one))
+    (inside-maybe (begins_white (spread line bytes p ++ rest)) p (past_text bytes p) (before-text bytes p))
+
+inside-break : (options : ParseOptions) (line : Line) (bytes : List ℕ) (p : Point) (rest : List Cell) → options.constructs.code_indented ≡ false → length (spread line bytes p ++ rest) < 2 ^ 63 → NoEnding bytes → Stops rest → 1 ≤ p.column →
+    Inside p (past_text bytes p) (break_inside options (spread line bytes p ++ rest) p)
+inside-break options line bytes p rest off short h k one =
+    let cells = spread line bytes p ++ rest in
+    let q = past_text (white_front bytes) p in
+    let left = spread line (trim_start bytes) q in
+    let column = past_text-column (white_front bytes) p one in
+    let end : point_after left q ≡ past_text bytes p =
+    spread-end line (trim_start bytes) q column
+    ∙ sym (past_text-append (white_front bytes) (trim_start bytes) p)
+    ∙ ap (λ (l : List ℕ). past_text l p) (take-append-drop (prefix_len is_white bytes) bytes) in
+    let marks : Inside q (past_text bytes p) (runs Apart (first_cell (left ++ rest)) left q) =
+    subst (λ (r : Point). Inside q r (runs Apart (first_cell (left ++ rest)) left q)) end (inside-runs (first_cell (left ++ rest)) left q (climbs-spread line (trim_start bytes) q column)) in
+    let E : List Cell → List Cell → Point → List Event = λ (more : List Cell) (l : List Cell) (r : Point). cond (begins_white cells) (pair n.SpaceOrTab p r) [] ++ runs Apart (first_cell more) l r in
+    let all : Inside p (past_text bytes p) (E (left ++ rest) left q) = inside-append p q (past_text bytes p) _ _ (inside-maybe (begins_white cells) p q (before-text (white_front bytes) p)) marks in
+    let lined : Inside p (past_text bytes p) (E (left ++ rest) (line_cells (left ++ rest)) q) =
+    subst (λ (l : List Cell). Inside p (past_text bytes p) (E (left ++ rest) l q)) (sym (spread-line line (trim_start bytes) q rest (no_ending-trim bytes h) k)) all in
+    let behind : Inside p (past_text bytes p) (E (white_rest (small_indent options) cells) (line_cells (white_rest (small_indent options) cells)) q) =
+    subst (λ (more : List Cell). Inside p (past_text bytes p) (E more (line_cells more) q)) (sym (small-rest options line bytes p rest off short k one)) lined in
+    subst (λ (r : Point). Inside p (past_text bytes p) (E (white_rest (small_indent options) cells) (line_cells (white_rest (small_indent options) cells)) r)) (sym (small-end options line bytes p rest off short k one)) behind
+
+-- what stands inside a row of either kind
+inside-row : (options : ParseOptions) (line : Line) (bytes : List ℕ) (p : Point) (rest : List Cell) → options.constructs.code_indented ≡ false → length (spread line bytes p ++ rest) < 2 ^ 63 → NoEnding bytes → Stops rest → 1 ≤ p.column →
+    (kind : RowKind) → Inside p (past_text bytes p) (inside_of options (spread line bytes p ++ rest) p kind)
+inside-row options line bytes p rest off short h k one BlankRow = inside-blank line bytes p rest h k one
+inside-row options line bytes p rest off short h k one BreakRow = inside-break options line bytes p rest off short h k one
+inside-row options line bytes p rest off short h k one TextRow = inside-none p (past_text bytes p) (before-text bytes p)
+
+none-inside : (options : ParseOptions) (cells : List Cell) (p : Point) (kind : RowKind) → kind ≡ TextRow → inside_of options cells p kind ≡ []
+none-inside options cells p kind e = ap (inside_of options cells p) e
+
+-- The row of a line.
+pub is-row : (options : ParseOptions) (bytes : List ℕ) (said : Line) (line behind : List ℕ) (p : Point) (rest : List Cell) → options.constructs.code_indented ≡ false → length (spread said line p ++ rest) < 2 ^ 63 →
+    NoEnding line → Stops rest → 1 ≤ p.column → p.vs ≡ 0 → drop p.index bytes ≡ line ++ behind →
+    IsRow options bytes line (row_at options (spread said line p ++ rest) p)
+is-row options bytes said line behind p rest off short h k one vs text =
+    let cells = spread said line p ++ rest in
+    let end : line_end cells p ≡ past_text line p = spread-line_end said line p rest h k one in
+    let index : (line_end cells p).index ≡ p.index + length line = ap (λ (q : Point). q.index) end ∙ past_text-index line p in
+    let inside = inside-row options said line p rest off short h k one (row_kind options cells) in
+    record {
+      kind = kind-spread options said line p rest off short h k one;
+      no_ending = h;
+      text = slice-front bytes p.index (line_end cells p).index line behind text index;
+      size = index;
+      end = end;
+      first_whole = vs;
+      first_column = one;
+      end_whole = ap (λ (q : Point). q.vs) end ∙ past_text-whole line p vs;
+      quiet = inside.quiet;
+      balanced = inside.balanced;
+      forward = inside.forward;
+      within = subst (λ (q : Point). IsTrue (at_or_before (last_point p (inside_of options cells p (row_kind options cells))) q)) (sym end) inside.within;
+      no_inside = none-inside options cells p (row_kind options cells);
+    }
+
+-- The first line of a text.
+
+pub record HasNext (text : List ℕ) : Type 0 where
+  pub line : List ℕ
+  pub ending : Ending
+  pub rest : List ℕ
+  pub no_ending : NoEnding line
+  pub before : EndsBefore ending rest
+  pub joined : text ≡ line ++ ending_bytes ending ++ rest
+
+next-feed : (b : ℕ) (bs : List ℕ) → (b == 10) ≡ true → HasNext (b ∷ bs)
+next-feed b bs e = let ten : b ≡ 10 = eqb-true b 10 e in record { line = []; ending = LineFeed; rest = bs; no_ending = tt; before = tt; joined = ap (λ (c : ℕ). c ∷ bs) ten }
+
+next-return : (b : ℕ) (bs : List ℕ) → (b == 13) ≡ true → HasNext (b ∷ bs)
+next-return b [] e = let cr : b ≡ 13 = eqb-true b 13 e in record { line = []; ending = Return; rest = []; no_ending = tt; before = refl; joined = ap (λ (c : ℕ). c ∷ []) cr }
+next-return b (c ∷ cs) e = go (c == 10) refl
+  where
+    go : (t : Bool) → (c == 10) ≡ t → HasNext (b ∷ c ∷ cs)
+    go true f =
+        let cr : b ≡ 13 = eqb-true b 13 e in
+        let ten : c ≡ 10 = eqb-true c 10 f in
+        record { line = []; ending = Both; rest = cs; no_ending = tt; before = tt; joined = ap (λ (a : ℕ). a ∷ c ∷ cs) cr ∙ ap (λ (a : ℕ). 13 ∷ a ∷ cs) ten }
+    go false f = let cr : b ≡ 13 = eqb-true b 13 e in record { line = []; ending = Return; rest = c ∷ cs; no_ending = tt; before = f; joined = ap (λ (a : ℕ). a ∷ c ∷ cs) cr }
+
+-- a text is one line, or a line, its ending and what follows
+pub first_line : (text : List ℕ) → NoEnding text ⊎ HasNext text
+first_line [] = inl tt
+first_line (b ∷ bs) = go (b == 10) refl (b == 13) refl (first_line bs)
+  where
+    go : (t : Bool) → (b == 10) ≡ t → (s : Bool) → (b == 13) ≡ s → NoEnding bs ⊎ HasNext bs → NoEnding (b ∷ bs) ⊎ HasNext (b ∷ bs)
+    go true e s f more = inr (next-feed b bs e)
+    go false e true f more = inr (next-return b bs f)
+    go false e false f (inl h) = inl (or_from (b == 10) (b == 13) e f, h)
+    go false e false f (inr h) = inr (record { line = b ∷ h.line; ending = h.ending; rest = h.rest; no_ending = (or_from (b == 10) (b == 13) e f, h.no_ending); before = h.before; joined = ap (λ (l : List ℕ). b ∷ l) h.joined })
+
+-- All rows.
+
+-- a line begins at a point of a text that is read to its end
+pub record HasLines (x : Setting) (p : Point) : Type 0 where
+  pub small : length x.bytes < 2 ^ 61
+  pub limit : x.limit ≡ length x.bytes
+  pub skips : x.skips ≡ []
+  pub index : p.index ≤ length x.bytes
+  pub whole : p.vs ≡ 0
+  pub column : 1 ≤ p.column
+
+rows-last : (options : ParseOptions) (n : ℕ) (cells : List Cell) (p : Point) → from_ending cells ≡ [] → rows_at options (suc n) cells p ≡ row_at options cells p ∷ []
+rows-last options n cells p e = ap (λ (l : List Cell). row_at options cells p ∷ elim l [ [] ↦ [] | c ∷ cs ↦ rows_at options n cs c.after ]) e
+
+rows-next : (options : ParseOptions) (n : ℕ) (cells : List Cell) (p : Point) (c : Cell) (cs : List Cell) → from_ending cells ≡ c ∷ cs → rows_at options (suc n) cells p ≡ row_at options cells p ∷ rows_at options n cs c.after
+rows-next options n cells p c cs e = ap (λ (l : List Cell). row_at options cells p ∷ elim l [ [] ↦ [] | c ∷ cs ↦ rows_at options n cs c.after ]) e
+
+-- one line more
+rows-onto : (options : ParseOptions) (bytes line : List ℕ) (row : Row) (p q : Point) (lines : List (List ℕ)) (rows : List Row) → IsRow options bytes line row → row.first ≡ p → row.after ≡ Some q → IsEnding bytes row.end q →
+    AreRows options bytes q lines rows → AreRows options bytes p (line ∷ lines) (row ∷ rows)
+rows-onto options bytes line row p q [] [] is first after ending h = absurd h
+rows-onto options bytes line row p q [] (below ∷ rows) is first after ending h = absurd h
+rows-onto options bytes line row p q (next ∷ []) [] is first after ending h = absurd h
+rows-onto options bytes line row p q (next ∷ further ∷ lines) [] is first after ending h = absurd h
+rows-onto options bytes line row p q (next ∷ lines) (below ∷ rows) is first after ending h = (is, first, q, after, ending, h)
+
+-- the last line
+last-rows : (options : ParseOptions) (n : ℕ) (bytes : List ℕ) (said : Line) (line : List ℕ) (p : Point) (cells : List Cell) → options.constructs.code_indented ≡ false → length cells < 2 ^ 63 →
+    NoEnding line → p.index ≤ length bytes → p.vs ≡ 0 → 1 ≤ p.column → drop p.index bytes ≡ line → cells ≡ spread said line p ++ [] →
+    AreRows options bytes p (split_lines (drop p.index bytes)) (rows_at options (suc n) cells p)
+last-rows options n bytes said line p cells off short none index vs one text fed =
+    let whole = spread said line p ++ [] in
+    let joined : drop p.index bytes ≡ line ++ [] = text ∙ sym (append-nil line) in
+    let small : length whole < 2 ^ 63 = let same = ap length fed in omega arith in
+    let is = is-row options bytes said line [] p [] off small none tt one vs joined in
+    let size = front-within bytes p.index line [] joined index in
+    let all : (line_end whole p).index ≡ length bytes = let end = is.size in omega arith in
+    let last : from_ending whole ≡ [] = spread-rest said line p [] none tt in
+    let rows : AreRows options bytes p (line ∷ []) (row_at options whole p ∷ []) = (is, refl, ap after_ending last, all) in
+    let split : split_lines (drop p.index bytes) ≡ line ∷ [] = ap split_lines text ∙ split-line line none in
+    subst (λ (cs : List Cell). AreRows options bytes p (split_lines (drop p.index bytes)) (rows_at options (suc n) cs p)) (sym fed)
+    (subst (λ (l : List Row). AreRows options bytes p (split_lines (drop p.index bytes)) l) (sym (rows-last options n whole p last))
+    (subst (λ (l : List (List ℕ)). AreRows options bytes p l (row_at options whole p ∷ [])) (sym split) rows))
+
+-- a line with its ending, before others
+next-rows : (options : ParseOptions) (n : ℕ) (bytes : List ℕ) (said : Line) (line : List ℕ) (ending : Ending) (rest : List ℕ) (p q : Point) (cells more : List Cell) → options.constructs.code_indented ≡ false → length cells < 2 ^ 63 →
+    NoEnding line → EndsBefore ending rest → p.vs ≡ 0 → 1 ≤ p.column → drop p.index bytes ≡ line ++ ending_bytes ending ++ rest → drop q.index bytes ≡ rest → IsEnding bytes (past_text line p) q →
+    cells ≡ spread said line p ++ cell 10 q said ∷ more → AreRows options bytes q (split_lines (drop q.index bytes)) (rows_at options n more q) →
+    AreRows options bytes p (split_lines (drop p.index bytes)) (rows_at options (suc n) cells p)
+next-rows options n bytes said line ending rest p q cells more off short none before vs one text left is_ending fed below =
+    let stop = cell 10 q said ∷ more in
+    let whole = spread said line p ++ stop in
+    let small : length whole < 2 ^ 63 = let same = ap length fed in omega arith in
+    let is = is-row options bytes said line (ending_bytes ending ++ rest) p stop off small none refl one vs (text ∙ append_assoc line (ending_bytes ending) rest) in
+    let next : from_ending whole ≡ stop = spread-rest said line p stop none refl in
+    let ends : IsEnding bytes (line_end whole p) q = subst (λ (r : Point). IsEnding bytes r q) (sym is.end) is_ending in
+    let rows : AreRows options bytes p (line ∷ split_lines (drop q.index bytes)) (row_at options whole p ∷ rows_at options n more q) =
+    rows-onto options bytes line (row_at options whole p) p q (split_lines (drop q.index bytes)) (rows_at options n more q) is refl (ap after_ending next) ends below in
+    let split : split_lines (drop p.index bytes) ≡ line ∷ split_lines (drop q.index bytes) =
+    ap split_lines text ∙ split-next line ending rest none before ∙ ap (λ (l : List ℕ). line ∷ split_lines l) (sym left) in
+    subst (λ (cs : List Cell). AreRows options bytes p (split_lines (drop p.index bytes)) (rows_at options (suc n) cs p)) (sym fed)
+    (subst (λ (l : List Row). AreRows options bytes p (split_lines (drop p.index bytes)) l) (sym (rows-next options n whole p (cell 10 q said) more next))
+    (subst (λ (l : List (List ℕ)). AreRows options bytes p l (row_at options whole p ∷ rows_at options n more q)) (sym split) rows))
+
+-- The rows from the start of a line on are the lines that are left of the text.
+pub rows-are : (options : ParseOptions) (n : ℕ) (x : Setting) (p : Point) → options.constructs.code_indented ≡ false → HasLines x p → length (text_feed x p) < n →
+    AreRows options x.bytes p (split_lines (drop p.index x.bytes)) (rows_at options n (text_feed x p) p)
+rows-are options zero x p off h short = absurd (omega arith)
+rows-are options (suc n) x p off h short = go (first_line (drop p.index x.bytes)) (λ (q : Point) (k : HasLines x q) (fewer : length (text_feed x q) < n). rows-are options n x q off k fewer)
+  where
+    small : x.limit < 2 ^ 61
+    small = let limit = h.limit in let size = h.small in omega arith
+
+    few : length (text_feed x p) < 2 ^ 63
+    few = (text-follows x x.limit true small (omega arith) (λ e. refl)).short p
+
+    go : NoEnding (drop p.index x.bytes) ⊎ HasNext (drop p.index x.bytes) →
+        ((q : Point) → HasLines x q → length (text_feed x q) < n → AreRows options x.bytes q (split_lines (drop q.index x.bytes)) (rows_at options n (text_feed x q) q)) →
+        AreRows options x.bytes p (split_lines (drop p.index x.bytes)) (rows_at options (suc n) (text_feed x p) p)
+    go (inl none) more =
+        let line = drop p.index x.bytes in
+        let joined : drop p.index x.bytes ≡ line ++ [] = sym (append-nil line) in
+        let size = front-within x.bytes p.index line [] joined h.index in
+        let limit = h.limit in
+        let index = past_text-index line p in
+        let has : HasLine x line [] p = record { small = small; text = joined; no_ending = none; within = omega arith; whole = h.whole; column = h.column } in
+        last-rows options n x.bytes x.line line p (text_feed x p) off few none h.index h.whole h.column refl
+        (line-feed x line [] p has ∙ ap (λ (l : List Cell). spread x.line line p ++ l) (feed-none x (past_text line p) small (omega arith)))
+    go (inr h') more =
+        let line = h'.line in
+        let end = past_text line p in
+        let q = past_ending h'.ending end in
+        let limit = h.limit in
+        let index = past_text-index line p in
+        let joined : drop p.index x.bytes ≡ line ++ (ending_bytes h'.ending ++ h'.rest) = h'.joined ∙ append_assoc line (ending_bytes h'.ending) h'.rest in
+        let size = front-within x.bytes p.index line (ending_bytes h'.ending ++ h'.rest) joined h.index in
+        let parts = length-append (ending_bytes h'.ending) h'.rest in
+        let some = ending-some h'.ending in
+        let has : HasLine x line (ending_bytes h'.ending ++ h'.rest) p = record { small = small; text = joined; no_ending = h'.no_ending; within = omega arith; whole = h.whole; column = h.column } in
+        let behind : drop end.index x.bytes ≡ ending_bytes h'.ending ++ h'.rest = ap (λ (i : ℕ). drop i x.bytes) index ∙ drop-past x.bytes p.index line (ending_bytes h'.ending ++ h'.rest) joined in
+        let left : drop q.index x.bytes ≡ h'.rest = drop-past x.bytes end.index (ending_bytes h'.ending) h'.rest behind in
+        let stop : HasEnding x h'.ending h'.rest end = record { small = small; text = behind; before = h'.before; within = omega arith; begun = begun-none x q h.skips } in
+        let fed : text_feed x p ≡ spread x.line line p ++ cell 10 q x.line ∷ text_feed x q = line-feed x line (ending_bytes h'.ending ++ h'.rest) p has ∙ ap (λ (l : List Cell). spread x.line line p ++ l) (ending-feed x h'.ending h'.rest end stop) in
+        let long = ap length fed ∙ length-append (spread x.line line p) (cell 10 q x.line ∷ text_feed x q) in
+        let lines : HasLines x q = record { small = h.small; limit = h.limit; skips = h.skips; index = omega arith; whole = refl; column = omega arith } in
+        next-rows options n x.bytes x.line line h'.ending h'.rest p q (text_feed x p) (text_feed x q) off few h'.no_ending h'.before h.whole h.column h'.joined left
+        (is-ending x.bytes h'.ending h'.rest end behind h'.before) fed (more q lines (omega arith))
+
+-- The rows of a text are its lines.
+pub text-rows : (options : ParseOptions) (x : Setting) → options.constructs.code_indented ≡ false → x.skips ≡ [] → x.limit ≡ length x.bytes → length x.bytes < 2 ^ 61 →
+    AreRows options x.bytes first_point (split_lines x.bytes) (rows_at options (suc (length (text_feed x first_point))) (text_feed x first_point) first_point)
+text-rows options x off skips limit small = rows-are options (suc (length (text_feed x first_point))) x first_point off
+    (record { small = small; limit = limit; skips = skips; index = omega arith; whole = refl; column = omega arith }) (omega arith)
+
+-- So are those of a text that a new tokenizer reads to its end.
+pub fresh-rows : (options : ParseOptions) (bytes : List ℕ) → options.constructs.code_indented ≡ false → length bytes < 2 ^ 61 →
+    let feed = text_feed (reads_to (fresh bytes options first_point) (length bytes)).setting in
+    AreRows options bytes first_point (split_lines bytes) (rows_at options (suc (length (feed first_point))) (feed first_point) first_point)
+fresh-rows options bytes off small = text-rows options (reads_to (fresh bytes options first_point) (length bytes)).setting off refl refl small
