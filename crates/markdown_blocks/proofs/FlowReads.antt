@@ -1,5 +1,5 @@
 -- What flow has read of a text, by what pushing and flushing it do.
-use Rattle.std.proofs.Common.{◌≡◌, ◌≢◌, ◌⊎◌, inl, inr, ◌^◌, ◌<◌, ◌≤◌, ℕ, zero, suc, ◌&&◌, Bool, true, false, cond, nat_eq, nat_lt, nat_le, List, [], ◌∷◌, ◌++◌, length, take, Option, Some, None, refl, sym, ◌∙◌, ap, subst, arith}
+use Rattle.std.proofs.Common.{◌≡◌, ◌≢◌, ◌⊎◌, inl, inr, ◌^◌, ◌<◌, ℕ, zero, suc, ◌&&◌, Bool, true, false, nat_eq, nat_lt, nat_le, List, [], ◌∷◌, ◌++◌, length, take, Option, Some, None, refl, sym, ◌∙◌, ap, subst, arith}
 use Rattle.md_engine.specs.declared.configuration.ParseOptions.{ParseOptions}
 use Rattle.md_engine.specs.declared.event.Event.{Event}
 use Rattle.md_engine.specs.declared.event.Kind.{Kind}
@@ -14,9 +14,9 @@ use Rattle.md_engine.specs.declared.state.State.{State}
 use Rattle.md_engine.specs.declared.state.State.TheVariants.{Next}
 use Rattle.md_engine.specs.declared.tokenizer.Frame.{Frame}
 use Rattle.md_engine.specs.Found.{Found, nothing, with_found}
-use Rattle.md_engine.specs.Meaning.{Accepts, Cell, Here, comes_to, here}
+use Rattle.md_engine.specs.Meaning.{Accepts, comes_to, here}
 use Rattle.md_engine.specs.Place.{first_point}
-use Rattle.md_engine.specs.Run.{Flushes, Leaves, Resolution, Resolved, Runs, goes_back, left, plain, reading}
+use Rattle.md_engine.specs.Run.{Flushes, Resolution, Resolved, Runs, goes_back, left, plain, reading}
 use Rattle.md_engine.specs.Run.Resolved.{More, NoneYet}
 use Rattle.md_engine.specs.Run.Runs.{Stays, ThenCalls, ThenLeaves}
 use Rattle.md_engine.specs.Scheme.{stands}
@@ -27,16 +27,17 @@ use Rattle.md_content.specs.Chunks.{chunk_inside_code, content_link}
 use Rattle.md_content.specs.ChunkRule.{enter_link}
 use Rattle.md_leaves.specs.Blank as blank
 use Rattle.md_leaves.specs.Break as break
-use Rattle.md_seam.specs.Nested.{enter, exit}
 use Rattle.md_seam.specs.Spaces as spaces
 use Rattle.md_seam.specs.Spaces.{ends_line, is_current, sees_white}
 use Rattle.markdown_blocks.specs.Flow as flow
 use Rattle.markdown_blocks.specs.FlowReads.{FlowReads, NoText, ReadsContent, ReadsNone, text_cells, text_rows, text_setting}
+use Rattle.markdown_blocks.specs.Resolved.{resolved_as}
 use Rattle.markdown_blocks.specs.FlowRule.{flow_at, flow_behaves}
-use Rattle.markdown_blocks.specs.Rows.{Row, RowKind, TextRow, groups, groups_events, row_events, row_events_by, rows_events}
+use Rattle.markdown_blocks.specs.Rows.{BlankRow, BreakRow, Group, Row, RowKind, Single, TextRow, groups, groups_events, onto_groups, row_events, row_events_by, rows_events}
 use Rattle.markdown_blocks.specs.States.{FlowStep, flow_table_scheme, flow_went}
 use Rattle.markdown_blocks.proofs.FlowRows.{flow_at-rows}
 use Rattle.markdown_blocks.proofs.FlowRuns.{flow_outcome, flow_push}
+use Rattle.markdown_blocks.proofs.Settings.{NoLabels}
 
 -- Events without the end of content.
 
@@ -216,19 +217,13 @@ others-rows [] o = tt
 others-rows (row ∷ rows) o = (others-row row.kind row (others-front (row_events row) (rows_events rows) o), others-rows rows (others-behind (row_events row) (rows_events rows) o))
 
 -- what flow has read of a text, once all of it was pushed and flushed
-pub flow-reads : (is_content : ResolveName → Bool) (R : Resolution) (bytes : List ℕ) (options : ParseOptions) (end : State) (at : World) (found : Found) (new : World) → is_content r.Content ≡ true → length bytes < 2 ^ 61 →
+pub flow-reads : (is_content : ResolveName → Bool) (R : Resolution) (bytes : List ℕ) (options : ParseOptions) (end : State) (at : World) (found : Found) (new : World) → length bytes < 2 ^ 61 →
     Runs (FlowStep is_content) false (Next s.FlowStart) (reads_to (fresh bytes options first_point) (length bytes)) end at →
-    Flushes (FlowStep is_content) R end at true found new → FlowReads R bytes options found new
-flow-reads is_content R bytes options end at found new is small run f = go (runs-register is_content true end at is (runs-register is_content false (Next s.FlowStart) (reads_to w0 (length bytes)) is (inl (refl, tt)) end at run) f.end f.at f.runs)
+    Flushes (FlowStep is_content) R end at true found new → is_content r.Content ≡ true → FlowReads R bytes options found new
+flow-reads is_content R bytes options end at found new small run f is = go (runs-register is_content true end at is (runs-register is_content false (Next s.FlowStart) (reads_to w0 (length bytes)) is (inl (refl, tt)) end at run) f.end f.at f.runs)
   where
     w0 : World
     w0 = fresh bytes options first_point
-
-    x : Setting
-    x = text_setting bytes options
-
-    cells : List Cell
-    cells = text_cells bytes options
 
     begun : stands flow_table_scheme (reads_to (fresh bytes options first_point) (length bytes)) (Next s.FlowStart)
     begun = (refl, record { ok = λ s q t is up way. tt; nok = λ s q t is up. tt })
@@ -278,3 +273,41 @@ flow-reads is_content R bytes options end at found new is small run f = go (runs
       resolvers = refl;
       reads = inr (resolved-one R (record f.at { resolvers = [] }) f.at.resolvers found new f.resolved h);
     }
+
+-- the same for a tokenizer that is known to be fresh
+pub flow-reads-from : (is_content : ResolveName → Bool) (R : Resolution) (bytes : List ℕ) (options : ParseOptions) (start : World) (to : ℕ) (end : State) (at : World) (found : Found) (new : World) → start ≡ fresh bytes options first_point → to ≡ length bytes → length bytes < 2 ^ 61 →
+    Runs (FlowStep is_content) false (Next s.FlowStart) (reads_to start to) end at →
+    Flushes (FlowStep is_content) R end at true found new → is_content r.Content ≡ true → FlowReads R bytes options found new
+flow-reads-from is_content R bytes options start to end at found new same all small run f is =
+    let P : World → Type 0 = λ w. Runs (FlowStep is_content) false (Next s.FlowStart) (reads_to w (length bytes)) end at in
+    let Q : ℕ → Type 0 = λ n. Runs (FlowStep is_content) false (Next s.FlowStart) (reads_to start n) end at in
+    flow-reads is_content R bytes options end at found new small (subst P same (subst Q all run)) f is
+
+-- What is known behind the resolvers of flow.
+
+-- reading content keeps the setting
+pub reads-setting : (bytes : List ℕ) (options : ParseOptions) (found : Found) (new : World) → FlowReads resolved_as bytes options found new → new.setting ≡ text_setting bytes options
+reads-setting bytes options found new h = go h.reads
+  where
+    go : ReadsNone (text_rows options bytes) h.at found new ⊎ ReadsContent resolved_as h.at found new → new.setting ≡ text_setting bytes options
+    go (inl none) = ap (λ (w : World). w.setting) none.same ∙ h.setting
+    go (inr some) = ap (λ (w : World). w.setting) some.resolved.rest ∙ h.setting
+
+-- and finds no label
+pub reads-labels : (bytes : List ℕ) (options : ParseOptions) (found : Found) (new : World) → FlowReads resolved_as bytes options found new → NoLabels found
+reads-labels bytes options found new h = go h.reads
+  where
+    go : ReadsNone (text_rows options bytes) h.at found new ⊎ ReadsContent resolved_as h.at found new → NoLabels found
+    go (inl none) = rw none.found_is (record { definitions = refl; footnotes = refl })
+    go (inr some) = rw (some.found_is, some.resolved.found_is) (record { definitions = refl; footnotes = refl })
+
+-- where no line is text, each group is a line
+pub no-text-groups : (bytes : List ℕ) (rows : List Row) → NoText rows → groups_events bytes (groups rows) ≡ rows_events rows
+no-text-groups bytes [] h = refl
+no-text-groups bytes (row ∷ rows) h =
+    ap (groups_events bytes) (single row row.kind (groups rows) h.0) ∙ ap (λ (es : List Event). row_events row ++ es) (no-text-groups bytes rows h.1)
+  where
+    single : (row : Row) (k : RowKind) (gs : List Group) → k ≢ TextRow → onto_groups row k gs ≡ Single row ∷ gs
+    single row BlankRow gs h = refl
+    single row BreakRow gs h = refl
+    single row TextRow gs h = absurd (h refl)

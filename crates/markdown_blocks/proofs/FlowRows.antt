@@ -315,7 +315,7 @@ line-adds options m next adds cells h new rest e = go (is_blank (line_bytes cell
     by none k false b =
         let no = break-refused options cells h b in
         let text : content_of next cells (record h { scratch = no.scratch; flags = no.flags }) ≡ Accepts new rest =
-          ap (λ (x : Outcome). tried x (ended next n.LineEnding) (λ s g. content_of next cells (record h { scratch = s; flags = g }))) (sym no.is) ∙ k in
+        ap (λ (x : Outcome). tried x (ended next n.LineEnding) (λ s g. content_of next cells (record h { scratch = s; flags = g }))) (sym no.is) ∙ k in
         onto TextRow (kind-other options cells false none b)
         (took-adds options m n.LineEnding (ended next n.LineEnding) (ended-adds options m next adds n.LineEnding) Refuses _ p (from_ending cells) rest h new _ (chunk-took cells h no.scratch no.flags) text)
 
@@ -324,7 +324,7 @@ line-adds options m next adds cells h new rest e = go (is_blank (line_bytes cell
         (took-adds options m n.BlankLineEnding (blank_ended next) (blank_ended-adds options m next adds) _ _ p (from_ending cells) rest h new (blank_at cells h) (blank-took cells h k) e)
     go false k =
         let left : nonblank_of options next cells h ≡ Accepts new rest =
-          ap (λ (x : Outcome). tried x (blank_ended next) (λ s g. nonblank_of options next cells (record h { scratch = s; flags = g }))) (sym (blank-refused cells h k)) ∙ e in
+        ap (λ (x : Outcome). tried x (blank_ended next) (λ s g. nonblank_of options next cells (record h { scratch = s; flags = g }))) (sym (blank-refused cells h k)) ∙ e in
         by k left (is_break options cells) refl
 
 -- flow adds the events of the rows, for as many lines as are read
