@@ -10,3 +10,5 @@ pub mod FeedLines
 pub mod LineKinds
 pub mod RowLemmas
 pub mod RowsBetween
+pub mod FlowRows
+pub mod FlowReads

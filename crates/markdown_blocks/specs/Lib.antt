@@ -6,3 +6,4 @@ pub mod FlowRule
 pub mod Rows
 pub mod Sections
 pub mod Between
+pub mod FlowReads

@@ -1,7 +1,11 @@
 // From a text to events.
 
 ghost use Rattle.std.specs.Prelude.{IfOk};
+ghost use Rattle.md_engine.specs.Found.{found_in};
+ghost use Rattle.md_engine.specs.World.{world};
+ghost use Rattle.markdown_blocks.specs.FlowReads.{FlowReads};
 ghost use Rattle.markdown_blocks.specs.Parsed.{IsBuilt, IsParsed, IsSmall};
+ghost use Rattle.markdown_blocks.specs.Resolved.{resolved_as};
 
 use crate::construct::flow::FlowTable;
 use md_engine::configuration::ParseOptions;
@@ -9,6 +13,7 @@ use md_engine::event::{Content, Event, Point};
 use md_engine::message::Message;
 pub use md_engine::parse_state::ParseState;
 use md_engine::state::{Name as StateName, State};
+use md_engine::subtokenize::Subresult;
 use md_engine::table::{flush, push};
 use md_engine::tokenizer::Tokenizer;
 use md_seam::inline::{Chunk, Inline, PartKind};
@@ -53,6 +58,27 @@ impl<I: Inline> Reader for TextReader<'_, '_, I> {
     }
 }
 
+/// Reads the lines of a text by flow, and then its content.
+///
+/// An `Err` says that memory ran out.
+fn read_flow<'a>(
+    alloc: Global,
+    bytes: &'a [u8],
+    options: &'a ParseOptions,
+) -> Result<(Tokenizer<'a>, Subresult), Message>
+    requires { IsSmall bytes.now }
+    ensures { IfOk result (λ read. FlowReads resolved_as bytes.now options.now (found_in read.1) (world read.0)) }
+{
+    let mut tokenizer = Tokenizer::new(alloc, FIRST_POINT, bytes, options);
+    let start = State::Next(StateName::FlowStart);
+    let end = match push::<FlowTable>(&mut tokenizer, bytes.len(), start) {
+        State::Error => return Err(Message),
+        end => end,
+    };
+    let found = flush::<FlowTable>(&mut tokenizer, end, true)?;
+    Ok((tokenizer, found))
+}
+
 /// Reads a text: its events, and what else is known of it.
 ///
 /// The text has at most `usize::MAX / 8` bytes, and of the constructs breaks alone may be on. An `Err` says that memory ran
@@ -67,13 +93,7 @@ pub fn parse<'a>(
     ensures { IfOk result (λ parsed. IsParsed value.now options.now parsed.0.items parsed.1) }
 {
     let bytes = value.as_bytes();
-    let mut tokenizer = Tokenizer::new(alloc, FIRST_POINT, bytes, options);
-    let start = State::Next(StateName::FlowStart);
-    let end = match push::<FlowTable>(&mut tokenizer, bytes.len(), start) {
-        State::Error => return Err(Message),
-        end => end,
-    };
-    let found = flush::<FlowTable>(&mut tokenizer, end, true)?;
+    let (tokenizer, found) = read_flow(alloc, bytes, options)?;
     let state = ParseState {
         options,
         bytes,
