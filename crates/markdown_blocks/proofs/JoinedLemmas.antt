@@ -1,10 +1,8 @@
 -- Lines of text that follow one another, joined.
-use Rattle.std.proofs.Common.{◌≡◌, ℕ, zero, suc, Bool, true, false, cond, ◌&&◌, nat_eq, List, [], ◌∷◌, ◌++◌, refl, ap, sym, ◌∙◌, subst, append_assoc}
+use Rattle.std.proofs.Common.{◌≡◌, ℕ, zero, suc, Bool, true, false, cond, ◌&&◌, nat_eq, List, [], ◌∷◌, ◌++◌, refl, ap, sym, ◌∙◌, append_assoc}
 use Rattle.std.specs.Prelude.{Option, Some, None}
 use Rattle.md_engine.specs.declared.configuration.ParseOptions.{ParseOptions}
 use Rattle.md_engine.specs.declared.event.Event.{Event}
-use Rattle.md_engine.specs.declared.event.Kind.{Kind}
-use Rattle.md_engine.specs.declared.event.Kind.TheVariants.{Enter, Exit}
 use Rattle.md_engine.specs.declared.event.Name.{Name}
 use Rattle.md_engine.specs.declared.event.Name.TheVariants as n
 use Rattle.md_engine.specs.declared.event.Point.{Point}
@@ -12,13 +10,12 @@ use Rattle.md_engine.specs.Meaning.{Cell}
 use Rattle.md_content.specs.ChunkRule.{enter_link}
 use Rattle.md_content.specs.Chunks.{content_link}
 use Rattle.md_content.specs.Joined.{content_behind, goes_on, is_content, is_enter, is_exit, joined}
-use Rattle.md_leaves.specs.BlankRule.{blank_events}
 use Rattle.md_leaves.specs.BreakRule.{Apart, Marks, Run, White, runs}
 use Rattle.md_seam.specs.Ahead.{begins_white, from_ending, line_cells, line_end, white_end, white_rest}
 use Rattle.md_seam.specs.Nested.{enter, exit, pair}
 use Rattle.md_seam.specs.Spaces.{small_indent}
 use Rattle.md_seam.specs.Substituted.{is_prefix}
-use Rattle.markdown_blocks.specs.Rows.{BlankRow, BreakRow, Group, Lines, Row, RowKind, Single, TextRow, behind_row, break_inside, ending_events, first_cell, groups, inside_of, onto_groups, row_at, row_events, row_events_by, row_kind, rows_at, rows_events}
+use Rattle.markdown_blocks.specs.Rows.{BlankRow, BreakRow, Group, Lines, Row, RowKind, Single, TextRow, behind_row, ending_events, first_cell, groups, inside_of, onto_groups, row_events, row_events_by, row_kind, rows_at, rows_events}
 use Rattle.markdown_blocks.specs.Unread.{joined_groups}
 use Rattle.markdown_blocks.proofs.SubstitutedLemmas.{Unlinked}
 
@@ -86,7 +83,7 @@ rows_at-no_content options (suc size) cells p = (inside-no_content options cells
 
 -- Their events.
 
-ending-no_content : (name : Name) (row : Row) → is_content name ≡ false → NoContent (ending_events name row)
+pub ending-no_content : (name : Name) (row : Row) → is_content name ≡ false → NoContent (ending_events name row)
 ending-no_content name row h = go row.after
   where
     go : (after : Option Point) → NoContent (elim after [ None ↦ [] | Some q ↦ pair name row.end q ])

@@ -8,3 +8,4 @@ pub mod FlowEnds
 pub mod RowFacts
 pub mod SubstitutedLemmas
 pub mod JoinedLemmas
+pub mod GroupLemmas

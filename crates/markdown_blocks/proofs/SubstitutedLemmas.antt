@@ -1,5 +1,5 @@
 -- What stands in the places of parts, part by part.
-use Rattle.std.proofs.Common.{◌≡◌, ℕ, zero, suc, Bool, true, false, cond, List, [], ◌∷◌, ◌++◌, length, take, drop, refl, ap, sym, ◌∙◌, subst, append_assoc, arith}
+use Rattle.std.proofs.Common.{◌≡◌, ℕ, zero, suc, Bool, true, cond, List, [], ◌∷◌, ◌++◌, length, take, drop, refl, ap, sym, ◌∙◌, subst, append_assoc, arith}
 use Rattle.std.specs.Prelude.{Option, Some, None}
 use Rattle.std.specs.Option.{is_some}
 use Rattle.std.proofs.lemmas.List.{take-append-drop, take_all}
@@ -69,7 +69,7 @@ chunks-linked wants name link (chunk ∷ chunks) ys w h =
     ∙ ap (λ (l : List Chunk). chunk ∷ l) (chunks-linked wants name link chunks ys w h)
 
 -- what is left of a part stands in the places of its further chunks, however it is shared
-abbrev Rest : (Content → Bool) → Readings → List Event → List Event → List Event → Type 0
+abbrev pub Rest : (Content → Bool) → Readings → List Event → List Event → List Event → Type 0
 Rest wants reads left ys out = (rest over : List Event) × (is : out ≡ left ++ rest) × Substituted wants reads over 0 ys rest
 
 shares : (wants : Content → Bool) (reads : Readings) (name : Name) (link : Link) (chunks : List Chunk) (ys left : List Event) (end : ℕ) (out rest : List Event) → wants link.content ≡ true →
@@ -78,7 +78,7 @@ shares wants reads name link [] ys left end out rest w is s = (rest, drop (lengt
 shares wants reads name link (chunk ∷ chunks) ys left end out rest w is s =
     let k : ℕ = share (suc (length chunks)) left end in
     let one : (next : List Event) × (is : rest ≡ take (share (length chunks) (drop k left) chunk.after.index) (drop k left) ++ next)
-        × Substituted wants reads (drop (share (length chunks) (drop k left) chunk.after.index) (drop k left)) (length chunks) (linked name link chunks ++ ys) next =
+    × Substituted wants reads (drop (share (length chunks) (drop k left) chunk.after.index) (drop k left)) (length chunks) (linked name link chunks ++ ys) next =
     subst (SubstitutedBy wants reads (drop k left) (suc (length chunks)) (enter_link name chunk.first link) (exit name chunk.after) (linked name link chunks ++ ys) rest) (ap (λ (x : Bool). cond x (Some link.content) None) w) s in
     let more : Rest wants reads (drop k left) ys rest = shares wants reads name link chunks ys (drop k left) chunk.after.index rest one.0 w one.1 one.2 in (
       more.0,
