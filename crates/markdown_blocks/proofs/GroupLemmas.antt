@@ -1,6 +1,7 @@
 -- The events of the lines of a text, joined and read, are those of its blocks.
-use Rattle.std.proofs.Common.{◌≡◌, ℕ, ◌-◌, ◌≤◌, Bool, true, false, ◌&&◌, ◌||◌, List, [], ◌∷◌, ◌++◌, take, drop, slice_range, refl, ap, sym, ◌∙◌, subst, append_assoc, append-nil, true≢false, take-add, drop-drop, arith}
-use Rattle.std.specs.Prelude.{IsTrue, Option, Some, None}
+use Rattle.std.proofs.Common.{◌≡◌, ◌≢◌, ℕ, ◌-◌, ◌≤◌, Bool, true, ◌&&◌, List, [], ◌∷◌, ◌++◌, take, drop, slice_range, refl, ap, sym, ◌∙◌, subst, append_assoc, append-nil, take-add, drop-drop, arith}
+use Rattle.std.specs.Prelude.{◌==◌, IsTrue, Option, Some, None}
+use Rattle.std.specs.List.{list_all}
 use Rattle.std.proofs.lemmas.Bool.{and_from, eq-eqb}
 use Rattle.md_engine.specs.declared.configuration.ParseOptions.{ParseOptions}
 use Rattle.md_engine.specs.declared.event.Content.{Content}
@@ -93,6 +94,34 @@ groups-are options bytes p (line ∷ next ∷ lines) (row ∷ below ∷ rows) h 
     onto-are options bytes line row h.2 (groups (below ∷ rows)) h.0 h.3 h.4 k.0 (onto-first h.2 below below.kind (groups rows) (rows-first options bytes h.2 (next ∷ lines) below rows h.5))
     (groups-are options bytes h.2 (next ∷ lines) (below ∷ rows) h.5 k.1) row.kind refl
 
+-- a fact of each line
+abbrev pub EachRow : (Row → Type 0) → List Row → Type 0
+EachRow F [] = Unit {0}
+EachRow F (row ∷ rows) = F row × EachRow F rows
+
+-- of each line of groups
+abbrev EachGroup : (Row → Type 0) → List Group → Type 0
+EachGroup F [] = Unit {0}
+EachGroup F (Single row ∷ gs) = F row × EachGroup F gs
+EachGroup F (Lines row rows ∷ gs) = EachRow F (row ∷ rows) × EachGroup F gs
+
+onto-each : (F : Row → Type 0) (row : Row) (kind : RowKind) (gs : List Group) → F row → EachGroup F gs → EachGroup F (onto_groups row kind gs)
+onto-each F row BlankRow gs h k = (h, k)
+onto-each F row BreakRow gs h k = (h, k)
+onto-each F row TextRow [] h k = ((h, tt), tt)
+onto-each F row TextRow (Single first ∷ gs) h k = ((h, tt), k)
+onto-each F row TextRow (Lines first rows ∷ gs) h k = ((h, k.0), k.1)
+
+each-group : (F : Row → Type 0) (rows : List Row) → EachRow F rows → EachGroup F (groups rows)
+each-group F [] h = tt
+each-group F (row ∷ rows) h = onto-each F row row.kind (groups rows) h.0 (each-group F rows h.1)
+
+-- a fact of each paragraph, and one of each of its lines
+groups-both : (P : Row → List Row → Type 0) (F : Row → Type 0) (gs : List Group) → AreGroups P gs → EachGroup F gs → AreGroups (λ row rows. P row rows × EachRow F (row ∷ rows)) gs
+groups-both P F [] h k = tt
+groups-both P F (Single row ∷ gs) h k = (h.0, groups-both P F gs h.1 k.1)
+groups-both P F (Lines row rows ∷ gs) h k = ((h.0, k.0), h.1, groups-both P F gs h.2 k.1)
+
 -- each line of a text but the last has an ending
 pub rows-end : (options : ParseOptions) (bytes : List ℕ) (p : Point) (lines : List (List ℕ)) (rows : List Row) → AreRows options bytes p lines rows → EachEnds rows
 rows-end options bytes p lines [] h = tt
@@ -157,6 +186,12 @@ paragraph-lines options bytes row (next ∷ rows) h =
     (ap (λ (l : List ℕ). is_one_line (split_lines l) ends) (ap (λ (p : Point). slice_range bytes row.first.index p.index) (behind-is row h.3 h.4) ∙ line-text options bytes h.0 row h.3 h.1 h.5)
     ∙ one-next h.0 h.5.ending h.1.no_ending ends)
     (paragraph-lines options bytes next rows h.7)
+
+-- none of them ends within a tab
+pub paragraph-whole : (options : ParseOptions) (bytes : List ℕ) (row : Row) (rows : List Row) → IsParagraph options bytes row rows → list_all (λ (chunk : Chunk). chunk.after.vs == 0) (chunks_of row rows) ≡ true
+paragraph-whole options bytes row [] h = and_from (row.end.vs == 0) true (eq-eqb row.end.vs 0 h.1.end_whole) refl
+paragraph-whole options bytes row (next ∷ rows) h =
+    and_from ((behind_row row).vs == 0) (list_all (λ (chunk : Chunk). chunk.after.vs == 0) (chunks_of next rows)) (eq-eqb (behind_row row).vs 0 (ap (λ (p : Point). p.vs) (behind-is row h.3 h.4) ∙ h.5.whole)) (paragraph-whole options bytes next rows h.7)
 
 -- Reading.
 
@@ -250,59 +285,53 @@ text-read P bytes wants reads w unique (Lines row rows ∷ gs) are left out s =
 
 -- What the readers give.
 
--- a reader of content gives for each paragraph of a text its lines, whose text is not read yet
-abbrev pub ReadsContent : ParseOptions → List ℕ → Readings → Type 0
-ReadsContent options bytes reads =
-    (row : Row) (rows : List Row) → IsParagraph options bytes row rows → (answer : List Event) → reads content.Content (chunks_of row rows) answer → answer ≡ unread_paragraph row rows
+-- a reader of content gives for each paragraph of a text, of whose lines a fact holds, its lines whose text is not read yet
+abbrev pub ReadsContent : ParseOptions → List ℕ → (Row → Type 0) → Readings → Type 0
+ReadsContent options bytes F reads =
+    (row : Row) (rows : List Row) → IsParagraph options bytes row rows → EachRow F (row ∷ rows) → (answer : List Event) → reads content.Content (chunks_of row rows) answer → answer ≡ unread_paragraph row rows
 
--- a reader of text gives for chunks that are lines what the plain layer does
+-- a reader of text gives for chunks that are lines, none of which ends within a tab, what the plain layer does
 abbrev pub ReadsText : List ℕ → Readings → Type 0
 ReadsText bytes reads =
-    (chunks : List Chunk) (answer : List Event) → reads content.Text chunks answer → (end : Point) → IsTrue (are_lines bytes end chunks) → answer ≡ plain_events bytes (record { kind = Text; chunks = chunks })
+    (chunks : List Chunk) (answer : List Event) → reads content.Text chunks answer → (end : Point) → IsTrue (are_lines bytes end chunks) → IsTrue (list_all (λ (chunk : Chunk). chunk.after.vs == 0) chunks) →
+    answer ≡ plain_events bytes (record { kind = Text; chunks = chunks })
 
 -- The events of the lines of a text, joined, and read two times, are those of its blocks.
-pub groups-read : (options : ParseOptions) (bytes : List ℕ) (p : Point) (lines : List (List ℕ)) (rows : List Row) → AreRows options bytes p lines rows → EachNoContent rows →
-    (wants_content wants_text : Content → Bool) (reads_content reads_text : Readings) → wants_content content.Content ≡ true → wants_text content.Text ≡ true → ReadsContent options bytes reads_content → ReadsText bytes reads_text →
+pub groups-read : (options : ParseOptions) (bytes : List ℕ) (p : Point) (lines : List (List ℕ)) (rows : List Row) (F : Row → Type 0) → AreRows options bytes p lines rows → EachNoContent rows → EachRow F rows →
+    (wants_content wants_text : Content → Bool) (reads_content reads_text : Readings) → wants_content content.Content ≡ true → wants_text content.Text ≡ true → ReadsContent options bytes F reads_content → ReadsText bytes reads_text →
     (unread events : List Event) → Substituted wants_content reads_content [] 0 (joined (rows_events rows)) unread → Substituted wants_text reads_text [] 0 unread events → events ≡ groups_events bytes (groups rows)
-groups-read options bytes p lines rows are quiet wants_content wants_text reads_content reads_text wc wt rc rt unread events sc st =
-    let good : AreGroups (IsParagraph options bytes) (groups rows) = groups-are options bytes p lines rows are quiet in
+groups-read options bytes p lines rows F are quiet each wants_content wants_text reads_content reads_text wc wt rc rt unread events sc st =
+    let P : Row → List Row → Type 0 = λ row rows. IsParagraph options bytes row rows × EachRow F (row ∷ rows) in
+    let good : AreGroups P (groups rows) = groups-both (IsParagraph options bytes) F (groups rows) (groups-are options bytes p lines rows are quiet) (each-group F rows each) in
     let is : unread ≡ unread_groups (groups rows) =
-    content-read (IsParagraph options bytes) wants_content reads_content wc rc (groups rows) good [] unread
+    content-read P wants_content reads_content wc (λ row rows h. rc row rows h.0 h.1) (groups rows) good [] unread
     (subst (λ (l : List Event). Substituted wants_content reads_content [] 0 l unread) (joined-rows rows (rows-end options bytes p lines rows are) quiet) sc) in
-    text-read (IsParagraph options bytes) bytes wants_text reads_text wt (λ row rows h answer r. rt (chunks_of row rows) answer r (last_row row rows).end (paragraph-lines options bytes row rows h)) (groups rows) good [] events
+    text-read P bytes wants_text reads_text wt
+    (λ row rows h answer r. rt (chunks_of row rows) answer r (last_row row rows).end (paragraph-lines options bytes row rows h.0) (paragraph-whole options bytes row rows h.0)) (groups rows) good [] events
     (subst (λ (l : List Event). Substituted wants_text reads_text [] 0 l events) is st)
 
 -- No line is text.
 
-abbrev pub is_text : RowKind → Bool
-is_text TextRow = true
-is_text _ = false
+-- each line is blank or a break
+abbrev pub NoText : List Row → Type 0
+NoText [] = Unit {0}
+NoText (row ∷ rows) = (row.kind ≢ TextRow) × NoText rows
 
-abbrev pub has_text : List Row → Bool
-has_text [] = false
-has_text (row ∷ rows) = is_text row.kind || has_text rows
-
-or-no : (x y : Bool) → (x || y) ≡ false → (x ≡ false) × (y ≡ false)
-or-no true y h = absurd (true≢false h)
-or-no false y h = (refl, h)
-
-singles-are : (bytes : List ℕ) (rows : List Row) → EachNoContent rows → has_text rows ≡ false → Unlinked (rows_events rows) × (groups_events bytes (groups rows) ≡ rows_events rows)
+singles-are : (bytes : List ℕ) (rows : List Row) → EachNoContent rows → NoText rows → Unlinked (rows_events rows) × (groups_events bytes (groups rows) ≡ rows_events rows)
 singles-are bytes [] h k = (tt, refl)
-singles-are bytes (row ∷ rows) h k =
-    let parts : (is_text row.kind ≡ false) × (has_text rows ≡ false) = or-no (is_text row.kind) (has_text rows) k in
-    go (singles-are bytes rows h.1 parts.1) row.kind refl parts.0
+singles-are bytes (row ∷ rows) h k = go (singles-are bytes rows h.1 k.1) row.kind refl
   where
     single : Unlinked (rows_events rows) × (groups_events bytes (groups rows) ≡ rows_events rows) → NoContent (row_events row) → Unlinked (row_events row ++ rows_events rows) × (row_events row ++ groups_events bytes (groups rows) ≡ row_events row ++ rows_events rows)
     single same quiet = (unlinked-append (row_events row) (rows_events rows) (no_content-unlinked (row_events row) quiet) same.0, ap (λ (l : List Event). row_events row ++ l) same.1)
 
-    go : Unlinked (rows_events rows) × (groups_events bytes (groups rows) ≡ rows_events rows) → (kind : RowKind) → row.kind ≡ kind → is_text kind ≡ false →
+    go : Unlinked (rows_events rows) × (groups_events bytes (groups rows) ≡ rows_events rows) → (kind : RowKind) → row.kind ≡ kind →
         Unlinked (row_events row ++ rows_events rows) × (groups_events bytes (onto_groups row kind (groups rows)) ≡ row_events row ++ rows_events rows)
-    go same BlankRow e no_text = single same (events-no_content row BlankRow e (λ k. cc) h.0)
-    go same BreakRow e no_text = single same (events-no_content row BreakRow e (λ k. cc) h.0)
-    go same TextRow e no_text = absurd (true≢false no_text)
+    go same BlankRow e = single same (events-no_content row BlankRow e (λ k. cc) h.0)
+    go same BreakRow e = single same (events-no_content row BreakRow e (λ k. cc) h.0)
+    go same TextRow e = absurd (k.0 e)
 
 -- Where no line is text there is no content, and nothing to read.
-pub singles-read : (bytes : List ℕ) (rows : List Row) → EachNoContent rows → has_text rows ≡ false → (wants : Content → Bool) (reads : Readings) (events : List Event) →
+pub singles-read : (bytes : List ℕ) (rows : List Row) → EachNoContent rows → NoText rows → (wants : Content → Bool) (reads : Readings) (events : List Event) →
     Substituted wants reads [] 0 (rows_events rows) events → events ≡ groups_events bytes (groups rows)
 singles-read bytes rows quiet none wants reads events s =
     let are : Unlinked (rows_events rows) × (groups_events bytes (groups rows) ≡ rows_events rows) = singles-are bytes rows quiet none in
