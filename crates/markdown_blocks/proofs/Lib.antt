@@ -12,3 +12,6 @@ pub mod RowLemmas
 pub mod RowsBetween
 pub mod FlowRows
 pub mod FlowReads
+pub mod SubstitutedLemmas
+pub mod JoinedLemmas
+pub mod GroupLemmas

@@ -7,3 +7,4 @@ pub mod Rows
 pub mod Sections
 pub mod Between
 pub mod FlowReads
+pub mod Unread
