@@ -7,3 +7,4 @@ pub mod FlowRuns
 pub mod FlowEnds
 pub mod RowFacts
 pub mod SpelledRows
+pub mod NestedRows
