@@ -8,3 +8,4 @@ pub mod FlowEnds
 pub mod RowFacts
 pub mod SpelledRows
 pub mod NestedRows
+pub mod BetweenRows

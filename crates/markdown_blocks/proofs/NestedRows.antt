@@ -188,10 +188,10 @@ ending-order bytes p q is = go is.ending is.size
     go Both e = further 1 e
 
 -- behind a line stands the end of its ending
-behind-is : (row : Row) (q : Point) → row.after ≡ Some q → behind_row row ≡ q
+pub behind-is : (row : Row) (q : Point) → row.after ≡ Some q → behind_row row ≡ q
 behind-is row q e = ap (λ (after : Option Point). behind_row (record row { after = after })) e
 
-behind-none : (row : Row) → row.after ≡ None → behind_row row ≡ row.end
+pub behind-none : (row : Row) → row.after ≡ None → behind_row row ≡ row.end
 behind-none row e = ap (λ (after : Option Point). behind_row (record row { after = after })) e
 
 -- The groups of the lines of a text nest.
