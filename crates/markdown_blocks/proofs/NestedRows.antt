@@ -1,5 +1,5 @@
 -- The events of a text nest, where only breaks are on.
-use Rattle.std.proofs.Common.{◌≡◌, ℕ, suc, ◌+◌, ◌≤◌, Bool, true, false, cond, List, [], ◌∷◌, ◌++◌, length, refl, ap, sym, ◌∙◌, subst, append_assoc, arith}
+use Rattle.std.proofs.Common.{◌≡◌, ℕ, suc, ◌+◌, Bool, true, false, cond, List, [], ◌∷◌, ◌++◌, length, refl, ap, sym, ◌∙◌, subst, append_assoc, arith}
 use Rattle.std.specs.Prelude.{IsTrue, Option, Some, None}
 use Rattle.std.proofs.lemmas.Bool.Decides.{nat_tests}
 use Rattle.md_engine.specs.declared.configuration.ParseOptions.{ParseOptions}
@@ -86,7 +86,7 @@ around-forward name ending row inside events f within ends g = (
   at_or_before-refl row.first,
   subst (λ (l : List Event). Forward row.first (l ++ events)) (sym (append_assoc inside (exit name row.end ∷ []) (ending_events ending row)))
       (subst (Forward row.first) (sym (append_assoc inside (exit name row.end ∷ ending_events ending row) events))
-          (forward-append row.first inside (exit name row.end ∷ ending_events ending row ++ events) f (within, ending-forward ending row events ends g))),
+      (forward-append row.first inside (exit name row.end ∷ ending_events ending row ++ events) f (within, ending-forward ending row events ends g))),
 )
 
 -- Groups.

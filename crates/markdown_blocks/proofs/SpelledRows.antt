@@ -21,7 +21,7 @@ use Rattle.md_seam.specs.Tree.{Block, Blocks, Break, End, More, Paragraph}
 use Rattle.md_seam.proofs.BlocksLemmas.{read-break, read-paragraph}
 use Rattle.md_seam.proofs.SpelledLemmas.{Between, Quiet, QuietOrEnding, Roles, read-between, read-from, roles-append, text-inline, text_after}
 use Rattle.md_seam.proofs.TextsLemmas.{Both, EndsBefore, Ending, IsOfLines, LineFeed, NoEnding, Return, ending_bytes}
-use Rattle.markdown_blocks.specs.Rows.{BlankRow, BreakRow, Group, Lines, Row, RowKind, Single, TextRow, chunks_of, ending_events, group_events, groups, groups_events, last_row, line_kind, onto_groups, row_events_by}
+use Rattle.markdown_blocks.specs.Rows.{BlankRow, BreakRow, Group, Lines, Row, RowKind, Single, TextRow, chunks_of, ending_events, groups, groups_events, last_row, onto_groups, row_events_by}
 use Rattle.markdown_blocks.specs.Sections.{sections, with_open}
 use Rattle.markdown_blocks.proofs.RowFacts as f
 
