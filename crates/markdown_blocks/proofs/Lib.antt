@@ -15,3 +15,6 @@ pub mod FlowReads
 pub mod SubstitutedLemmas
 pub mod JoinedLemmas
 pub mod GroupLemmas
+pub mod SpelledRows
+pub mod NestedRows
+pub mod BetweenRows

@@ -1,0 +1,217 @@
+-- The events of a text nest, where only breaks are on.
+use Rattle.std.proofs.Common.{◌≡◌, ℕ, suc, ◌+◌, Bool, true, false, cond, List, [], ◌∷◌, ◌++◌, length, refl, ap, sym, ◌∙◌, subst, append_assoc, arith}
+use Rattle.std.specs.Prelude.{IsTrue, Option, Some, None}
+use Rattle.std.proofs.lemmas.Bool.Decides.{nat_tests}
+use Rattle.md_engine.specs.declared.configuration.ParseOptions.{ParseOptions}
+use Rattle.md_engine.specs.declared.event.Event.{Event}
+use Rattle.md_engine.specs.declared.event.Name.{Name}
+use Rattle.md_engine.specs.declared.event.Name.TheVariants as n
+use Rattle.md_engine.specs.declared.event.Point.{Point}
+use Rattle.md_seam.specs.declared.inline.Chunk.{Chunk}
+use Rattle.md_seam.specs.Inline.{line_end, pair_unless_empty, plain_chunk, plain_chunks, together}
+use Rattle.md_seam.specs.Nested.{Balanced, Forward, Nested, around, enter, exit, last_point, pair}
+use Rattle.md_seam.specs.Places.{at_or_before, first_point, same_place}
+use Rattle.md_seam.proofs.InlineLemmas.{end-before, end-behind}
+use Rattle.md_seam.proofs.NestedLemmas.{at_or_before-refl, at_or_before-trans, balanced-append, balanced-around, balanced-insert, balanced-none, forward-append, forward-from, forward-last}
+use Rattle.md_seam.proofs.TextsLemmas.{Both, Ending, LineFeed, Return, ending_bytes}
+use Rattle.markdown_blocks.specs.Rows.{BlankRow, BreakRow, Group, Lines, Row, RowKind, Single, TextRow, behind_row, chunks_of, ending_events, groups, groups_events, last_row, onto_groups, row_events_by}
+use Rattle.markdown_blocks.proofs.RowFacts.{AreRows, IsEnding, IsRow}
+
+-- Chunks.
+
+pair-balanced : (name : Name) (p q : Point) → Balanced (pair_unless_empty name p q)
+pair-balanced name p q = go (same_place p q)
+  where
+    go : (x : Bool) → Balanced (cond x [] (pair name p q))
+    go true = balanced-none
+    go false = record { matches = (tt, (refl, tt)); closed = refl }
+
+chunk-balanced : (bytes : List ℕ) (chunk : Chunk) → Balanced (plain_chunk bytes chunk)
+chunk-balanced bytes chunk =
+    let end : Point = line_end bytes chunk in
+    balanced-append (pair_unless_empty n.Data chunk.first end) (pair_unless_empty n.LineEnding end chunk.after) (pair-balanced n.Data chunk.first end) (pair-balanced n.LineEnding end chunk.after)
+
+-- the events of a chunk go from its first point forward, and no further than to its end
+chunk-forward : (bytes : List ℕ) (chunk : Chunk) → IsTrue (at_or_before chunk.first chunk.after) →
+    Forward chunk.first (plain_chunk bytes chunk) × IsTrue (at_or_before (last_point chunk.first (plain_chunk bytes chunk)) chunk.after)
+chunk-forward bytes chunk h = go chunk.first (line_end bytes chunk) chunk.after (end-behind bytes chunk) (end-before bytes chunk h) (same_place chunk.first (line_end bytes chunk)) (same_place (line_end bytes chunk) chunk.after)
+  where
+    go : (p q r : Point) → IsTrue (at_or_before p q) → IsTrue (at_or_before q r) → (x y : Bool) →
+        Forward p (cond x [] (pair n.Data p q) ++ cond y [] (pair n.LineEnding q r)) × IsTrue (at_or_before (last_point p (cond x [] (pair n.Data p q) ++ cond y [] (pair n.LineEnding q r))) r)
+    go p q r h k true true = (tt, at_or_before-trans p q r h k)
+    go p q r h k true false = ((h, (k, tt)), at_or_before-refl r)
+    go p q r h k false true = ((at_or_before-refl p, (h, tt)), k)
+    go p q r h k false false = ((at_or_before-refl p, (h, (at_or_before-refl q, (k, tt)))), at_or_before-refl r)
+
+-- Lines.
+
+-- What stands in a line, and its ending: the points never go back.
+pub record Ordered (row : Row) : Type 0 where
+  pub balanced : Balanced row.inside
+  pub forward : Forward row.first row.inside
+  pub within : IsTrue (at_or_before (last_point row.first row.inside) row.end)
+  pub ends : IsTrue (at_or_before row.end (behind_row row))
+
+-- the ends of a line, and of the line with its ending
+line-order : (row : Row) → Ordered row → IsTrue (at_or_before row.first row.end)
+line-order row o = at_or_before-trans row.first (last_point row.first row.inside) row.end (forward-last row.first row.inside o.forward) o.within
+
+ending-balanced : (name : Name) (row : Row) → Balanced (ending_events name row)
+ending-balanced name row = go row.after
+  where
+    go : (after : Option Point) → Balanced (ending_events name (record row { after = after }))
+    go None = balanced-none
+    go (Some q) = record { matches = (tt, (refl, tt)); closed = refl }
+
+-- an ending, and what follows behind it
+ending-forward : (name : Name) (row : Row) (events : List Event) → IsTrue (at_or_before row.end (behind_row row)) → Forward (behind_row row) events → Forward row.end (ending_events name row ++ events)
+ending-forward name row events = go row.after
+  where
+    go : (after : Option Point) → IsTrue (at_or_before row.end (behind_row (record row { after = after }))) → Forward (behind_row (record row { after = after })) events →
+        Forward row.end (ending_events name (record row { after = after }) ++ events)
+    go None h f = f
+    go (Some q) h f = (at_or_before-refl row.end, (h, f))
+
+-- events with an ending behind them, and what follows
+inside-forward : (name : Name) (row : Row) (p : Point) (inside events : List Event) → Forward p inside → IsTrue (at_or_before (last_point p inside) row.end) →
+    IsTrue (at_or_before row.end (behind_row row)) → Forward (behind_row row) events → Forward p ((inside ++ ending_events name row) ++ events)
+inside-forward name row p inside events f within ends g =
+    subst (Forward p) (sym (append_assoc inside (ending_events name row) events))
+    (forward-append p inside (ending_events name row ++ events) f (forward-from (last_point p inside) row.end (ending_events name row ++ events) within (ending-forward name row events ends g)))
+
+-- a block around events, its ending, and what follows
+around-forward : (name ending : Name) (row : Row) (inside events : List Event) → Forward row.first inside → IsTrue (at_or_before (last_point row.first inside) row.end) →
+    IsTrue (at_or_before row.end (behind_row row)) → Forward (behind_row row) events → Forward row.first ((around name row.first row.end inside ++ ending_events ending row) ++ events)
+around-forward name ending row inside events f within ends g = (
+  at_or_before-refl row.first,
+  subst (λ (l : List Event). Forward row.first (l ++ events)) (sym (append_assoc inside (exit name row.end ∷ []) (ending_events ending row)))
+      (subst (Forward row.first) (sym (append_assoc inside (exit name row.end ∷ ending_events ending row) events))
+      (forward-append row.first inside (exit name row.end ∷ ending_events ending row ++ events) f (within, ending-forward ending row events ends g))),
+)
+
+-- Groups.
+
+-- the events of groups nest, and go forward from a point
+pub record Nests (bytes : List ℕ) (p : Point) (gs : List Group) : Type 0 where
+  pub balanced : Balanced (groups_events bytes gs)
+  pub forward : Forward p (groups_events bytes gs)
+
+around-balanced : (name ending : Name) (p : Point) (row : Row) (inside events : List Event) → Balanced inside → Balanced events → Balanced ((around name p row.end inside ++ ending_events ending row) ++ events)
+around-balanced name ending p row inside events b c =
+    balanced-append (around name p row.end inside ++ ending_events ending row) events
+    (balanced-append (around name p row.end inside) (ending_events ending row) (balanced-around (enter name p) (exit name row.end) inside refl refl refl b) (ending-balanced ending row)) c
+
+-- A blank line.
+nests-blank : (bytes : List ℕ) (row : Row) (gs : List Group) → Ordered row → row.kind ≡ BlankRow → Nests bytes (behind_row row) gs → Nests bytes row.first (Single row ∷ gs)
+nests-blank bytes row gs o e nests = record {
+  balanced =
+      subst (λ (k : RowKind). Balanced (row_events_by k row ++ groups_events bytes gs)) (sym e)
+      (balanced-append (row.inside ++ ending_events n.BlankLineEnding row) (groups_events bytes gs) (balanced-append row.inside (ending_events n.BlankLineEnding row) o.balanced (ending-balanced n.BlankLineEnding row)) nests.balanced);
+  forward =
+      subst (λ (k : RowKind). Forward row.first (row_events_by k row ++ groups_events bytes gs)) (sym e)
+      (inside-forward n.BlankLineEnding row row.first row.inside (groups_events bytes gs) o.forward o.within o.ends nests.forward);
+}
+
+-- A break.
+nests-break : (bytes : List ℕ) (row : Row) (gs : List Group) → Ordered row → row.kind ≡ BreakRow → Nests bytes (behind_row row) gs → Nests bytes row.first (Single row ∷ gs)
+nests-break bytes row gs o e nests = record {
+  balanced =
+      subst (λ (k : RowKind). Balanced (row_events_by k row ++ groups_events bytes gs)) (sym e)
+      (around-balanced n.ThematicBreak n.LineEnding row.first row row.inside (groups_events bytes gs) o.balanced nests.balanced);
+  forward =
+      subst (λ (k : RowKind). Forward row.first (row_events_by k row ++ groups_events bytes gs)) (sym e)
+      (around-forward n.ThematicBreak n.LineEnding row row.inside (groups_events bytes gs) o.forward o.within o.ends nests.forward);
+}
+
+append-none : (es : List Event) → es ++ [] ≡ es
+append-none [] = refl
+append-none (e ∷ es) = ap (λ (l : List Event). e ∷ l) (append-none es)
+
+-- A line of text that is a paragraph.
+nests-first : (bytes : List ℕ) (row : Row) (gs : List Group) → Ordered row → Nests bytes (behind_row row) gs → Nests bytes row.first (Lines row [] ∷ gs)
+nests-first bytes row gs o nests =
+    let chunk : Chunk = record { first = row.first; after = row.end } in
+    let events : List Event = plain_chunk bytes chunk in
+    let none : events ++ [] ≡ events = append-none events in
+    let facts : Forward row.first events × IsTrue (at_or_before (last_point row.first events) row.end) = chunk-forward bytes chunk (line-order row o) in
+    record {
+      balanced = around-balanced n.Paragraph n.LineEnding row.first row (events ++ []) (groups_events bytes gs) (subst Balanced (sym none) (chunk-balanced bytes chunk)) nests.balanced;
+      forward =
+          around-forward n.Paragraph n.LineEnding row (events ++ []) (groups_events bytes gs) (subst (Forward row.first) (sym none) facts.0)
+          (subst (λ (l : List Event). IsTrue (at_or_before (last_point row.first l) row.end)) (sym none) facts.1) o.ends nests.forward;
+    }
+
+-- A line of text in front of a paragraph.
+nests-next : (bytes : List ℕ) (row next : Row) (rows : List Row) (gs : List Group) → Ordered row → Nests bytes (behind_row row) (Lines next rows ∷ gs) → Nests bytes row.first (Lines row (next ∷ rows) ∷ gs)
+nests-next bytes row next rows gs o nests =
+    let behind : Point = behind_row row in
+    let chunk : Chunk = record { first = row.first; after = behind } in
+    let events : List Event = plain_chunk bytes chunk in
+    let rest : List Event = together (plain_chunks bytes (chunks_of next rows)) in
+    let last : Row = last_row next rows in
+    let ending : List Event = ending_events n.LineEnding last in
+    let more : List Event = groups_events bytes gs in
+    let old : List Event = ((rest ++ exit n.Paragraph last.end ∷ []) ++ ending) ++ more in
+    let apart : (((events ++ rest) ++ exit n.Paragraph last.end ∷ []) ++ ending) ++ more ≡ events ++ old =
+    ap (λ (l : List Event). (l ++ ending) ++ more) (append_assoc events rest (exit n.Paragraph last.end ∷ []))
+    ∙ ap (λ (l : List Event). l ++ more) (append_assoc events (rest ++ exit n.Paragraph last.end ∷ []) ending)
+    ∙ append_assoc events ((rest ++ exit n.Paragraph last.end ∷ []) ++ ending) more in
+    let before : Balanced (enter n.Paragraph row.first ∷ old) = record { matches = nests.balanced.matches; closed = nests.balanced.closed } in
+    let facts : Forward row.first events × IsTrue (at_or_before (last_point row.first events) behind) = chunk-forward bytes chunk (at_or_before-trans row.first row.end behind (line-order row o) o.ends) in
+    record {
+      balanced = subst (λ (l : List Event). Balanced (enter n.Paragraph row.first ∷ l)) (sym apart) (balanced-insert (enter n.Paragraph row.first ∷ []) events old (chunk-balanced bytes chunk) before);
+      forward =
+          subst (λ (l : List Event). Forward row.first (enter n.Paragraph row.first ∷ l)) (sym apart) (
+            at_or_before-refl row.first,
+            forward-append row.first events old facts.0 (forward-from (last_point row.first events) next.first old (at_or_before-trans (last_point row.first events) behind next.first facts.1 nests.forward.0) nests.forward.1),
+          );
+    }
+
+-- a line in front of others
+nests-row : (bytes : List ℕ) (row : Row) (gs : List Group) → Ordered row → Nests bytes (behind_row row) gs → (kind : RowKind) → row.kind ≡ kind → Nests bytes row.first (onto_groups row kind gs)
+nests-row bytes row gs o nests BlankRow e = nests-blank bytes row gs o e nests
+nests-row bytes row gs o nests BreakRow e = nests-break bytes row gs o e nests
+nests-row bytes row [] o nests TextRow e = nests-first bytes row [] o nests
+nests-row bytes row (Single next ∷ gs) o nests TextRow e = nests-first bytes row (Single next ∷ gs) o nests
+nests-row bytes row (Lines next rows ∷ gs) o nests TextRow e = nests-next bytes row next rows gs o nests
+
+-- an ending has a byte at least
+ending-order : (bytes : List ℕ) (p q : Point) → IsEnding bytes p q → IsTrue (at_or_before p q)
+ending-order bytes p q is = go is.ending is.size
+  where
+    further : (size : ℕ) → q.index ≡ p.index + suc size → IsTrue (at_or_before p q)
+    further size e = grind (arith, nat_tests)
+
+    go : (ending : Ending) → q.index ≡ p.index + length (ending_bytes ending) → IsTrue (at_or_before p q)
+    go LineFeed e = further 0 e
+    go Return e = further 0 e
+    go Both e = further 1 e
+
+-- behind a line stands the end of its ending
+pub behind-is : (row : Row) (q : Point) → row.after ≡ Some q → behind_row row ≡ q
+behind-is row q e = ap (λ (after : Option Point). behind_row (record row { after = after })) e
+
+pub behind-none : (row : Row) → row.after ≡ None → behind_row row ≡ row.end
+behind-none row e = ap (λ (after : Option Point). behind_row (record row { after = after })) e
+
+-- The groups of the lines of a text nest.
+pub rows-nest : (options : ParseOptions) (bytes : List ℕ) (p : Point) (lines : List (List ℕ)) (rows : List Row) → AreRows options bytes p lines rows → Nests bytes p (groups rows)
+rows-nest options bytes p (line ∷ []) (row ∷ []) are =
+    let is : IsRow options bytes line row = are.0 in
+    let ends : IsTrue (at_or_before row.end (behind_row row)) = subst (λ (q : Point). IsTrue (at_or_before row.end q)) (sym (behind-none row are.2)) (at_or_before-refl row.end) in
+    subst (λ (q : Point). Nests bytes q (groups (row ∷ []))) are.1
+    (nests-row bytes row [] (record { balanced = is.balanced; forward = is.forward; within = is.within; ends = ends }) (record { balanced = balanced-none; forward = tt }) row.kind refl)
+rows-nest options bytes p (line ∷ next ∷ lines) (row ∷ below ∷ rows) are =
+    let is : IsRow options bytes line row = are.0 in
+    let behind : behind_row row ≡ are.2 = behind-is row are.2 are.3 in
+    let ends : IsTrue (at_or_before row.end (behind_row row)) = subst (λ (q : Point). IsTrue (at_or_before row.end q)) (sym behind) (ending-order bytes row.end are.2 are.4) in
+    subst (λ (q : Point). Nests bytes q (groups (row ∷ below ∷ rows))) are.1
+    (nests-row bytes row (groups (below ∷ rows)) (record { balanced = is.balanced; forward = is.forward; within = is.within; ends = ends })
+    (subst (λ (q : Point). Nests bytes q (groups (below ∷ rows))) (sym behind) (rows-nest options bytes are.2 (next ∷ lines) (below ∷ rows) are.5)) row.kind refl)
+rows-nest options bytes p lines rows are = absurd are
+
+-- The events of a text nest.
+pub nested-rows : (options : ParseOptions) (bytes : List ℕ) (lines : List (List ℕ)) (rows : List Row) → AreRows options bytes first_point lines rows → Nested (groups_events bytes (groups rows))
+nested-rows options bytes lines rows are =
+    let nests : Nests bytes first_point (groups rows) = rows-nest options bytes first_point lines rows are in
+    record { balanced = nests.balanced; forward = nests.forward }
