@@ -6,3 +6,4 @@ pub mod FlowMeans
 pub mod FlowRuns
 pub mod FlowEnds
 pub mod RowFacts
+pub mod TreeSections
