@@ -18,3 +18,4 @@ pub mod GroupLemmas
 pub mod SpelledRows
 pub mod NestedRows
 pub mod BetweenRows
+pub mod TreeSections

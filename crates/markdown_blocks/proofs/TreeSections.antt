@@ -1,0 +1,315 @@
+-- The tree of a text where only breaks are on, line by line.
+use Rattle.std.proofs.Common.{◌≡◌, ℕ, Bool, true, false, cond, not, ◌==◌, ◌&&◌, ◌||◌, List, [], ◌∷◌, ◌++◌, map, drop, refl, ap, sym, ◌∙◌, subst, inl, inr, ◌⊎◌}
+use Rattle.std.specs.Prelude.{Option, Some, None}
+use Rattle.std.specs.List.{onto_first}
+use Rattle.std.proofs.lemmas.List.{map-append}
+use Rattle.std.proofs.lemmas.List.Sums.{take_while-cons}
+use Rattle.md_engine.specs.declared.configuration.ParseOptions.{ParseOptions}
+use Rattle.md_seam.specs.Containers.{opens, opens_footnote, opens_item, opens_quote}
+use Rattle.md_seam.specs.Grouped.{grouped}
+use Rattle.md_seam.specs.Leaves.{Against, Came, Finished, NoText, Text, break_at, code_at, fence_at, fence_from, heading_at, html_at, is_fence_marker, is_rule, starts, table_at, underline_depth, with_line}
+use Rattle.md_seam.specs.Lines.{begins_with, ends_line, full_lines_of, is_ending, lines_of, without_ending}
+use Rattle.md_seam.specs.Meaning.{tree, with_frontmatter}
+use Rattle.md_seam.specs.Preamble.{Preamble, front_of, has_mark, preamble, preamble_by, rest_at, rests_at}
+use Rattle.md_seam.specs.Rest.{Rest, has_small_indent, indent, is_blank, trim_start}
+use Rattle.md_seam.specs.State.{At, Kept, Leaf, NoLeaf, OpenParagraph, Path, Spot, closed, kept, shut_paragraph, texts, then_block, then_leaf, then_paragraph}
+use Rattle.md_seam.specs.Step.{all_continued, all_continued_by, fresh_by, fresh_line, is_concrete, is_open_text, leaf_line, spot_of, step, steps, text_by, text_line}
+use Rattle.md_seam.specs.Texts.{split_lines}
+use Rattle.md_seam.specs.Tree.{Block, Blocks, Break, End, More, Paragraph}
+use Rattle.markdown_blocks.specs.Parsed.{IsBuilt}
+use Rattle.markdown_blocks.specs.Rows.{BlankRow, BreakRow, RowKind, TextRow, line_kind}
+use Rattle.markdown_blocks.specs.Sections.{sections, with_open}
+
+-- What is off starts nothing.
+
+code-off : (options : ParseOptions) (against : Against) (r : Rest) → options.constructs.code_indented ≡ false → code_at options against r ≡ None
+unfolding code_at
+code-off options against r off = rw off refl
+
+no_fence : (options : ParseOptions) (m : ℕ) → options.constructs.code_fenced ≡ false → options.constructs.math_flow ≡ false → is_fence_marker options m ≡ false
+no_fence options m off none = go (m == 36)
+  where
+    go : (x : Bool) → cond x options.constructs.math_flow (options.constructs.code_fenced && ((m == 96) || (m == 126))) ≡ false
+    go true = none
+    go false = rw off refl
+
+no_fence-from : (options : ParseOptions) (columns : ℕ) (bytes : List ℕ) → options.constructs.code_fenced ≡ false → options.constructs.math_flow ≡ false → fence_from options columns bytes ≡ None
+no_fence-from options columns [] off none = refl
+no_fence-from options columns (m ∷ bytes) off none = rw (no_fence options m off none) refl
+
+fence-off : (options : ParseOptions) (r : Rest) → options.constructs.code_fenced ≡ false → options.constructs.math_flow ≡ false → fence_at options r ≡ None
+unfolding fence_at
+fence-off options r off none = go (has_small_indent options r)
+  where
+    go : (x : Bool) → cond x (fence_from options (indent r) (trim_start r.bytes)) None ≡ None
+    go true = no_fence-from options (indent r) (trim_start r.bytes) off none
+    go false = refl
+
+html-off : (options : ParseOptions) (against : Against) (r : Rest) → options.constructs.html_flow ≡ false → html_at options against r ≡ None
+unfolding html_at
+html-off options against r off = rw off refl
+
+heading-off : (options : ParseOptions) (r : Rest) → options.constructs.heading_atx ≡ false → heading_at options r ≡ None
+unfolding heading_at
+heading-off options r off = rw off refl
+
+underline-off : (options : ParseOptions) (r : Rest) → options.constructs.heading_setext ≡ false → underline_depth options r ≡ None
+unfolding underline_depth
+underline-off options r off = rw off refl
+
+table-off : (options : ParseOptions) (bs : Blocks) (lines : List Kept) (r : Rest) → options.constructs.gfm_table ≡ false → table_at options bs lines r ≡ None
+unfolding table_at
+table-off options bs lines r off = rw off refl
+
+no_container : (options : ParseOptions) (interrupting : Bool) (r : Rest) → IsBuilt options → opens options interrupting r ≡ None
+unfolding opens_quote opens_item opens_footnote
+no_container options interrupting r built = rw (built.block_quote, built.list_item, built.gfm_footnote_definition) refl
+
+-- a break, if this is one
+abbrev break_if : Bool → Option Came
+break_if x = cond x (Some (Finished Break)) None
+
+-- whether a line is one
+abbrev breaks : ParseOptions → List ℕ → Bool
+breaks options line = options.constructs.thematic_break && is_rule (trim_start line)
+
+-- however far it is indented
+break-found : (options : ParseOptions) (r : Rest) → options.constructs.code_indented ≡ false → break_at options r ≡ break_if (breaks options r.bytes)
+unfolding break_at
+break-found options r off = rw off (go options.constructs.thematic_break)
+  where
+    go : (x : Bool) → break_if (x && true && is_rule (trim_start r.bytes)) ≡ break_if (x && is_rule (trim_start r.bytes))
+    go true = refl
+    go false = refl
+
+-- nothing but a break starts
+starts-break : (options : ParseOptions) (against : Against) (r : Rest) → IsBuilt options → starts options against r ≡ break_if (breaks options r.bytes)
+unfolding starts
+starts-break options against r built = rw (code-off options against r built.code_indented, fence-off options r built.code_fenced built.math_flow, html-off options against r built.html_flow, heading-off options r built.heading_atx) (break-found options r built.code_indented)
+
+-- Lines, one after another.
+
+-- what is open where a paragraph has these lines
+abbrev leaf_of : List Kept → Leaf
+leaf_of [] = NoLeaf
+leaf_of (k ∷ ks) = OpenParagraph (k ∷ ks)
+
+abbrev spot_with : Blocks → List Kept → Spot
+spot_with bs held = record { here = bs; leaf = leaf_of held }
+
+-- blocks behind others
+abbrev then_blocks : Blocks → Blocks → Blocks
+then_blocks End cs = cs
+then_blocks (More b bs) cs = More b (then_blocks bs cs)
+
+-- with a paragraph of these lines, if there are any
+abbrev then_lines : Blocks → List (List ℕ) → Blocks
+then_lines bs [] = bs
+then_lines bs (line ∷ lines) = then_block bs (Paragraph (line ∷ lines))
+
+-- what is open behind a line of this kind
+abbrev spot_by : Blocks → List Kept → Rest → RowKind → Spot
+spot_by bs held r BlankRow = spot_of (then_lines bs (texts held))
+spot_by bs held r BreakRow = spot_of (then_block (then_lines bs (texts held)) Break)
+spot_by bs held r TextRow = with_line bs held r
+
+shut-lines : (options : ParseOptions) (bs : Blocks) (lines : List (List ℕ)) → options.constructs.definition ≡ false → shut_paragraph options bs lines ≡ then_lines bs lines
+unfolding shut_paragraph
+shut-lines options bs lines off = rw off (go lines)
+  where
+    go : (ls : List (List ℕ)) → then_paragraph bs ls ≡ then_lines bs ls
+    go [] = refl
+    go (l ∷ ls) = refl
+
+shut-leaf : (options : ParseOptions) (bs : Blocks) (held : List Kept) → options.constructs.definition ≡ false → then_leaf options bs (leaf_of held) ≡ then_lines bs (texts held)
+shut-leaf options bs [] off = refl
+shut-leaf options bs (k ∷ ks) off = shut-lines options bs (texts (k ∷ ks)) off
+
+-- a line where nothing is open
+fresh-found : (options : ParseOptions) (bs : Blocks) (r : Rest) → IsBuilt options → fresh_line options bs r ≡ spot_by bs [] r (line_kind options r.bytes)
+unfolding fresh_line
+fresh-found options bs r built = rw (starts-break options NoText r built) (go (is_blank r.bytes) (breaks options r.bytes))
+  where
+    go : (x y : Bool) → cond x (spot_of bs) (fresh_by bs r (break_if y)) ≡ spot_by bs [] r (cond x BlankRow (cond y BreakRow TextRow))
+    go true y = refl
+    go false true = refl
+    go false false = refl
+
+-- a line where a paragraph is open
+text-found : (options : ParseOptions) (bs : Blocks) (lines : List Kept) (k : Kept) (r : Rest) → IsBuilt options → text_line options bs (k ∷ lines) r ≡ spot_by bs (k ∷ lines) r (line_kind options r.bytes)
+unfolding text_line
+text-found options bs lines k r built =
+    rw (underline-off options r built.heading_setext, starts-break options Text r built, shut-leaf options bs (k ∷ lines) built.definition) (go (is_blank r.bytes) (breaks options r.bytes))
+  where
+    go : (x y : Bool) → cond x (spot_of (then_lines bs (texts (k ∷ lines)))) (text_by options bs (k ∷ lines) r (break_if y)) ≡ spot_by bs (k ∷ lines) r (cond x BlankRow (cond y BreakRow TextRow))
+    go true y = refl
+    go false true = ap (λ (x : Blocks). spot_of (then_block x Break)) (shut-leaf options bs (k ∷ lines) built.definition)
+    go false false = rw (table-off options bs (k ∷ lines) r built.gfm_table) refl
+
+leaf-found : (options : ParseOptions) (bs : Blocks) (held : List Kept) (r : Rest) → IsBuilt options → leaf_line options (spot_with bs held) r ≡ spot_by bs held r (line_kind options r.bytes)
+leaf-found options bs [] r built = fresh-found options bs r built
+leaf-found options bs (k ∷ ks) r built = text-found options bs ks k r built
+
+-- no container opens
+step-found : (options : ParseOptions) (bs : Blocks) (held : List Kept) (r : Rest) → IsBuilt options → step options (At (spot_with bs held)) r ≡ At (spot_by bs held r (line_kind options r.bytes))
+unfolding all_continued
+step-found options bs held r built = ap (all_continued_by options (spot_with bs held) r) (go held) ∙ ap At (leaf-found options bs held r built)
+  where
+    go : (ks : List Kept) → cond (is_concrete (leaf_of ks)) None (opens options (is_open_text (leaf_of ks)) r) ≡ None
+    go [] = no_container options false r built
+    go (k ∷ ks) = no_container options true r built
+
+-- the blocks of lines, the first of this kind
+abbrev sections_by : ParseOptions → List (List ℕ) → List ℕ → List (List ℕ) → RowKind → Blocks
+sections_by options held line lines BlankRow = with_open held (sections options [] lines)
+sections_by options held line lines BreakRow = with_open held (More Break (sections options [] lines))
+sections_by options held line lines TextRow = sections options (held ++ trim_start line ∷ []) lines
+
+then_block-blocks : (bs : Blocks) (b : Block) (cs : Blocks) → then_blocks (then_block bs b) cs ≡ then_blocks bs (More b cs)
+then_block-blocks End b cs = refl
+then_block-blocks (More a bs) b cs = ap (More a) (then_block-blocks bs b cs)
+
+then_lines-blocks : (bs : Blocks) (lines : List (List ℕ)) (cs : Blocks) → then_blocks (then_lines bs lines) cs ≡ then_blocks bs (with_open lines cs)
+then_lines-blocks bs [] cs = refl
+then_lines-blocks bs (line ∷ lines) cs = then_block-blocks bs (Paragraph (line ∷ lines)) cs
+
+then_blocks-end : (bs : Blocks) → then_blocks bs End ≡ bs
+then_blocks-end End = refl
+then_blocks-end (More b bs) = ap (More b) (then_blocks-end bs)
+
+leaf_of-snoc : (ks : List Kept) (k : Kept) → leaf_of (ks ++ k ∷ []) ≡ OpenParagraph (ks ++ k ∷ [])
+leaf_of-snoc [] k = refl
+leaf_of-snoc (j ∷ ks) k = refl
+
+-- the finished blocks, and behind them those of the lines
+steps-sections : (options : ParseOptions) (lines : List (List ℕ)) (bs : Blocks) (held : List Kept) → IsBuilt options →
+    closed options (steps options (At (spot_with bs held)) (map (rest_at 0) lines)) ≡ then_blocks bs (sections options (texts held) lines)
+steps-sections options [] bs held built =
+    shut-leaf options bs held built.definition
+    ∙ sym (then_blocks-end (then_lines bs (texts held)))
+    ∙ then_lines-blocks bs (texts held) End
+steps-sections options (line ∷ lines) bs held built =
+    ap (λ (p : Path). closed options (steps options p (map (rest_at 0) lines))) (step-found options bs held (rest_at 0 line) built)
+    ∙ go (λ (cs : Blocks) (ks : List Kept). steps-sections options lines cs ks built) (line_kind options line)
+  where
+    go : ((cs : Blocks) (ks : List Kept) → closed options (steps options (At (spot_with cs ks)) (map (rest_at 0) lines)) ≡ then_blocks cs (sections options (texts ks) lines)) →
+        (kind : RowKind) → closed options (steps options (At (spot_by bs held (rest_at 0 line) kind)) (map (rest_at 0) lines)) ≡ then_blocks bs (sections_by options (texts held) line lines kind)
+    go further BlankRow =
+        further (then_lines bs (texts held)) []
+        ∙ then_lines-blocks bs (texts held) (sections options [] lines)
+    go further BreakRow =
+        further (then_block (then_lines bs (texts held)) Break) []
+        ∙ then_block-blocks (then_lines bs (texts held)) Break (sections options [] lines)
+        ∙ then_lines-blocks bs (texts held) (More Break (sections options [] lines))
+    go further TextRow =
+        ap (λ (x : Leaf). closed options (steps options (At (record { here = bs; leaf = x })) (map (rest_at 0) lines))) (sym (leaf_of-snoc held (kept (rest_at 0 line))))
+        ∙ further bs (held ++ kept (rest_at 0 line) ∷ [])
+        ∙ ap (λ (x : List (List ℕ)). then_blocks bs (sections options x lines)) (map-append (λ (k : Kept). k.text) held (kept (rest_at 0 line) ∷ []))
+
+-- Breaks and paragraphs make no list.
+
+grouped-open : (lines : List (List ℕ)) (bs cs : Blocks) → grouped bs ≡ cs → grouped (with_open lines bs) ≡ with_open lines cs
+grouped-open [] bs cs e = e
+grouped-open (line ∷ lines) bs cs e = ap (More (Paragraph (line ∷ lines))) e
+
+grouped-sections : (options : ParseOptions) (lines held : List (List ℕ)) → grouped (sections options held lines) ≡ sections options held lines
+grouped-sections options [] held = grouped-open held End End refl
+grouped-sections options (line ∷ lines) held = go (λ (ls : List (List ℕ)). grouped-sections options lines ls) (line_kind options line)
+  where
+    go : ((ls : List (List ℕ)) → grouped (sections options ls lines) ≡ sections options ls lines) → (kind : RowKind) → grouped (sections_by options held line lines kind) ≡ sections_by options held line lines kind
+    go further BlankRow = grouped-open held _ _ (further [])
+    go further BreakRow = grouped-open held _ _ (ap (More Break) (further []))
+    go further TextRow = further (held ++ trim_start line ∷ [])
+
+-- The lines that a text is split into.
+
+-- an empty line at the end adds nothing
+sections-empty : (options : ParseOptions) (lines held : List (List ℕ)) → sections options held (lines ++ [] ∷ []) ≡ sections options held lines
+sections-empty options [] held = refl
+sections-empty options (line ∷ lines) held = go (λ (ls : List (List ℕ)). sections-empty options lines ls) (line_kind options line)
+  where
+    go : ((ls : List (List ℕ)) → sections options ls (lines ++ [] ∷ []) ≡ sections options ls lines) → (kind : RowKind) → sections_by options held line (lines ++ [] ∷ []) kind ≡ sections_by options held line lines kind
+    go further BlankRow = ap (with_open held) (further [])
+    go further BreakRow = ap (λ (bs : Blocks). with_open held (More Break bs)) (further [])
+    go further TextRow = further (held ++ trim_start line ∷ [])
+
+-- these lines, or these and an empty one
+abbrev IsOrEmpty : List (List ℕ) → List (List ℕ) → Type 0
+IsOrEmpty split lines = (split ≡ lines) ⊎ (split ≡ lines ++ [] ∷ [])
+
+or_empty-line : (line : List ℕ) (split lines : List (List ℕ)) → IsOrEmpty split lines → IsOrEmpty (line ∷ split) (line ∷ lines)
+or_empty-line line split lines (inl e) = inl (ap (λ (x : List (List ℕ)). line ∷ x) e)
+or_empty-line line split lines (inr e) = inr (ap (λ (x : List (List ℕ)). line ∷ x) e)
+
+or_empty-byte : (b : ℕ) (split lines : List (List ℕ)) → IsOrEmpty split lines → IsOrEmpty (onto_first b split) (onto_first b lines)
+or_empty-byte b split lines (inl e) = inl (ap (onto_first b) e)
+or_empty-byte b split [] (inr e) = inl (ap (onto_first b) e)
+or_empty-byte b split (line ∷ lines) (inr e) = inr (ap (onto_first b) e)
+
+without_ending-cons : (b : ℕ) (line : List ℕ) → is_ending b ≡ false → without_ending (b ∷ line) ≡ b ∷ without_ending line
+without_ending-cons b line e = take_while-cons (λ (c : ℕ). not (is_ending c)) b line ∙ ap (λ (t : Bool). cond (not t) (b ∷ without_ending line) []) e
+
+without_ending-end : (b : ℕ) (line : List ℕ) → is_ending b ≡ true → without_ending (b ∷ line) ≡ []
+without_ending-end b line e = take_while-cons (λ (c : ℕ). not (is_ending c)) b line ∙ ap (λ (t : Bool). cond (not t) (b ∷ without_ending line) []) e
+
+-- a byte that ends no line stays in its line
+without_ending-onto : (b : ℕ) (ls : List (List ℕ)) → is_ending b ≡ false → map without_ending (onto_first b ls) ≡ onto_first b (map without_ending ls)
+without_ending-onto b [] e = ap (λ (l : List ℕ). l ∷ []) (without_ending-cons b [] e)
+without_ending-onto b (l ∷ ls) e = ap (λ (k : List ℕ). k ∷ map without_ending ls) (without_ending-cons b l e)
+
+-- a CR goes with the LF behind it
+return-feed : (b : ℕ) (bytes : List ℕ) → is_ending b ≡ true → begins_with 10 bytes ≡ true → map without_ending (onto_first b (full_lines_of bytes)) ≡ lines_of bytes
+return-feed b [] e h = absurd (cc)
+return-feed b (c ∷ bytes) e h = rw h (ap (λ (l : List ℕ). l ∷ lines_of bytes) (without_ending-end b (c ∷ []) e ∙ sym (without_ending-end c [] (ap (λ (t : Bool). t || (c == 13)) h))))
+
+-- an ending is the last of one, or a CR before its LF
+ending-cases : (x y z : Bool) → (x || y) ≡ true → (x || (y && not z)) ≡ false → z ≡ true
+ending-cases true y z h k = cc
+ending-cases false true true h k = refl
+ending-cases false true false h k = sym k
+ending-cases false false z h k = cc
+
+-- what ends a line is an ending
+ends-ending : (x y z : Bool) → (x || (y && z)) ≡ true → (x || y) ≡ true
+ends-ending true y z h = refl
+ends-ending false true z h = refl
+ends-ending false false z h = h
+
+split-or_empty : (text : List ℕ) → IsOrEmpty (split_lines text) (lines_of text)
+split-or_empty [] = inr refl
+split-or_empty (b ∷ bs) = go (ends_line b bs) (is_ending b) refl refl (split-or_empty bs)
+  where
+    go : (x y : Bool) → ends_line b bs ≡ x → is_ending b ≡ y → IsOrEmpty (split_lines bs) (lines_of bs) →
+        IsOrEmpty (cond x ([] ∷ split_lines bs) (cond y (split_lines bs) (onto_first b (split_lines bs)))) (map without_ending (cond x ((b ∷ []) ∷ full_lines_of bs) (onto_first b (full_lines_of bs))))
+    go true y e f s = subst (λ (l : List ℕ). IsOrEmpty ([] ∷ split_lines bs) (l ∷ lines_of bs)) (sym (without_ending-end b [] (ends-ending (b == 10) (b == 13) (not (begins_with 10 bs)) e))) (or_empty-line [] (split_lines bs) (lines_of bs) s)
+    go false true e f s = subst (IsOrEmpty (split_lines bs)) (sym (return-feed b bs f (ending-cases (b == 10) (b == 13) (begins_with 10 bs) f e))) s
+    go false false e f s = subst (IsOrEmpty (onto_first b (split_lines bs))) (sym (without_ending-onto b (full_lines_of bs) f)) (or_empty-byte b (split_lines bs) (lines_of bs) s)
+
+sections-split : (options : ParseOptions) (split lines : List (List ℕ)) → IsOrEmpty split lines → sections options [] split ≡ sections options [] lines
+sections-split options split lines (inl e) = ap (sections options []) e
+sections-split options split lines (inr e) = ap (sections options []) e ∙ sections-empty options lines []
+
+-- The tree of a text.
+
+front-off : (options : ParseOptions) (lines : List (List ℕ)) → options.constructs.frontmatter ≡ false → front_of options lines ≡ None
+unfolding front_of
+front-off options [] off = refl
+front-off options (line ∷ lines) off = rw off refl
+
+rests_at-zero : (ls : List (List ℕ)) → rests_at 0 ls ≡ map (rest_at 0) ls
+rests_at-zero [] = refl
+rests_at-zero (l ∷ ls) = refl
+
+preamble-off : (options : ParseOptions) (text : List ℕ) → options.constructs.frontmatter ≡ false → has_mark text ≡ false → preamble options text ≡ record { front = None; body = map (rest_at 0) (lines_of text) }
+preamble-off options text off no_mark =
+    ap (λ (x : Bool). preamble_by (cond x 3 0) (lines_of (cond x (drop 3 text) text)) (front_of options (lines_of (cond x (drop 3 text) text)))) no_mark
+    ∙ ap (preamble_by 0 (lines_of text)) (front-off options (lines_of text) off)
+    ∙ ap (λ (rs : List Rest). record { front = None; body = rs }) (rests_at-zero (lines_of text))
+
+-- Where only breaks are on, a text without a byte order mark means its sections.
+pub tree-sections : (options : ParseOptions) (text : List ℕ) → IsBuilt options → has_mark text ≡ false → tree options text ≡ sections options [] (split_lines text)
+tree-sections options text built no_mark =
+    ap (λ (p : Preamble). with_frontmatter p.front (grouped (closed options (steps options (At (spot_of End)) p.body)))) (preamble-off options text built.frontmatter no_mark)
+    ∙ ap grouped (steps-sections options (lines_of text) End [] built)
+    ∙ grouped-sections options (lines_of text) []
+    ∙ sym (sections-split options (split_lines text) (lines_of text) (split-or_empty text))

@@ -1,0 +1,295 @@
+-- The points that one comes to from the first are points of the text.
+use Rattle.std.proofs.Common.{◌≡◌, ℕ, zero, suc, ◌+◌, ◌-◌, ◌%◌, ◌<◌, ◌≤◌, Bool, true, false, cond, not, ◌&&◌, ◌||◌, List, [], ◌∷◌, ◌++◌, length, take, drop, refl, ap, sym, ◌∙◌, subst, add-one, append_assoc, length-append, arith}
+use Rattle.std.specs.Prelude.{◌==◌, nat_lt, slice_index}
+use Rattle.std.specs.List.{onto_first}
+use Rattle.std.proofs.Math.Bool.{Bool-set}
+use Rattle.std.proofs.Math.ListN.{get_or-eq_default}
+use Rattle.std.proofs.Math.Logic.{∥∥₁_elim}
+use Rattle.std.proofs.Math.Seq.{drop-cons, take-suc}
+use Rattle.std.proofs.lemmas.Bool.{and_parts, and_from, eqb-true, eqb-false}
+use Rattle.std.proofs.lemmas.Bool.Decides.{nat_tests}
+use Rattle.std.proofs.lemmas.List.Elements.{All-head, All-tail}
+use Rattle.md_engine.specs.declared.event.Event.{Event}
+use Rattle.md_engine.specs.declared.event.Point.{Point}
+use Rattle.md_engine.specs.Place.{IsPlaced, IsReached, is_pair, next_point, stepped, walked}
+use Rattle.md_seam.specs.Lines.{ends_line, is_ending}
+use Rattle.md_seam.specs.Parts.{ArePlaced}
+use Rattle.md_seam.specs.Places.{are_placed, columns_before, columns_from, is_placed, last_line, past_byte}
+use Rattle.md_seam.specs.Rest.{tab_columns}
+use Rattle.md_seam.specs.Texts.{first_byte, split_lines}
+use Rattle.md_seam.proofs.PlacesLemmas.{Placed, placed-byte, placed-from}
+use Rattle.md_seam.proofs.TextsLemmas.{Ending, Both, LineFeed, Return, ending_bytes}
+
+-- An ending at the end of a text.
+
+-- whether a CR is the last byte
+abbrev ends_return : List ℕ → Bool
+ends_return [] = false
+ends_return (b ∷ []) = b == 13
+ends_return (b ∷ c ∷ bs) = ends_return (c ∷ bs)
+
+ends_return-snoc : (text : List ℕ) (b : ℕ) → ends_return (text ++ b ∷ []) ≡ (b == 13)
+ends_return-snoc [] b = refl
+ends_return-snoc (a ∷ []) b = refl
+ends_return-snoc (a ∷ c ∷ text) b = ends_return-snoc (c ∷ text) b
+
+-- an LF behind a CR would be the end of its ending
+abbrev StandsAfter : List ℕ → Ending → Type 0
+StandsAfter text LineFeed = ends_return text ≡ false
+StandsAfter text Return = Unit {0}
+StandsAfter text Both = Unit {0}
+
+-- there is a line
+abbrev HasLine : List (List ℕ) → Type 0
+HasLine [] = ⊥
+HasLine (line ∷ lines) = Unit {0}
+
+line-onto : (b : ℕ) (lines : List (List ℕ)) → HasLine (onto_first b lines)
+line-onto b [] = tt
+line-onto b (line ∷ lines) = tt
+
+line-split : (text : List ℕ) → HasLine (split_lines text)
+line-split [] = tt
+line-split (b ∷ bs) = go (ends_line b bs) (is_ending b) (line-split bs)
+  where
+    go : (x y : Bool) → HasLine (split_lines bs) → HasLine (cond x ([] ∷ split_lines bs) (cond y (split_lines bs) (onto_first b (split_lines bs))))
+    go true y s = tt
+    go false true s = s
+    go false false s = line-onto b (split_lines bs)
+
+onto_first-snoc : (b : ℕ) (lines : List (List ℕ)) → HasLine lines → onto_first b (lines ++ [] ∷ []) ≡ onto_first b lines ++ [] ∷ []
+onto_first-snoc b [] s = absurd s
+onto_first-snoc b (line ∷ lines) s = refl
+
+-- a byte ends a line before an ending where it does at the end, unless the ending goes on with it
+ends-before : (b : ℕ) (bs : List ℕ) (ending : Ending) → StandsAfter (b ∷ bs) ending → ends_line b (bs ++ ending_bytes ending) ≡ ends_line b bs
+ends-before b [] LineFeed h = rw h refl
+ends-before b [] Return h = refl
+ends-before b [] Both h = refl
+ends-before b (c ∷ bs) ending h = refl
+
+after-next : (b : ℕ) (bs : List ℕ) (ending : Ending) → StandsAfter (b ∷ bs) ending → StandsAfter bs ending
+after-next b [] LineFeed h = refl
+after-next b (c ∷ bs) LineFeed h = h
+after-next b bs Return h = tt
+after-next b bs Both h = tt
+
+-- an ending begins one line more
+split-ended : (text : List ℕ) (ending : Ending) → StandsAfter text ending → split_lines (text ++ ending_bytes ending) ≡ split_lines text ++ [] ∷ []
+split-ended [] LineFeed h = refl
+split-ended [] Return h = refl
+split-ended [] Both h = refl
+split-ended (b ∷ bs) ending h =
+    ap (λ (x : Bool). cond x ([] ∷ split_lines (bs ++ ending_bytes ending)) (cond (is_ending b) (split_lines (bs ++ ending_bytes ending)) (onto_first b (split_lines (bs ++ ending_bytes ending))))) (ends-before b bs ending h)
+    ∙ ap (λ (r : List (List ℕ)). cond (ends_line b bs) ([] ∷ r) (cond (is_ending b) r (onto_first b r))) (split-ended bs ending (after-next b bs ending h))
+    ∙ go (ends_line b bs) (is_ending b)
+  where
+    go : (x y : Bool) →
+        cond x ([] ∷ (split_lines bs ++ [] ∷ [])) (cond y (split_lines bs ++ [] ∷ []) (onto_first b (split_lines bs ++ [] ∷ [])))
+        ≡ cond x ([] ∷ split_lines bs) (cond y (split_lines bs) (onto_first b (split_lines bs))) ++ [] ∷ []
+    go true y = refl
+    go false true = refl
+    go false false = onto_first-snoc b (split_lines bs) (line-split bs)
+
+last-empty : (lines : List (List ℕ)) → last_line (lines ++ [] ∷ []) ≡ []
+last-empty [] = refl
+last-empty (line ∷ []) = refl
+last-empty (line ∷ next ∷ lines) = last-empty (next ∷ lines)
+
+-- Steps.
+
+-- a point of the text that is not between the bytes of an ending
+record Stands (bytes : List ℕ) (p : Point) : Type 0 where
+  placed : Placed bytes p
+  apart : (ends_return (take p.index bytes) && (slice_index bytes p.index == 10)) ≡ false
+
+take-next : (bytes : List ℕ) (i b : ℕ) → i < length bytes → slice_index bytes i ≡ b → take (i + 1) bytes ≡ take i bytes ++ b ∷ []
+take-next bytes i b lt e = ap (λ (n : ℕ). take n bytes) (add-one i) ∙ take-suc bytes i 0 lt ∙ ap (λ (x : ℕ). take i bytes ++ x ∷ []) e
+
+-- what is beyond the text is 0
+past-end : (bytes : List ℕ) (i : ℕ) → length bytes ≤ i → slice_index bytes i ≡ 0
+past-end bytes i le = get_or-eq_default bytes 0 le
+
+-- a byte that is not 0 is one of the text
+byte-inside : (bytes : List ℕ) (i b : ℕ) → slice_index bytes i ≡ b → 0 < b → i < length bytes
+byte-inside bytes i b e some = go (nat_lt i (length bytes)) refl
+  where
+    go : (x : Bool) → nat_lt i (length bytes) ≡ x → i < length bytes
+    go true k = grind (arith, nat_tests)
+    go false k = let le : length bytes ≤ i = grind (arith, nat_tests) in absurd (omega (arith, past-end bytes i le, e, some))
+
+-- a step from the end leaves the text
+step-inside : (bytes : List ℕ) (p : Point) → (next_point bytes p).index ≤ length bytes → p.index < length bytes
+step-inside bytes p le = go (nat_lt p.index (length bytes)) refl
+  where
+    beyond : length bytes ≤ p.index → p.index + 1 ≤ length bytes
+    beyond past = subst (λ (b : ℕ). (stepped b (b == 13 && (slice_index bytes (p.index + 1) == 10)) p).index ≤ length bytes) (past-end bytes p.index past) le
+
+    go : (x : Bool) → nat_lt p.index (length bytes) ≡ x → p.index < length bytes
+    go true k = grind (arith, nat_tests)
+    go false k = let past : length bytes ≤ p.index = grind (arith, nat_tests) in omega (arith, beyond past)
+
+-- behind an ending
+stands-ended : (bytes : List ℕ) (p : Point) (ending : Ending) (i : ℕ) → Placed bytes p → i ≤ length bytes → take i bytes ≡ take p.index bytes ++ ending_bytes ending → StandsAfter (take p.index bytes) ending →
+    (ends_return (take i bytes) && (slice_index bytes i == 10)) ≡ false → Stands bytes (record { line = p.line + 1; column = 1; index = i; vs = 0 })
+stands-ended bytes p ending i placed le taken after apart =
+    let lines : split_lines (take i bytes) ≡ split_lines (take p.index bytes) ++ [] ∷ [] = ap split_lines taken ∙ split-ended (take p.index bytes) ending after in
+    let columns : columns_before bytes i ≡ 0 = ap (λ (ls : List (List ℕ)). columns_from 0 (last_line ls)) lines ∙ ap (columns_from 0) (last-empty (split_lines (take p.index bytes))) in
+    let count : length (split_lines (take i bytes)) ≡ length (split_lines (take p.index bytes)) + 1 = ap length lines ∙ length-append (split_lines (take p.index bytes)) ([] ∷ []) in
+    record {
+      placed = record {
+        index = le;
+        within = refl;
+        line = omega (arith, placed.line, count);
+        column = omega (arith, columns);
+      };
+      apart = apart;
+    }
+
+-- behind another byte
+stands-byte : (bytes : List ℕ) (p : Point) (b : ℕ) (q : Point) → Placed bytes p → p.index < length bytes → slice_index bytes p.index ≡ b → is_ending b ≡ false → past_byte b p ≡ q → Stands bytes q
+stands-byte bytes p b q placed lt e line same = subst (Stands bytes) same (record {
+  placed = placed-byte bytes p b (drop (suc p.index) bytes) placed (drop-cons bytes p.index 0 lt ∙ ap (λ (x : ℕ). x ∷ drop (suc p.index) bytes) e) line;
+  apart = ap (λ (t : List ℕ). ends_return t && (slice_index bytes (p.index + 1) == 10)) (take-next bytes p.index b lt e) ∙ ap (λ (x : Bool). x && (slice_index bytes (p.index + 1) == 10)) (ends_return-snoc (take p.index bytes) b ∙ no_return (b == 10) (b == 13) line);
+})
+  where
+    no_return : (x y : Bool) → (x || y) ≡ false → y ≡ false
+    no_return false y h = h
+    no_return true y h = cc
+
+-- a tab has room where its next column begins no stop
+column-room : (before vs column : ℕ) → column ≡ before + vs + 1 → ((vs == 0) || nat_lt vs (4 - before % 4)) ≡ true → (column % 4 == 0) ≡ false → nat_lt (vs + 1) (4 - before % 4) ≡ true
+column-room before vs column e h more = test room
+  where
+    small : vs < 4 - before % 4
+    small = grind (arith, nat_tests)
+
+    some : 0 < column % 4
+    some = omega (arith, eqb-false (column % 4) 0 more)
+
+    room : vs + 1 < 4 - before % 4
+    room = omega (arith, small, some)
+
+    test : vs + 1 < 4 - before % 4 → nat_lt (vs + 1) (4 - before % 4) ≡ true
+    test lt = grind (arith, nat_tests)
+
+or_true : (x y : Bool) → y ≡ true → (x || y) ≡ true
+or_true true y e = refl
+or_true false y e = e
+
+-- a column of a tab that is not its last
+stands-column : (bytes : List ℕ) (p : Point) → Stands bytes p → p.index < length bytes → slice_index bytes p.index ≡ 9 → (p.column % 4 == 0) ≡ false → Stands bytes (record p { column = p.column + 1; vs = p.vs + 1 })
+stands-column bytes p h lt e more = record {
+  placed = record {
+    index = h.placed.index;
+    within = rw tab (or_true (p.vs + 1 == 0) (nat_lt (p.vs + 1) (tab_columns (columns_before bytes p.index))) (column-room (columns_before bytes p.index) p.vs p.column h.placed.column within more));
+    line = h.placed.line;
+    column = omega (arith, h.placed.column);
+  };
+  apart = h.apart;
+}
+  where
+    tab : drop p.index bytes ≡ 9 ∷ drop (suc p.index) bytes
+    tab = drop-cons bytes p.index 0 lt ∙ ap (λ (x : ℕ). x ∷ drop (suc p.index) bytes) e
+
+    within : ((p.vs == 0) || nat_lt p.vs (tab_columns (columns_before bytes p.index))) ≡ true
+    within = subst (λ (l : List ℕ). ((p.vs == 0) || ((first_byte l == 9) && nat_lt p.vs (tab_columns (columns_before bytes p.index)))) ≡ true) tab h.placed.within
+
+-- the last column of a tab, or a byte of one column
+same-behind : (b : ℕ) (p : Point) → 1 ≤ p.column → ((b == 9) && not (p.column % 4 == 0)) ≡ false → past_byte b p ≡ record p { column = p.column + 1; index = p.index + 1; vs = 0 }
+same-behind b p some h = ap (λ (c : ℕ). record { line = p.line; column = c; index = p.index + 1; vs = 0 }) (go (b == 9) (p.column % 4 == 0) refl h)
+  where
+    go : (x y : Bool) → (p.column % 4 == 0) ≡ y → (x && not y) ≡ false → cond x ((p.column - 1) + (4 - (p.column - 1) % 4)) ((p.column - 1) + 1) + 1 ≡ p.column + 1
+    go false y k h = omega (arith, some)
+    go true true k h = let stop : p.column % 4 ≡ 0 = eqb-true (p.column % 4) 0 k in omega (arith, some, stop)
+    go true false k h = cc
+
+-- no CR stands before an LF that is reached
+apart-feed : (x y : Bool) → (x && y) ≡ false → y ≡ true → x ≡ false
+apart-feed false y h e = refl
+apart-feed true y h e = cc
+
+and_false : (x y : Bool) → y ≡ false → (x && y) ≡ false
+and_false true y e = e
+and_false false y e = refl
+
+stands-feed : (bytes : List ℕ) (p : Point) → Stands bytes p → p.index < length bytes → slice_index bytes p.index ≡ 10 → Stands bytes (record { line = p.line + 1; column = 1; index = p.index + 1; vs = 0 })
+stands-feed bytes p h lt e = stands-ended bytes p LineFeed (p.index + 1) h.placed (omega arith) taken
+    (apart-feed (ends_return (take p.index bytes)) (slice_index bytes p.index == 10) h.apart (ap (λ (b : ℕ). b == 10) e))
+    (ap (λ (t : List ℕ). ends_return t && (slice_index bytes (p.index + 1) == 10)) taken ∙ ap (λ (x : Bool). x && (slice_index bytes (p.index + 1) == 10)) (ends_return-snoc (take p.index bytes) 10))
+  where
+    taken : take (p.index + 1) bytes ≡ take p.index bytes ++ 10 ∷ []
+    taken = take-next bytes p.index 10 lt e
+
+stands-return : (bytes : List ℕ) (p : Point) → Stands bytes p → p.index < length bytes → slice_index bytes p.index ≡ 13 → (slice_index bytes (p.index + 1) == 10) ≡ false → Stands bytes (record { line = p.line + 1; column = 1; index = p.index + 1; vs = 0 })
+stands-return bytes p h lt e no_feed = stands-ended bytes p Return (p.index + 1) h.placed (omega arith) (take-next bytes p.index 13 lt e) tt
+    (and_false (ends_return (take (p.index + 1) bytes)) (slice_index bytes (p.index + 1) == 10) no_feed)
+
+stands-both : (bytes : List ℕ) (p : Point) → Stands bytes p → slice_index bytes p.index ≡ 13 → slice_index bytes (p.index + 1) ≡ 10 → Stands bytes (record { line = p.line + 1; column = 1; index = p.index + 2; vs = 0 })
+stands-both bytes p h e k = stands-ended bytes p Both (p.index + 2) h.placed (omega (arith, lt)) (taken ∙ append_assoc (take p.index bytes) (13 ∷ []) (10 ∷ [])) tt
+    (ap (λ (t : List ℕ). ends_return t && (slice_index bytes (p.index + 2) == 10)) taken ∙ ap (λ (x : Bool). x && (slice_index bytes (p.index + 2) == 10)) (ends_return-snoc (take p.index bytes ++ 13 ∷ []) 10))
+  where
+    lt : p.index + 1 < length bytes
+    lt = byte-inside bytes (p.index + 1) 10 k (omega arith)
+
+    next : (p.index + 1) + 1 ≡ p.index + 2
+    next = omega arith
+
+    taken : take (p.index + 2) bytes ≡ (take p.index bytes ++ 13 ∷ []) ++ 10 ∷ []
+    taken =
+        ap (λ (i : ℕ). take i bytes) (sym next)
+        ∙ take-next bytes (p.index + 1) 10 lt k
+        ∙ ap (λ (t : List ℕ). t ++ 10 ∷ []) (take-next bytes p.index 13 (omega (arith, lt)) e)
+
+not-true : (x : Bool) → not x ≡ true → x ≡ false
+not-true false e = refl
+not-true true e = sym e
+
+-- The point behind what is seen at such a point is one.
+stands-next : (bytes : List ℕ) (p : Point) → Stands bytes p → (next_point bytes p).index ≤ length bytes → Stands bytes (next_point bytes p)
+stands-next bytes p h le = go (slice_index bytes p.index == 10) (slice_index bytes p.index == 13) (slice_index bytes (p.index + 1) == 10) ((slice_index bytes p.index == 9) && not (p.column % 4 == 0)) refl refl refl refl
+  where
+    lt : p.index < length bytes
+    lt = step-inside bytes p le
+
+    go : (x y z t : Bool) → (slice_index bytes p.index == 10) ≡ x → (slice_index bytes p.index == 13) ≡ y → (slice_index bytes (p.index + 1) == 10) ≡ z → ((slice_index bytes p.index == 9) && not (p.column % 4 == 0)) ≡ t →
+        Stands bytes (cond (x || y) (record { line = p.line + 1; column = 1; index = cond (y && z) (p.index + 2) (p.index + 1); vs = 0 }) (cond t (record p { column = p.column + 1; vs = p.vs + 1 }) (record p { column = p.column + 1; index = p.index + 1; vs = 0 })))
+    go true true z t e f g k = absurd (omega (arith, eqb-true (slice_index bytes p.index) 10 e, eqb-true (slice_index bytes p.index) 13 f))
+    go true false z t e f g k = stands-feed bytes p h lt (eqb-true (slice_index bytes p.index) 10 e)
+    go false true true t e f g k = stands-both bytes p h (eqb-true (slice_index bytes p.index) 13 f) (eqb-true (slice_index bytes (p.index + 1)) 10 g)
+    go false true false t e f g k = stands-return bytes p h lt (eqb-true (slice_index bytes p.index) 13 f) g
+    go false false z true e f g k =
+        let parts : ((slice_index bytes p.index == 9) ≡ true) × (not (p.column % 4 == 0) ≡ true) = and_parts (slice_index bytes p.index == 9) (not (p.column % 4 == 0)) k in
+        stands-column bytes p h lt (eqb-true (slice_index bytes p.index) 9 parts.0) (not-true (p.column % 4 == 0) parts.1)
+    go false false z false e f g k =
+        stands-byte bytes p (slice_index bytes p.index) _ h.placed lt refl (ap (λ (x : Bool). x || (slice_index bytes p.index == 13)) e ∙ f)
+        (same-behind (slice_index bytes p.index) p (omega (arith, h.placed.column)) k)
+
+index-behind : (bytes : List ℕ) (p : Point) → p.index ≤ (next_point bytes p).index
+index-behind bytes p = go (is_ending (slice_index bytes p.index)) (is_pair bytes p.index) ((slice_index bytes p.index == 9) && not (p.column % 4 == 0))
+  where
+    go : (x y z : Bool) → p.index ≤ (cond x (record { line = p.line + 1; column = 1; index = cond y (p.index + 2) (p.index + 1); vs = 0 }) (cond z (record p { column = p.column + 1; vs = p.vs + 1 }) (record p { column = p.column + 1; index = p.index + 1; vs = 0 }))).index
+    go true true z = omega arith
+    go true false z = omega arith
+    go false y true = omega arith
+    go false y false = omega arith
+
+-- So is each point within the text that one comes to.
+stands-walked : (bytes : List ℕ) (n : ℕ) → (walked bytes n).index ≤ length bytes → Stands bytes (walked bytes n)
+unfolding walked
+stands-walked bytes zero le = record { placed = record { index = le; within = refl; line = refl; column = refl }; apart = refl }
+stands-walked bytes (suc n) le = stands-next bytes (walked bytes n) (stands-walked bytes n (omega (arith, le, index-behind bytes (walked bytes n)))) le
+
+-- A point within the text that one comes to has its line and column right.
+pub reached-placed : (bytes : List ℕ) (p : Point) → IsReached bytes p → p.index ≤ length bytes → is_placed bytes p ≡ true
+reached-placed bytes p (n, e) le = placed-from bytes p (subst (Placed bytes) (sym e) (stands-walked bytes n (subst (λ (q : Point). q.index ≤ length bytes) e le)).placed)
+
+pub point-placed : (bytes : List ℕ) (p : Point) → IsPlaced bytes p → is_placed bytes p ≡ true
+point-placed bytes p h = ∥∥₁_elim h.reached (Bool-set (is_placed bytes p) true) (λ r. reached-placed bytes p r h.index)
+
+-- So do the points of events.
+pub events-placed : (bytes : List ℕ) (events : List Event) → ArePlaced bytes events → are_placed bytes events ≡ true
+events-placed bytes [] h = refl
+events-placed bytes (e ∷ events) h =
+    and_from (is_placed bytes e.point) (are_placed bytes events) (point-placed bytes e.point (All-head (λ (x : Event). IsPlaced bytes x.point) e events h))
+    (events-placed bytes events (All-tail (λ (x : Event). IsPlaced bytes x.point) e events h))
