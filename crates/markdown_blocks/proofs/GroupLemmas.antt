@@ -22,6 +22,7 @@ use Rattle.md_seam.specs.Places.{same_place}
 use Rattle.md_seam.specs.Substituted.{Readings, Substituted, chunks_behind}
 use Rattle.md_seam.specs.Texts.{split_lines}
 use Rattle.md_seam.proofs.TextsLemmas.{Ending, EndsBefore, LineFeed, NoEnding, Return, Both, ending_bytes, split-line, split-next}
+use Rattle.markdown_blocks.specs.FlowReads.{NoText}
 use Rattle.markdown_blocks.specs.Rows.{BlankRow, BreakRow, Group, Lines, Row, RowKind, Single, TextRow, behind_row, chunks_of, ending_events, groups, groups_events, last_row, line_kind, onto_groups, row_events, rows_events}
 use Rattle.markdown_blocks.specs.Unread.{joined_groups, linked, unread_groups, unread_paragraph}
 use Rattle.markdown_blocks.proofs.JoinedLemmas.{EachEnds, EachNoContent, NoContent, behind-is, ending-is, ending-no_content, events-no_content, joined-rows, no_content-unlinked}
@@ -311,11 +312,6 @@ groups-read options bytes p lines rows F are quiet each wants_content wants_text
     (subst (λ (l : List Event). Substituted wants_text reads_text [] 0 l events) is st)
 
 -- No line is text.
-
--- each line is blank or a break
-abbrev pub NoText : List Row → Type 0
-NoText [] = Unit {0}
-NoText (row ∷ rows) = (row.kind ≢ TextRow) × NoText rows
 
 singles-are : (bytes : List ℕ) (rows : List Row) → EachNoContent rows → NoText rows → Unlinked (rows_events rows) × (groups_events bytes (groups rows) ≡ rows_events rows)
 singles-are bytes [] h k = (tt, refl)

@@ -9,7 +9,6 @@ pub mod RowFacts
 pub mod FeedLines
 pub mod LineKinds
 pub mod RowLemmas
-pub mod RowsBetween
 pub mod FlowRows
 pub mod FlowReads
 pub mod SubstitutedLemmas
@@ -19,3 +18,5 @@ pub mod SpelledRows
 pub mod NestedRows
 pub mod BetweenRows
 pub mod TreeSections
+pub mod OutlinedRows
+pub mod Parses

@@ -1,0 +1,98 @@
+-- What a text is read as, where only breaks are on: its events nest, and spell its tree.
+use Rattle.std.proofs.Common.{◌≡◌, ◌^◌, ◌<◌, ◌⊎◌, ℕ, Bool, true, false, suc, List, [], ◌∷◌, length, refl, ap, sym, ◌∙◌, subst}
+use Rattle.std.specs.Prelude.{inl, inr}
+use Rattle.std.specs.List.{list_all}
+use Rattle.md_engine.specs.declared.configuration.ParseOptions.{ParseOptions}
+use Rattle.md_engine.specs.declared.event.Content.{Content}
+use Rattle.md_engine.specs.declared.event.Content.TheVariants as content
+use Rattle.md_engine.specs.declared.event.Event.{Event}
+use Rattle.md_engine.specs.Found.{Found}
+use Rattle.md_engine.specs.Place.{first_point}
+use Rattle.md_engine.specs.World.{Setting, World}
+use Rattle.md_content.specs.ContentReads.{content_readings, wants_content}
+use Rattle.md_content.specs.Joined.{joined}
+use Rattle.md_content.specs.Resolves.{Resolves}
+use Rattle.md_seam.specs.Meaning.{tree}
+use Rattle.md_seam.specs.Nested.{Nested}
+use Rattle.md_seam.specs.Preamble.{has_mark}
+use Rattle.md_seam.specs.Spelled.{spelled}
+use Rattle.md_seam.specs.Substituted.{Readings, Substituted}
+use Rattle.md_seam.specs.Texts.{split_lines}
+use Rattle.markdown_blocks.specs.Between.{is_between}
+use Rattle.markdown_blocks.specs.FlowReads.{FlowReads, ReadsContent, ReadsNone, text_cells, text_rows, text_setting}
+use Rattle.markdown_blocks.specs.Outlined.{has_plain_name, is_whole}
+use Rattle.markdown_blocks.specs.Parsed.{IsBuilt}
+use Rattle.markdown_blocks.specs.Resolved.{resolved_as}
+use Rattle.markdown_blocks.specs.Rows.{Row, groups, groups_events, rows_events}
+use Rattle.markdown_blocks.proofs.BetweenRows.{between-rows}
+use Rattle.markdown_blocks.proofs.GroupLemmas.{EachRow, ReadsText, groups-read, singles-read}
+use Rattle.markdown_blocks.proofs.JoinedLemmas.{EachNoContent, rows_at-no_content}
+use Rattle.markdown_blocks.proofs.NestedRows.{nested-rows}
+use Rattle.markdown_blocks.proofs.OutlinedRows.{outlined-rows}
+use Rattle.markdown_blocks.proofs.ParagraphReads.{content-reads}
+use Rattle.markdown_blocks.proofs.RowFacts.{AreRows}
+use Rattle.markdown_blocks.proofs.RowLemmas.{fresh-rows}
+use Rattle.markdown_blocks.proofs.SpelledRows.{spelled-rows}
+use Rattle.markdown_blocks.proofs.TreeSections.{tree-sections}
+
+-- no fact of a row is asked for
+abbrev Nothing : Row → Type 0
+Nothing row = Unit {0}
+
+each-nothing : (rows : List Row) → EachRow Nothing rows
+each-nothing [] = tt
+each-nothing (row ∷ rows) = (tt, each-nothing rows)
+
+text-quiet : (options : ParseOptions) (bytes : List ℕ) → EachNoContent (text_rows options bytes)
+text-quiet options bytes = rows_at-no_content options (suc (length (text_cells bytes options))) (text_cells bytes options) first_point
+
+text-are : (options : ParseOptions) (bytes : List ℕ) → IsBuilt options → length bytes < 2 ^ 61 → AreRows options bytes first_point (split_lines bytes) (text_rows options bytes)
+text-are options bytes built small = fresh-rows options bytes built.code_indented small
+
+-- The events of a text, once flow, content and texts were read.
+pub events-are : (options : ParseOptions) (bytes : List ℕ) → IsBuilt options → length bytes < 2 ^ 61 → (found : Found) (new : World) → FlowReads resolved_as bytes options found new →
+    (wants : Content → Bool) (reads : Readings) → wants content.Text ≡ true → ReadsText bytes reads → (events : List Event) → Substituted wants reads [] 0 new.events events → events ≡ groups_events bytes (groups (text_rows options bytes))
+events-are options bytes built small found new flow wants reads wanted text events substituted = go flow.reads
+  where
+    rows : List Row
+    rows = text_rows options bytes
+
+    none : ReadsNone rows flow.at found new → events ≡ groups_events bytes (groups rows)
+    none h =
+        let before : new.events ≡ rows_events rows = ap (λ (w : World). w.events) h.same ∙ flow.events in
+        singles-read bytes rows (text-quiet options bytes) h.no_text wants reads events (subst (λ (l : List Event). Substituted wants reads [] 0 l events) before substituted)
+
+    some : ReadsContent resolved_as flow.at found new → events ≡ groups_events bytes (groups rows)
+    some h =
+        let resolved : Resolves flow.at h.more new = h.resolved in
+        let here : Substituted wants_content (content_readings bytes options) [] 0 (joined flow.at.events) new.events =
+        subst (λ (x : Setting). Substituted wants_content (content_readings x.bytes x.options) [] 0 (joined flow.at.events) new.events) flow.setting resolved.events in
+        groups-read options bytes first_point (split_lines bytes) rows Nothing (text-are options bytes built small) (text-quiet options bytes) (each-nothing rows)
+        wants_content wants (content_readings bytes options) reads refl wanted (content-reads options options bytes small) text new.events events
+        (subst (λ (l : List Event). Substituted wants_content (content_readings bytes options) [] 0 (joined l) new.events) flow.events here) substituted
+
+    go : ReadsNone rows flow.at found new ⊎ ReadsContent resolved_as flow.at found new → events ≡ groups_events bytes (groups rows)
+    go (inl h) = none h
+    go (inr h) = some h
+
+-- What is known of these events.
+pub record Reads (options : ParseOptions) (bytes : List ℕ) (events : List Event) : Type 0 where
+  pub nested : Nested events
+  pub between : list_all (λ (e : Event). is_between bytes e.point.index) events ≡ true
+  pub names : list_all has_plain_name events ≡ true
+  pub whole : list_all is_whole events ≡ true
+  pub tree : has_mark bytes ≡ false → spelled events bytes ≡ tree options bytes
+
+pub text-reads : (options : ParseOptions) (bytes : List ℕ) → IsBuilt options → length bytes < 2 ^ 61 → (events : List Event) → events ≡ groups_events bytes (groups (text_rows options bytes)) → Reads options bytes events
+text-reads options bytes built small events is =
+    let rows : List Row = text_rows options bytes in
+    let are : AreRows options bytes first_point (split_lines bytes) rows = text-are options bytes built small in
+    let outlined : (list_all has_plain_name (groups_events bytes (groups rows)) ≡ true) × (list_all is_whole (groups_events bytes (groups rows)) ≡ true) =
+    outlined-rows options bytes first_point (split_lines bytes) rows are in
+    subst (Reads options bytes) (sym is) (record {
+      nested = nested-rows options bytes (split_lines bytes) rows are;
+      between = between-rows options bytes (split_lines bytes) rows are;
+      names = outlined.0;
+      whole = outlined.1;
+      tree = λ no_mark. spelled-rows options bytes first_point (split_lines bytes) rows are ∙ sym (tree-sections options bytes built no_mark);
+    })
