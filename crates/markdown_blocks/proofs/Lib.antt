@@ -18,5 +18,4 @@ pub mod SpelledRows
 pub mod NestedRows
 pub mod BetweenRows
 pub mod TreeSections
-pub mod OutlinedRows
 pub mod Parses
