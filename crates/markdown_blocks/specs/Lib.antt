@@ -5,3 +5,6 @@ pub mod Resolved
 pub mod FlowRule
 pub mod Rows
 pub mod Sections
+pub mod Between
+pub mod Outlined
+pub mod Sketched
