@@ -8,3 +8,4 @@ pub mod FlowEnds
 pub mod RowFacts
 pub mod TextCuts
 pub mod Sketches
+pub mod PlainEvents

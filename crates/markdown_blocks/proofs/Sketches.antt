@@ -15,12 +15,12 @@ use Rattle.md_engine.specs.declared.event.Name.TheVariants as n
 use Rattle.md_engine.specs.declared.event.Point.{Point}
 use Rattle.md_seam.specs.declared.outline.Word.TheVariants as word
 use Rattle.md_seam.specs.Outline.{Entry, block_entries, entry, outline}
-use Rattle.md_seam.specs.Spelled.{AsParagraph, OfBreak, OpenLeaf, Reading, Text, at_ending, finished, fresh, next_line, on_leaf, read, read_by, role, spelled, told_at, unread}
+use Rattle.md_seam.specs.Spelled.{AsParagraph, IsEnding, IsQuiet, OfBreak, OpenLeaf, Opens, Reading, Role, Tells, Text, at_ending, finished, fresh, next_line, on_leaf, read, read_by, role, spelled, told_at, unread}
 use Rattle.md_seam.specs.State.{then_block}
 use Rattle.md_seam.specs.Texts.{split_lines, trim_each}
 use Rattle.md_seam.specs.Tree.{Block, Blocks, Break, End, More, Paragraph}
 use Rattle.markdown_blocks.specs.Between.{is_between}
-use Rattle.markdown_blocks.specs.Outlined.{IsOutlined, is_paragraph, is_plain, is_whole}
+use Rattle.markdown_blocks.specs.Outlined.{IsOutlined, has_plain_name, is_paragraph, is_plain, is_whole}
 use Rattle.markdown_blocks.specs.Sketched.{BeginsBetween, Sketch, break_ended, sketch_by, sketch_enter, sketch_exit, sketched, text_ended, text_entries, unsketched}
 use Rattle.markdown_blocks.proofs.TextCuts.{utf8-part}
 
@@ -80,35 +80,42 @@ sketch-ending bytes p s r None is = go (nat_lt p.index (length bytes))
     go true = record { lines = is.lines; leaf = ap (option_map next_line) is.leaf ∙ same-leaf s.in_break; text = is.text }
     go false = is
 
+-- a role that the outline shows
+abbrev is_shown : Role → Bool
+is_shown (Opens OfBreak) = true
+is_shown (Tells AsParagraph) = true
+is_shown _ = false
+
+-- other roles change nothing
+sketch-other : (bytes : List ℕ) (kind : Kind) (x : Role) (p : Point) (s : Sketch) (r : Reading) → is_plain x ≡ true → is_shown x ≡ false → IsSketch s r → IsSketch s (read_by bytes kind x p r)
+sketch-other bytes Enter IsEnding p s r h k is = is
+sketch-other bytes Exit IsEnding p s r h k is = sketch-ending bytes p s r r.text is
+sketch-other bytes Enter IsQuiet p s r h k is = is
+sketch-other bytes Exit IsQuiet p s r h k is = is
+sketch-other bytes kind (Opens OfBreak) p s r h k is = absurd (true≢false k)
+sketch-other bytes kind (Tells AsParagraph) p s r h k is = absurd (true≢false k)
+sketch-other bytes kind _ p s r h k is = absurd (true≢false (sym h))
+
 -- the step of one event
-sketch-step : (bytes : List ℕ) (kind : Kind) (name : Name) (p : Point) (s : Sketch) (r : Reading) → is_plain name ≡ true → (not (is_paragraph name) || (p.vs == 0)) ≡ true → IsSketch s r → IsSketch (sketch_by bytes kind name p.index s) (read_by bytes kind (role name) p r)
+sketch-step : (bytes : List ℕ) (kind : Kind) (name : Name) (p : Point) (s : Sketch) (r : Reading) → is_plain (role name) ≡ true → (not (is_paragraph (role name)) || (p.vs == 0)) ≡ true → IsSketch s r → IsSketch (sketch_by bytes kind name p.index s) (read_by bytes kind (role name) p r)
 sketch-step bytes Enter n.ThematicBreak p s r h w is = record { lines = is.lines; leaf = refl; text = is.text }
 sketch-step bytes Exit n.ThematicBreak p s r h w is = sketch-break s r s.in_break r.leaf is.leaf is
 sketch-step bytes Enter n.Paragraph p s r h w is = record { lines = is.lines; leaf = is.leaf; text = (refl, ap (λ x. cond x p.index (p.index + 1)) w) }
 sketch-step bytes Exit n.Paragraph p s r h w is = sketch-text bytes p s r s.text r.text is.text is
-sketch-step bytes Enter n.LineEnding p s r h w is = is
-sketch-step bytes Exit n.LineEnding p s r h w is = sketch-ending bytes p s r r.text is
-sketch-step bytes Enter n.ThematicBreakSequence p s r h w is = is
-sketch-step bytes Exit n.ThematicBreakSequence p s r h w is = is
-sketch-step bytes Enter n.SpaceOrTab p s r h w is = is
-sketch-step bytes Exit n.SpaceOrTab p s r h w is = is
-sketch-step bytes Enter n.BlankLineEnding p s r h w is = is
-sketch-step bytes Exit n.BlankLineEnding p s r h w is = is
-sketch-step bytes Enter n.Data p s r h w is = is
-sketch-step bytes Exit n.Data p s r h w is = is
-sketch-step bytes kind _ p s r h w is = absurd (true≢false (sym h))
+sketch-step bytes Enter name p s r h w is = sketch-other bytes Enter (role name) p s r h refl is
+sketch-step bytes Exit name p s r h w is = sketch-other bytes Exit (role name) p s r h refl is
 
 -- all events
-sketch-all : (bytes : List ℕ) (events : List Event) (s : Sketch) (r : Reading) → list_all (λ (e : Event). is_plain e.name) events ≡ true → list_all (λ (e : Event). is_whole e) events ≡ true → IsSketch s r → IsSketch (sketched bytes s events) (read bytes r events)
+sketch-all : (bytes : List ℕ) (events : List Event) (s : Sketch) (r : Reading) → list_all has_plain_name events ≡ true → list_all is_whole events ≡ true → IsSketch s r → IsSketch (sketched bytes s events) (read bytes r events)
 sketch-all bytes [] s r h w is = is
 sketch-all bytes (e ∷ events) s r h w is =
-    let names = and_parts (is_plain e.name) (list_all (λ (x : Event). is_plain x.name) events) h in
-    let wholes = and_parts (is_whole e) (list_all (λ (x : Event). is_whole x) events) w in
+    let names = and_parts (has_plain_name e) (list_all has_plain_name events) h in
+    let wholes = and_parts (is_whole e) (list_all is_whole events) w in
     sketch-all bytes events (sketch_by bytes e.kind e.name e.point.index s) (read_by bytes e.kind (role e.name) e.point r) names.1 wholes.1
     (sketch-step bytes e.kind e.name e.point s r names.0 wholes.0 is)
 
 -- the lines that all events add are those of the tree that they spell out
-pub sketched-spelled : (bytes : List ℕ) (events : List Event) → list_all (λ (e : Event). is_plain e.name) events ≡ true → list_all (λ (e : Event). is_whole e) events ≡ true → (sketched bytes unsketched events).lines ≡ outline 0 (spelled events bytes)
+pub sketched-spelled : (bytes : List ℕ) (events : List Event) → list_all has_plain_name events ≡ true → list_all is_whole events ≡ true → (sketched bytes unsketched events).lines ≡ outline 0 (spelled events bytes)
 unfolding spelled
 sketched-spelled bytes events h w = (sketch-all bytes events unsketched unread h w (record { lines = refl; leaf = refl; text = tt })).lines
 

@@ -3,38 +3,37 @@ use Rattle.std.specs.Prelude.{◌≡◌, ℕ, Bool, true, false, ◌||◌, ◌==
 use Rattle.std.specs.List.{list_all}
 use Rattle.std.specs.Str.{IsUtf8}
 use Rattle.md_engine.specs.declared.event.Event.{Event}
-use Rattle.md_engine.specs.declared.event.Name.{Name}
-use Rattle.md_engine.specs.declared.event.Name.TheVariants as n
 use Rattle.md_seam.specs.declared.outline.OutlineLine.{OutlineLine}
 use Rattle.md_seam.specs.Outline.{Entry, outline}
-use Rattle.md_seam.specs.Spelled.{spelled}
+use Rattle.md_seam.specs.Spelled.{AsParagraph, IsEnding, IsQuiet, OfBreak, Opens, Role, Tells, role, spelled}
 use Rattle.markdown_blocks.specs.Between.{is_between}
 
--- what stands in a text where only breaks are on
-abbrev pub is_plain : Name → Bool
-is_plain n.ThematicBreak = true
-is_plain n.ThematicBreakSequence = true
-is_plain n.Paragraph = true
-is_plain n.SpaceOrTab = true
-is_plain n.LineEnding = true
-is_plain n.BlankLineEnding = true
-is_plain n.Data = true
+-- the roles of breaks and paragraphs, and of what the tree does not show
+abbrev pub is_plain : Role → Bool
+is_plain (Opens OfBreak) = true
+is_plain (Tells AsParagraph) = true
+is_plain IsEnding = true
+is_plain IsQuiet = true
 is_plain _ = false
 
-abbrev pub is_paragraph : Name → Bool
-is_paragraph n.Paragraph = true
+abbrev pub is_paragraph : Role → Bool
+is_paragraph (Tells AsParagraph) = true
 is_paragraph _ = false
 
--- a paragraph cuts no tab
+-- whether an event is of a break or a paragraph, or of what the tree does not show
+abbrev pub has_plain_name : Event → Bool
+has_plain_name e = is_plain (role e.name)
+
+-- whether a paragraph cuts no tab here
 abbrev pub is_whole : Event → Bool
-is_whole e = not (is_paragraph e.name) || (e.point.vs == 0)
+is_whole e = not (is_paragraph (role e.name)) || (e.point.vs == 0)
 
 -- the events of breaks and paragraphs, between characters of a text
 pub record IsOutlined (events : List Event) (bytes : List ℕ) : Type 0 where
-  pub names : list_all (λ (e : Event). is_plain e.name) events ≡ true
+  pub names : list_all has_plain_name events ≡ true
   pub text : IsUtf8 bytes
   pub between : list_all (λ (e : Event). is_between bytes e.point.index) events ≡ true
-  pub whole : list_all (λ (e : Event). is_whole e) events ≡ true
+  pub whole : list_all is_whole events ≡ true
 
 -- a line of the outline, without its place in the memory
 abbrev pub entry_of : OutlineLine → Entry
