@@ -19,3 +19,6 @@ pub mod NestedRows
 pub mod BetweenRows
 pub mod TreeSections
 pub mod Parses
+pub mod TextCuts
+pub mod Sketches
+pub mod PlainEvents

@@ -8,3 +8,5 @@ pub mod Sections
 pub mod Between
 pub mod FlowReads
 pub mod Unread
+pub mod Outlined
+pub mod Sketched

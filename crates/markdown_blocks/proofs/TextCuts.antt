@@ -1,0 +1,218 @@
+-- Parts of UTF-8 texts: a text that is cut beside bytes of ASCII, and its lines.
+use Rattle.std.proofs.Common.{◌≡◌, ℕ, suc, ◌+◌, ◌-◌, ◌<◌, ◌≤◌, Bool, true, false, cond, ◌&&◌, ◌||◌, ◌==◌, not, List, [], ◌∷◌, ◌++◌, length, take, drop, get_or, slice_range, inl, inr, ◌⊎◌, Result, Ok, Err, refl, sym, ◌∙◌, ap, subst, append_assoc, arith}
+use Rattle.std.specs.Prelude.{nat_lt, MatchResult}
+use Rattle.std.specs.Result.{result_unwrap_or}
+use Rattle.std.specs.Borrow.{Bor}
+use Rattle.std.specs.List.{onto_first, prefix_len}
+use Rattle.std.specs.Str.{IsUtf8, IsCharBoundary}
+use Rattle.std.proofs.lemmas.Bool.{cases_lt, eqb-true, ltb-true, true≢false}
+use Rattle.std.proofs.lemmas.Bool.Decides.{nat_tests}
+use Rattle.std.proofs.lemmas.List.{drop_all, length-drop, take_all}
+use Rattle.std.proofs.lemmas.List.Sums.{prefix_len_stops}
+use Rattle.std.proofs.lemmas.Str.{IsCharBoundary-after_ascii, IsCharBoundary-before_ascii, IsCharBoundary-end, IsCharBoundary-start, IsUtf8-between, IsUtf8-drop, IsUtf8-nil, IsUtf8-take}
+use Rattle.md_seam.specs.declared.outline.Word.TheVariants as word
+use Rattle.md_seam.specs.Lines.{begins_with, is_ending}
+use Rattle.md_seam.specs.Outline.{Entry, entries, entry_with}
+use Rattle.md_seam.specs.Rest.{is_white, trim_start}
+use Rattle.md_seam.specs.Texts.{split_lines, trim_each}
+use Rattle.markdown_blocks.specs.Between.{is_between}
+use Rattle.markdown_blocks.specs.Sketched.{after_ending, line_len, text_entries}
+
+-- behind a byte of ASCII
+boundary-behind : (bytes : List ℕ) (i : ℕ) → IsUtf8 bytes → 0 < i → i ≤ length bytes → get_or bytes (i - 1) 0 < 128 → IsCharBoundary bytes i
+boundary-behind bytes i u some within ascii =
+    let here : i - 1 + 1 ≡ i = omega arith in
+    subst (IsCharBoundary bytes) here (IsCharBoundary-after_ascii bytes (i - 1) u (omega arith) ascii)
+
+-- a place in a text that stands beside ASCII is the boundary of a character
+pub boundary-between : (bytes : List ℕ) (i : ℕ) → IsUtf8 bytes → is_between bytes i ≡ true → i ≤ length bytes → IsCharBoundary bytes i
+boundary-between bytes i u between within = go (i == 0) (i == length bytes) (nat_lt (get_or bytes (i - 1) 0) 128) refl refl refl between
+  where
+    go : (x y z : Bool) → (i == 0) ≡ x → (i == length bytes) ≡ y → nat_lt (get_or bytes (i - 1) 0) 128 ≡ z → (x || y || z || nat_lt (get_or bytes i 0) 128) ≡ true → IsCharBoundary bytes i
+    go true y z a b c h = subst (IsCharBoundary bytes) (sym (eqb-true i 0 a)) (IsCharBoundary-start bytes u)
+    go false true z a b c h = subst (IsCharBoundary bytes) (sym (eqb-true i (length bytes) b)) (IsCharBoundary-end bytes)
+    go false false true a b c h =
+        let some : 0 < i = grind (arith, nat_tests) in
+        boundary-behind bytes i u some within (ltb-true _ _ c)
+    go false false false a b c h =
+        let inside : i < length bytes = grind (arith, nat_tests) in
+        IsCharBoundary-before_ascii bytes i inside (ltb-true _ _ h)
+
+take-none : (xs : List ℕ) (i j : ℕ) → j ≤ i → slice_range xs i j ≡ []
+take-none xs i j le = let none : j - i ≡ 0 = omega arith in rw none refl
+
+range-past : (xs : List ℕ) (i j : ℕ) → length xs ≤ j → slice_range xs i j ≡ slice_range xs i (length xs)
+range-past xs i j le =
+    let left : length (drop i xs) ≡ length xs - i = length-drop i xs in
+    take_all (j - i) (drop i xs) (omega (arith, left)) ∙ sym (take_all (length xs - i) (drop i xs) (omega (arith, left)))
+
+-- the part of a UTF-8 text between two such places
+pub utf8-part : (bytes : List ℕ) (i j : ℕ) → IsUtf8 bytes → is_between bytes i ≡ true → is_between bytes j ≡ true → IsUtf8 (slice_range bytes i j)
+utf8-part bytes i j u a b = go (cases_lt i j) (cases_lt i (length bytes)) (cases_lt (length bytes) j)
+  where
+    none : slice_range bytes i j ≡ [] → IsUtf8 (slice_range bytes i j)
+    none e = subst IsUtf8 (sym e) IsUtf8-nil
+
+    go : (i < j) ⊎ (j ≤ i) → (i < length bytes) ⊎ (length bytes ≤ i) → (length bytes < j) ⊎ (j ≤ length bytes) → IsUtf8 (slice_range bytes i j)
+    go (inr le) x y = none (take-none bytes i j le)
+    go (inl lt) (inr past) y = none (range-past bytes i j (omega arith) ∙ take-none bytes i (length bytes) past)
+    go (inl lt) (inl inside) (inl past) =
+        subst IsUtf8 (sym (range-past bytes i j (omega arith))) (IsUtf8-between bytes i (length bytes) u (omega arith) (boundary-between bytes i u a (omega arith)) (IsCharBoundary-end bytes))
+    go (inl lt) (inl inside) (inr within) =
+        IsUtf8-between bytes i j u (omega arith) (boundary-between bytes i u a (omega arith)) (boundary-between bytes j u b within)
+
+ending-ascii : (b : ℕ) → not (is_ending b) ≡ false → b < 128
+ending-ascii b h = grind (arith, nat_tests)
+
+-- a line that a text begins with
+pub utf8-line : (text : List ℕ) → IsUtf8 text → IsUtf8 (take (line_len text) text)
+utf8-line text u = go (cases_lt (line_len text) (length text))
+  where
+    go : (line_len text < length text) ⊎ (length text ≤ line_len text) → IsUtf8 (take (line_len text) text)
+    go (inl lt) =
+        let stops : not (is_ending (get_or text (line_len text) 0)) ≡ false = prefix_len_stops (λ b. not (is_ending b)) text 0 lt in
+        IsUtf8-take text (line_len text) u (IsCharBoundary-before_ascii text (line_len text) lt (ending-ascii _ stops))
+    go (inr le) = subst IsUtf8 (sym (take_all (line_len text) text le)) u
+
+-- what stands behind a byte of ASCII
+utf8-tail : (b : ℕ) (bytes : List ℕ) → IsUtf8 (b ∷ bytes) → b < 128 → IsUtf8 bytes
+utf8-tail b bytes u ascii = IsUtf8-drop (b ∷ bytes) 1 u (IsCharBoundary-after_ascii (b ∷ bytes) 0 u (omega arith) ascii)
+
+-- what stands behind a line, from its ending on
+utf8-ending : (text : List ℕ) → IsUtf8 text → IsUtf8 (drop (line_len text) text)
+utf8-ending text u = go (cases_lt (line_len text) (length text))
+  where
+    go : (line_len text < length text) ⊎ (length text ≤ line_len text) → IsUtf8 (drop (line_len text) text)
+    go (inl lt) =
+        let stops : not (is_ending (get_or text (line_len text) 0)) ≡ false = prefix_len_stops (λ b. not (is_ending b)) text 0 lt in
+        IsUtf8-drop text (line_len text) u (IsCharBoundary-before_ascii text (line_len text) lt (ending-ascii _ stops))
+    go (inr le) = subst IsUtf8 (sym (drop_all (line_len text) text le)) IsUtf8-nil
+
+-- what follows a line ending
+utf8-behind : (b : ℕ) (bytes : List ℕ) → is_ending b ≡ true → IsUtf8 (b ∷ bytes) → IsUtf8 (after_ending (b ∷ bytes))
+utf8-behind b bytes ending u =
+    let behind : IsUtf8 bytes = utf8-tail b bytes u (ending-ascii b (ap not ending)) in
+    go bytes behind (b == 13)
+  where
+    go : (bytes : List ℕ) → IsUtf8 bytes → (x : Bool) → IsUtf8 (cond (x && begins_with 10 bytes) (drop 1 bytes) bytes)
+    go bytes v false = v
+    go [] v true = v
+    go (c ∷ bytes) v true = by (c == 10) refl
+      where
+        by : (y : Bool) → (c == 10) ≡ y → IsUtf8 (cond y bytes (c ∷ bytes))
+        by false e = v
+        by true e = utf8-tail c bytes v (let ten : c ≡ 10 = eqb-true c 10 e in omega arith)
+
+-- a text keeps what it is without the spaces and tabs in front of it
+pub utf8-trim : (text : List ℕ) → IsUtf8 text → IsUtf8 (trim_start text)
+utf8-trim [] u = u
+utf8-trim (b ∷ bytes) u = go (is_white b) refl (utf8-trim bytes)
+  where
+    go : (x : Bool) → is_white b ≡ x → (IsUtf8 bytes → IsUtf8 (trim_start bytes)) → IsUtf8 (drop (cond x (1 + prefix_len is_white bytes) 0) (b ∷ bytes))
+    go false e trimmed = u
+    go true e trimmed =
+        let ascii : b < 128 = grind (arith, nat_tests) in
+        let one : 1 + prefix_len is_white bytes ≡ suc (prefix_len is_white bytes) = omega arith in
+        rw one (trimmed (utf8-tail b bytes u ascii))
+
+-- what is lent of some bytes as a text
+pub text-lent : {E : Type 0} (r : Result (Bor (List ℕ)) E) (d : Bor (List ℕ)) (bytes : List ℕ) (Q : E → Type 0) → MatchResult r (λ s. (s.now ≡ bytes) × IsUtf8 bytes) (λ e. ¬ (IsUtf8 bytes) × Q e) → IsUtf8 bytes → (result_unwrap_or r d).now ≡ bytes
+text-lent (Ok s) d bytes Q h u = h.0
+text-lent (Err e) d bytes Q h u = absurd (h.0 u)
+
+-- Lines.
+
+split-byte : (b : ℕ) (bytes : List ℕ) → is_ending b ≡ false → split_lines (b ∷ bytes) ≡ onto_first b (split_lines bytes)
+split-byte b bytes h = go (b == 10) (b == 13) h
+  where
+    go : (x y : Bool) → (x || y) ≡ false → cond (x || (y && not (begins_with 10 bytes))) ([] ∷ split_lines bytes) (cond (x || y) (split_lines bytes) (onto_first b (split_lines bytes))) ≡ onto_first b (split_lines bytes)
+    go false false h = refl
+    go false true h = cc
+    go true y h = cc
+
+-- a text that is read as its first bytes and what stands behind them: nothing, or the ending of its first line
+abbrev Splits : List ℕ → ℕ → List ℕ → Type 0
+Splits text k [] = split_lines text ≡ take k text ∷ []
+Splits text k (b ∷ bytes) = (is_ending b ≡ true) × (split_lines text ≡ take k text ∷ split_lines (after_ending (b ∷ bytes)))
+
+splits-inside : (c : ℕ) (bytes : List ℕ) (k : ℕ) (behind : List ℕ) → is_ending c ≡ false → Splits bytes k behind → Splits (c ∷ bytes) (suc k) behind
+splits-inside c bytes k [] e h = split-byte c bytes e ∙ ap (onto_first c) h
+splits-inside c bytes k (b ∷ behind) e h = (h.0, split-byte c bytes e ∙ ap (onto_first c) h.1)
+
+split-return : (bytes : List ℕ) → split_lines (13 ∷ bytes) ≡ [] ∷ split_lines (after_ending (13 ∷ bytes))
+split-return [] = refl
+split-return (d ∷ bytes) = by (d == 10) refl
+  where
+    by : (x : Bool) → (d == 10) ≡ x → split_lines (13 ∷ d ∷ bytes) ≡ [] ∷ split_lines (after_ending (13 ∷ d ∷ bytes))
+    by true e = subst (λ x. split_lines (13 ∷ x ∷ bytes) ≡ [] ∷ split_lines (after_ending (13 ∷ x ∷ bytes))) (sym (eqb-true d 10 e)) refl
+    by false e = subst (λ x. cond (not x) ([] ∷ split_lines (d ∷ bytes)) (split_lines (d ∷ bytes)) ≡ [] ∷ split_lines (cond x bytes (d ∷ bytes))) (sym e) refl
+
+split-ending : (c : ℕ) (bytes : List ℕ) → is_ending c ≡ true → split_lines (c ∷ bytes) ≡ [] ∷ split_lines (after_ending (c ∷ bytes))
+split-ending c bytes h = go (c == 10) (c == 13) refl refl
+  where
+    go : (x y : Bool) → (c == 10) ≡ x → (c == 13) ≡ y → split_lines (c ∷ bytes) ≡ [] ∷ split_lines (after_ending (c ∷ bytes))
+    go true y e f = subst (λ d. split_lines (d ∷ bytes) ≡ [] ∷ split_lines (after_ending (d ∷ bytes))) (sym (eqb-true c 10 e)) refl
+    go false true e f = subst (λ d. split_lines (d ∷ bytes) ≡ [] ∷ split_lines (after_ending (d ∷ bytes))) (sym (eqb-true c 13 f)) (split-return bytes)
+    go false false e f = absurd (true≢false (sym h ∙ ap (λ x. x || (c == 13)) e ∙ f))
+
+abbrev SplitsAt : List ℕ → ℕ → Type 0
+SplitsAt text k = Splits text k (drop k text)
+
+splits : (text : List ℕ) → SplitsAt text (line_len text)
+splits [] = refl
+splits (c ∷ bytes) = go (is_ending c) refl (splits bytes)
+  where
+    go : (x : Bool) → is_ending c ≡ x → SplitsAt bytes (line_len bytes) → SplitsAt (c ∷ bytes) (cond (not (is_ending c)) (1 + line_len bytes) 0)
+    go true e h = subst (λ x. SplitsAt (c ∷ bytes) (cond (not x) (1 + line_len bytes) 0)) (sym e) (e, split-ending c bytes e)
+    go false e h =
+        let next : suc (line_len bytes) ≡ 1 + line_len bytes = omega arith in
+        subst (λ x. SplitsAt (c ∷ bytes) (cond (not x) (1 + line_len bytes) 0)) (sym e)
+        (subst (SplitsAt (c ∷ bytes)) next (splits-inside c bytes (line_len bytes) (drop (line_len bytes) bytes) e h))
+
+-- One line of a paragraph's text, and those behind its ending.
+
+-- an ending behind it
+utf8-after : (text : List ℕ) (k : ℕ) (behind : List ℕ) → Splits text k behind → IsUtf8 behind → IsUtf8 (after_ending behind)
+utf8-after text k [] h u = u
+utf8-after text k (b ∷ bytes) h u = utf8-behind b bytes h.0 u
+
+split-next : (text : List ℕ) (k : ℕ) (behind : List ℕ) → Splits text k behind → (length behind == 0) ≡ false → split_lines text ≡ take k text ∷ split_lines (after_ending behind)
+split-next text k [] h some = absurd (true≢false some)
+split-next text k (b ∷ bytes) h some = h.1
+
+split-last : (text : List ℕ) (k : ℕ) (behind : List ℕ) → Splits text k behind → (length behind == 0) ≡ true → split_lines text ≡ take k text ∷ []
+split-last text k [] h none = h
+split-last text k (b ∷ bytes) h none = let some : ⊥ = omega (arith, eqb-true (length (b ∷ bytes)) 0 none) in absurd some
+
+-- a line is shown without the spaces and tabs in front of it
+shown-line : (left line text : List ℕ) (k : ℕ) → k ≡ line_len left → line ≡ take k left → IsUtf8 left → (IsUtf8 line → text ≡ trim_start line) → text ≡ trim_start (take (line_len left) left)
+shown-line left line text k ek eline u shows =
+    let same : line ≡ take (line_len left) left = eline ∙ ap (λ n. take n left) ek in
+    shows (subst IsUtf8 (sym same) (utf8-line left u)) ∙ ap trim_start same
+
+pub lines-next : (done next : List Entry) (left line ending left' text : List ℕ) (k : ℕ) →
+    k ≡ line_len left → line ≡ take k left → ending ≡ drop k left → (length ending == 0) ≡ false → left' ≡ after_ending ending →
+    IsUtf8 left → (IsUtf8 line → text ≡ trim_start line) → next ≡ done ++ entry_with 1 word.Line text ∷ [] →
+    IsUtf8 left' × (next ++ text_entries left' ≡ done ++ text_entries left)
+lines-next done next left line ending left' text k ek eline eending some eleft u shows enext =
+    let behind : ending ≡ drop (line_len left) left = eending ∙ ap (λ n. drop n left) ek in
+    let split : Splits left (line_len left) ending = subst (Splits left (line_len left)) (sym behind) (splits left) in
+    let first : text ≡ trim_start (take (line_len left) left) = shown-line left line text k ek eline u shows in
+    let all : split_lines left ≡ take (line_len left) left ∷ split_lines left' = split-next left (line_len left) ending split some ∙ ap (λ l. take (line_len left) left ∷ split_lines l) (sym eleft) in (
+      subst IsUtf8 (sym eleft) (utf8-after left (line_len left) ending split (subst IsUtf8 (sym behind) (utf8-ending left u))),
+      ap (λ es. es ++ text_entries left') enext
+          ∙ append_assoc done (entry_with 1 word.Line text ∷ []) (text_entries left')
+          ∙ ap (λ t. done ++ entry_with 1 word.Line t ∷ text_entries left') first
+          ∙ sym (ap (λ ls. done ++ entries 1 word.Line (trim_each ls)) all),
+    )
+
+pub lines-last : (done next : List Entry) (left line ending text : List ℕ) (k : ℕ) →
+    k ≡ line_len left → line ≡ take k left → ending ≡ drop k left → (length ending == 0) ≡ true →
+    IsUtf8 left → (IsUtf8 line → text ≡ trim_start line) → next ≡ done ++ entry_with 1 word.Line text ∷ [] →
+    next ≡ done ++ text_entries left
+lines-last done next left line ending text k ek eline eending none u shows enext =
+    let behind : ending ≡ drop (line_len left) left = eending ∙ ap (λ n. drop n left) ek in
+    let split : Splits left (line_len left) ending = subst (Splits left (line_len left)) (sym behind) (splits left) in
+    enext
+    ∙ ap (λ t. done ++ entry_with 1 word.Line t ∷ []) (shown-line left line text k ek eline u shows)
+    ∙ sym (ap (λ ls. done ++ entries 1 word.Line (trim_each ls)) (split-last left (line_len left) ending split none))
