@@ -1,7 +1,7 @@
 -- What a text is read as, where only breaks are on: its events nest, and spell its tree.
 use Rattle.std.proofs.Common.{◌≡◌, ◌^◌, ◌<◌, ◌⊎◌, ℕ, Bool, true, false, suc, List, [], ◌∷◌, length, refl, ap, sym, ◌∙◌, subst}
 use Rattle.std.specs.Prelude.{inl, inr}
-use Rattle.std.specs.List.{list_all}
+use Rattle.std.specs.Str.{IsUtf8}
 use Rattle.md_engine.specs.declared.configuration.ParseOptions.{ParseOptions}
 use Rattle.md_engine.specs.declared.event.Content.{Content}
 use Rattle.md_engine.specs.declared.event.Content.TheVariants as content
@@ -18,9 +18,8 @@ use Rattle.md_seam.specs.Preamble.{has_mark}
 use Rattle.md_seam.specs.Spelled.{spelled}
 use Rattle.md_seam.specs.Substituted.{Readings, Substituted}
 use Rattle.md_seam.specs.Texts.{split_lines}
-use Rattle.markdown_blocks.specs.Between.{is_between}
 use Rattle.markdown_blocks.specs.FlowReads.{FlowReads, ReadsContent, ReadsNone, text_cells, text_rows, text_setting}
-use Rattle.markdown_blocks.specs.Outlined.{has_plain_name, is_whole}
+use Rattle.markdown_blocks.specs.Outlined.{IsOutlined}
 use Rattle.markdown_blocks.specs.Parsed.{IsBuilt}
 use Rattle.markdown_blocks.specs.Resolved.{resolved_as}
 use Rattle.markdown_blocks.specs.Rows.{Row, groups, groups_events, rows_events}
@@ -28,8 +27,8 @@ use Rattle.markdown_blocks.proofs.BetweenRows.{between-rows}
 use Rattle.markdown_blocks.proofs.GroupLemmas.{EachRow, ReadsText, groups-read, singles-read}
 use Rattle.markdown_blocks.proofs.JoinedLemmas.{EachNoContent, rows_at-no_content}
 use Rattle.markdown_blocks.proofs.NestedRows.{nested-rows}
-use Rattle.markdown_blocks.proofs.OutlinedRows.{outlined-rows}
 use Rattle.markdown_blocks.proofs.ParagraphReads.{content-reads}
+use Rattle.markdown_blocks.proofs.PlainEvents.{groups-outlined}
 use Rattle.markdown_blocks.proofs.RowFacts.{AreRows}
 use Rattle.markdown_blocks.proofs.RowLemmas.{fresh-rows}
 use Rattle.markdown_blocks.proofs.SpelledRows.{spelled-rows}
@@ -78,21 +77,15 @@ events-are options bytes built small found new flow wants reads wanted text even
 -- What is known of these events.
 pub record Reads (options : ParseOptions) (bytes : List ℕ) (events : List Event) : Type 0 where
   pub nested : Nested events
-  pub between : list_all (λ (e : Event). is_between bytes e.point.index) events ≡ true
-  pub names : list_all has_plain_name events ≡ true
-  pub whole : list_all is_whole events ≡ true
+  pub outlined : IsOutlined events bytes
   pub tree : has_mark bytes ≡ false → spelled events bytes ≡ tree options bytes
 
-pub text-reads : (options : ParseOptions) (bytes : List ℕ) → IsBuilt options → length bytes < 2 ^ 61 → (events : List Event) → events ≡ groups_events bytes (groups (text_rows options bytes)) → Reads options bytes events
-text-reads options bytes built small events is =
+pub text-reads : (options : ParseOptions) (bytes : List ℕ) → IsBuilt options → IsUtf8 bytes → length bytes < 2 ^ 61 → (events : List Event) → events ≡ groups_events bytes (groups (text_rows options bytes)) → Reads options bytes events
+text-reads options bytes built utf8 small events is =
     let rows : List Row = text_rows options bytes in
     let are : AreRows options bytes first_point (split_lines bytes) rows = text-are options bytes built small in
-    let outlined : (list_all has_plain_name (groups_events bytes (groups rows)) ≡ true) × (list_all is_whole (groups_events bytes (groups rows)) ≡ true) =
-    outlined-rows options bytes first_point (split_lines bytes) rows are in
     subst (Reads options bytes) (sym is) (record {
       nested = nested-rows options bytes (split_lines bytes) rows are;
-      between = between-rows options bytes (split_lines bytes) rows are;
-      names = outlined.0;
-      whole = outlined.1;
+      outlined = groups-outlined options bytes first_point (split_lines bytes) rows are utf8 (between-rows options bytes (split_lines bytes) rows are);
       tree = λ no_mark. spelled-rows options bytes first_point (split_lines bytes) rows are ∙ sym (tree-sections options bytes built no_mark);
     })

@@ -1,9 +1,14 @@
 -- What a parse asks for, and what it gives.
-use Rattle.std.specs.Prelude.{◌≡◌, ℕ, ◌-◌, ◌/◌, ◌^◌, ◌≤◌, false, List, [], length}
+use Rattle.std.specs.Prelude.{◌≡◌, ℕ, ◌-◌, ◌/◌, ◌^◌, ◌≤◌, false, IsTrue, List, [], length}
 use Rattle.md_engine.specs.declared.configuration.ParseOptions.{ParseOptions}
 use Rattle.md_engine.specs.declared.event.Event.{Event}
 use Rattle.md_engine.specs.declared.parse_state.ParseState.{ParseState}
-use Rattle.md_seam.specs.Parts.{ArePlaced}
+use Rattle.md_seam.specs.Meaning.{tree}
+use Rattle.md_seam.specs.Nested.{Nested}
+use Rattle.md_seam.specs.Places.{are_placed}
+use Rattle.md_seam.specs.Preamble.{has_mark}
+use Rattle.md_seam.specs.Spelled.{spelled}
+use Rattle.markdown_blocks.specs.Outlined.{IsOutlined}
 
 -- a text that points have room for: at most an eighth of the greatest `usize`
 abbrev pub IsSmall : List ℕ → Type 0
@@ -29,10 +34,17 @@ pub record IsBuilt (options : ParseOptions) : Type 0 where
   pub mdx_jsx_flow : options.constructs.mdx_jsx_flow ≡ false
   pub mdx_jsx_text : options.constructs.mdx_jsx_text ≡ false
 
--- the events of a text stand at its points, and it defines no label
+-- What is known of a text that was read: its events nest, stand at its points, and spell its tree; and it defines no label. A
+-- byte order mark is not yet told from the text.
 pub record IsParsed (text : List ℕ) (options : ParseOptions) (events : List Event) (state : ParseState) : Type 0 where
   pub bytes : state.bytes.now ≡ text
   pub options_are : state.options.now ≡ options
-  pub placed : ArePlaced text events
+  -- enters and exits match like brackets, and their points never go back
+  pub nested : Nested events
+  -- each point is one of the text, with the right line and column
+  pub placed : IsTrue (are_placed text events)
+  pub tree : has_mark text ≡ false → spelled events text ≡ tree options text
+  -- `outline` shows that tree
+  pub outlined : IsOutlined events text
   pub definitions : state.definitions.items ≡ []
   pub footnotes : state.gfm_footnote_definitions.items ≡ []
