@@ -2,6 +2,9 @@
 use Rattle.std.specs.Prelude.{◌≡◌, ℕ, false, List, []}
 use Rattle.md_engine.specs.declared.configuration.ParseOptions.{ParseOptions}
 use Rattle.md_program.specs.Listing.{Listing}
+use Rattle.md_seam.specs.Meaning.{tree}
+use Rattle.md_seam.specs.Outline.{outline}
+use Rattle.md_seam.specs.Preamble.{has_mark}
 
 -- what is asked for, as far as it is there: breaks alone
 abbrev pub built_from : ParseOptions → ParseOptions
@@ -28,7 +31,9 @@ built_from options = record {
   };
 }
 
--- the labels of a text in its listing: there are no definitions, so none
+-- The listing of a text: the outline of its tree, unless it begins with a byte order mark, which is not yet told from the text;
+-- there are no definitions, so no labels.
 pub record Outlines (text : List ℕ) (options : ParseOptions) (listing : Listing) : Type 0 where
+  pub lines : has_mark text ≡ false → listing.lines ≡ outline 0 (tree options text)
   pub definitions : listing.definitions ≡ []
   pub footnotes : listing.footnotes ≡ []

@@ -1,10 +1,10 @@
 -- What an outline shows: the blocks that the events of paragraphs and breaks spell out.
-use Rattle.std.specs.Prelude.{◌≡◌, ℕ, Bool, true, false, ◌||◌, ◌==◌, not, List, map}
+use Rattle.std.specs.Prelude.{◌≡◌, ℕ, Bool, true, false, ◌||◌, ◌==◌, not, List}
 use Rattle.std.specs.List.{list_all}
 use Rattle.std.specs.Str.{IsUtf8}
 use Rattle.md_engine.specs.declared.event.Event.{Event}
 use Rattle.md_seam.specs.declared.outline.OutlineLine.{OutlineLine}
-use Rattle.md_seam.specs.Outline.{Entry, outline}
+use Rattle.md_seam.specs.Outline.{entries_of, outline}
 use Rattle.md_seam.specs.Spelled.{AsParagraph, IsEnding, IsQuiet, OfBreak, Opens, Role, Tells, role, spelled}
 use Rattle.markdown_blocks.specs.Between.{is_between}
 
@@ -34,13 +34,6 @@ pub record IsOutlined (events : List Event) (bytes : List ℕ) : Type 0 where
   pub text : IsUtf8 bytes
   pub between : list_all (λ (e : Event). is_between bytes e.point.index) events ≡ true
   pub whole : list_all is_whole events ≡ true
-
--- a line of the outline, without its place in the memory
-abbrev pub entry_of : OutlineLine → Entry
-entry_of line = record { depth = line.depth; word = line.word; spaces = line.spaces; text = line.text.now }
-
-abbrev pub entries_of : List OutlineLine → List Entry
-entries_of lines = map entry_of lines
 
 -- the lines are those of the tree that the events spell out
 abbrev pub Outlines : List Event → List ℕ → List OutlineLine → Type 0

@@ -12,7 +12,7 @@ use Rattle.md_seam.specs.Outline.{Entry, block_entries, entries, entry}
 use Rattle.md_seam.specs.Texts.{split_lines, trim_each}
 use Rattle.md_seam.specs.Tree.{Break}
 use Rattle.markdown_blocks.specs.Between.{is_between}
-use Rattle.markdown_blocks.specs.Outlined.{entries_of}
+use Rattle.md_seam.specs.Outline.{entries_of}
 use Rattle.markdown_blocks.specs.declared.outline.Reading.{Reading}
 
 -- Lines of a text.

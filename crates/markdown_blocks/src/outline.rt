@@ -3,10 +3,10 @@
 ghost use Rattle.std.specs.Prelude.{◌≡◌, ◌≤◌, true, ◌-◌, ◌∷◌, [], ◌++◌, length, slice_range, IfOk, OnOk};
 ghost use Rattle.std.specs.List.{prefix_len};
 ghost use Rattle.std.specs.Str.{IsUtf8};
-ghost use Rattle.md_seam.specs.Outline.{entry_with};
+ghost use Rattle.md_seam.specs.Outline.{entries_of, entry_with};
 ghost use Rattle.md_seam.specs.Rest.{is_white, trim_start};
 ghost use Rattle.markdown_blocks.specs.Between.{is_between};
-ghost use Rattle.markdown_blocks.specs.Outlined.{Outlines, entries_of};
+ghost use Rattle.markdown_blocks.specs.Outlined.{Outlines};
 ghost use Rattle.markdown_blocks.specs.Sketched.{BeginsBetween, after_ending, break_ended, line_len, sketch_by, sketch_of, text_ended, text_entries};
 
 use md_engine::event::{Event, Kind, Name};

@@ -1,5 +1,6 @@
 -- The outline of a tree: its lines from the first to the last.
 use Rattle.std.specs.Prelude.{ℕ, ◌+◌, List, [], ◌∷◌, ◌++◌, map, length, Option, Some, None}
+use Rattle.md_seam.specs.declared.outline.OutlineLine.{OutlineLine}
 use Rattle.md_seam.specs.declared.outline.Word.{Word}
 use Rattle.md_seam.specs.declared.outline.Word.TheVariants as word
 use Rattle.md_seam.specs.Tree.{Line, Block, Frontmatter, Quote, ListOf, Item, Footnote, Heading, Break, Code, Html, Fence, Math, Definition, Paragraph, Table, Blocks, End, More}
@@ -10,6 +11,13 @@ pub record Entry : Type 0 where
   pub word : Word
   pub spaces : ℕ
   pub text : List ℕ
+
+-- a line of the outline, without its place in the memory
+abbrev pub entry_of : OutlineLine → Entry
+entry_of line = record { depth = line.depth; word = line.word; spaces = line.spaces; text = line.text.now }
+
+abbrev pub entries_of : List OutlineLine → List Entry
+entries_of lines = map entry_of lines
 
 -- a word without text
 abbrev pub entry : ℕ → Word → Entry

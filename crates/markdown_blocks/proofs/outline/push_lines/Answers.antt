@@ -1,5 +1,5 @@
 use Rattle.std.proofs.Common.{◌∙◌, sym}
-use Rattle.markdown_blocks.specs.Outlined.{entries_of}
+use Rattle.md_seam.specs.Outline.{entries_of}
 use Rattle.markdown_blocks.proofs.TextCuts.{lines-last, lines-next}
 use Rattle.markdown_blocks.proofs.outline.push_lines.Goals as goal
 

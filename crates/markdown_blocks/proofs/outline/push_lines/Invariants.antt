@@ -1,6 +1,6 @@
 use Rattle.std.proofs.Common.{◌≡◌, ◌++◌, length}
 use Rattle.std.specs.Str.{IsUtf8}
-use Rattle.markdown_blocks.specs.Outlined.{entries_of}
+use Rattle.md_seam.specs.Outline.{entries_of}
 use Rattle.markdown_blocks.specs.Sketched.{text_entries}
 use Rattle.markdown_blocks.proofs.outline.push_lines.Given as goal
 

@@ -1,5 +1,5 @@
 use Rattle.std.proofs.Common.{ap, None}
-use Rattle.markdown_blocks.specs.Outlined.{entries_of}
+use Rattle.md_seam.specs.Outline.{entries_of}
 use Rattle.markdown_blocks.specs.Sketched.{sketch_of}
 use Rattle.markdown_blocks.proofs.Sketches.{on_ok-map, text-end}
 use Rattle.markdown_blocks.proofs.outline.Reading.end_text.Goals as goal
