@@ -61,7 +61,7 @@ line-next bytes chunk =
     )
 
 -- it is no longer than the chunk
-line-length : (bytes : List ℕ) (chunk : Chunk) → length (without_ending (chunk_text bytes chunk)) ≤ chunk.after.index - chunk.first.index
+pub line-length : (bytes : List ℕ) (chunk : Chunk) → length (without_ending (chunk_text bytes chunk)) ≤ chunk.after.index - chunk.first.index
 line-length bytes chunk =
     let size : ℕ = chunk.after.index - chunk.first.index in
     let behind : List ℕ = drop chunk.first.index bytes in

@@ -25,13 +25,13 @@ loop-at-init g c = record {
 
 pub loop-at-preserved-then-at-events : goal.loop-at-preserved-then-at-events
 loop-at-preserved-then-at-events g c = record {
-    all =
+  all =
       placed-place (g.R.Reader.text c.args.reader.now) _ _ _ _ _ c.in_ok-place-in-Some.ensures.placed c.loop-at.invariant.all c.in_ok-found-in-Some.ensures.placed;
-    found = rw c.place.ensures.same c.in_ok-found-in-Some.ensures.placed;
-    substituted =
+  found = rw c.place.ensures.same c.in_ok-found-in-Some.ensures.placed;
+  substituted =
       let begun = c.in_ok-found-in-Some.ensures.begun in
       leads-part (g.R.Reader.wants c.args.reader.now) (g.R.Reader.reads_as c.args.reader.now) c.args.events.now _ _ _ _ _ _ _ _ _ c.loop-at.at _ c.in-Some.content c.if-at-events.true (take_rest c.args.events.now c.loop-at.at) c.in-Some.ensures begun c.in_ok-place-in-Some.ensures.chunks c.in_ok-place-in-Some.ensures.placed c.in_ok-place-in-Some.ensures.left c.loop-at.invariant.substituted;
-  }
+}
 
 pub loop-at-preserved : goal.loop-at-preserved
 loop-at-preserved g c =
