@@ -30,17 +30,17 @@ same-trans p q r h k =
     let next : (q.index == r.index ≡ true) × (q.vs == r.vs ≡ true) = and_parts (q.index == r.index) (q.vs == r.vs) k in
     and_from _ _ (eq-eqb p.index r.index (eqb-true _ _ first.0 ∙ eqb-true _ _ next.0)) (eq-eqb p.vs r.vs (eqb-true _ _ first.1 ∙ eqb-true _ _ next.1))
 
-past-index : (text : List ℕ) (p : Point) → (past_text text p).index ≡ p.index + length text
+pub past-index : (text : List ℕ) (p : Point) → (past_text text p).index ≡ p.index + length text
 past-index [] p = omega arith
 past-index (b ∷ text) p = let h : (past_text text (past_byte b p)).index ≡ (p.index + 1) + length text = past-index text (past_byte b p) in omega arith
 
-past-vs : (b : ℕ) (text : List ℕ) (p : Point) → (past_text (b ∷ text) p).vs ≡ 0
+pub past-vs : (b : ℕ) (text : List ℕ) (p : Point) → (past_text (b ∷ text) p).vs ≡ 0
 past-vs b [] p = refl
 past-vs b (c ∷ text) p = past-vs c text (past_byte b p)
 
 -- The line of a chunk.
 
-line-no_ending : (text : List ℕ) → NoEnding (without_ending text)
+pub line-no_ending : (text : List ℕ) → NoEnding (without_ending text)
 line-no_ending [] = tt
 line-no_ending (b ∷ text) = subst NoEnding (sym (take_while-cons (λ (b : ℕ). not (is_ending b)) b text)) (go (is_ending b) refl (line-no_ending text))
   where
@@ -61,7 +61,7 @@ line-next bytes chunk =
     )
 
 -- it is no longer than the chunk
-line-length : (bytes : List ℕ) (chunk : Chunk) → length (without_ending (chunk_text bytes chunk)) ≤ chunk.after.index - chunk.first.index
+pub line-length : (bytes : List ℕ) (chunk : Chunk) → length (without_ending (chunk_text bytes chunk)) ≤ chunk.after.index - chunk.first.index
 line-length bytes chunk =
     let size : ℕ = chunk.after.index - chunk.first.index in
     let behind : List ℕ = drop chunk.first.index bytes in

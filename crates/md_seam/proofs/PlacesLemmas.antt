@@ -21,7 +21,7 @@ onto_last b (line ∷ []) = (line ++ b ∷ []) ∷ []
 onto_last b (line ∷ next ∷ lines) = line ∷ onto_last b (next ∷ lines)
 
 -- there is a line
-abbrev Some_line : List (List ℕ) → Type 0
+abbrev pub Some_line : List (List ℕ) → Type 0
 Some_line [] = ⊥
 Some_line (line ∷ lines) = Unit {0}
 
@@ -29,7 +29,7 @@ some-onto : (b : ℕ) (lines : List (List ℕ)) → Some_line (onto_first b line
 some-onto b [] = tt
 some-onto b (line ∷ lines) = tt
 
-some-split : (text : List ℕ) → Some_line (split_lines text)
+pub some-split : (text : List ℕ) → Some_line (split_lines text)
 some-split [] = tt
 some-split (b ∷ bs) = go (ends_line b bs) (is_ending b) (some-split bs)
   where

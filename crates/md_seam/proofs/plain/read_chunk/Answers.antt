@@ -1,11 +1,12 @@
-use Rattle.std.proofs.Common.{ap, arith}
-use Rattle.md_engine.specs.World.{World, world}
-use Rattle.md_engine.specs.Scheme.{cells_left}
-use Rattle.md_engine.proofs.Points.{cells-fall}
+use Rattle.md_engine.specs.World.{world}
+use Rattle.md_seam.proofs.PlainSteps.{chunk-ending, chunk-line}
 use Rattle.md_seam.proofs.plain.read_chunk.Goals as goal
 
-pub loop-tokenizer-smaller : goal.loop-tokenizer-smaller
-loop-tokenizer-smaller c =
-    let falls = cells-fall (record (world c.loop-tokenizer.tokenizer).setting { limit = c.args.chunk.now.after.index }) c.loop-tokenizer.tokenizer.point c.loop-tokenizer-test.true in
-    let moved = ap (λ (w : World). w.point) c.consume.ensures in
-    rw moved (omega (arith, falls))
+pub returns-in_ok-exit-clause-events : goal.returns-in_ok-exit-clause-events
+returns-in_ok-exit-clause-events c = λ one whole.
+    chunk-ending (record (world c.args.tokenizer.now) { point = c.args.chunk.now.first }) (world c.read_line.new.tokenizer) (world c.enter.new.self) (world c.consume.new.self) (world c.exit.new.self) c.args.chunk.now
+    c.requires.skips c.requires.chunk one whole c.in_ok-read_line.ensures c.read_line.new.tokenizer.sound.placed c.if-tokenizer-end.true c.in_ok-enter.ensures c.consume.ensures c.in_ok-exit.ensures
+
+pub returns-else-tokenizer-end-clause-events : goal.returns-else-tokenizer-end-clause-events
+returns-else-tokenizer-end-clause-events c = λ one whole.
+    chunk-line (record (world c.args.tokenizer.now) { point = c.args.chunk.now.first }) (world c.read_line.new.tokenizer) c.args.chunk.now c.requires.chunk one whole c.in_ok-read_line.ensures c.if-tokenizer-end.false
