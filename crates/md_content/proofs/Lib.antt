@@ -3,3 +3,4 @@ pub mod States
 pub mod ContentSteps
 pub mod Settings
 pub mod ContentRuns
+pub mod JoinedLemmas

@@ -5,7 +5,7 @@
 // Each line first stands as one linked `Content`. When all lines are known, those that follow one another are joined and
 // read as one.
 
-ghost use Rattle.std.specs.Prelude.{◌≡◌, ◌≢◌, ℕ, ◌+◌, ◌<◌, ◌≤◌, true, IfOk, List, [], length};
+ghost use Rattle.std.specs.Prelude.{◌≡◌, ◌≢◌, ℕ, ◌+◌, ◌<◌, ◌&&◌, true, IfOk, List, [], length, drop};
 ghost use Rattle.std.specs.Option.{option_map};
 ghost use Rattle.md_engine.specs.Found.{found_in};
 ghost use Rattle.md_engine.specs.World.{looks, world};
@@ -13,9 +13,11 @@ ghost use Rattle.md_engine.specs.declared.state.Name.{Name as StateName};
 ghost use Rattle.md_engine.specs.declared.state.State.{State};
 ghost use Rattle.md_content.specs.States.{content_went};
 ghost use Rattle.md_content.specs.Chunks.{chunk_inside_code, chunk_start_went};
+ghost use Rattle.md_content.specs.Joined.{content_behind, goes_on, is_content, is_enter, joined, joined_with};
 ghost use Rattle.md_content.specs.Resolves.{Resolves, is_all_read};
 ghost use Rattle.md_seam.specs.Parts.{ArePlaced};
 ghost use Rattle.md_seam.specs.Spaces.{ends_line};
+ghost use Rattle.md_seam.specs.Substituted.{is_prefix};
 ghost use Rattle.md_seam.specs.Went.{IsAt, NeedsNothing};
 
 use crate::paragraph;
@@ -29,7 +31,7 @@ use md_engine::subtokenize::Subresult;
 use md_engine::table::{Table, flush, push};
 use md_engine::tokenizer::Tokenizer;
 use md_seam::inline::Chunk;
-use md_seam::subtokenize::{Reader, is_prefix, subtokenize};
+use md_seam::subtokenize::{Reader, subtokenize};
 use std::alloc::Global;
 
 /// Before a line.
@@ -152,34 +154,55 @@ impl Reader for ContentReader<'_> {
 }
 
 /// Whether the part that begins here is a line of content.
-fn begins_line(event: &Event) -> bool {
-    event.kind == Kind::Enter && event.name == Name::Content
+fn begins_line(event: &Event) -> bool
+    ensures { result ≡ is_enter event.now.kind && is_content event.now.name }
+{
+    matches!(event.kind, Kind::Enter) && matches!(event.name, Name::Content)
 }
 
-/// Whether a line of content that ends before `at` goes on: its ending stands at `at`, and behind the prefixes of the next
-/// line a line of content.
-fn goes_on(events: &[Event], at: usize) -> bool
-    requires { at ≤ length events.now }
-    ensures { result ≡ true → at + 2 < length events.now }
+fn is_prefix(name: Name) -> bool
+    ensures { result ≡ is_prefix name }
 {
-    if at + 2 >= events.len() || events[at].name != Name::LineEnding {
-        return false;
+    matches!(
+        name,
+        Name::SpaceOrTab | Name::BlockQuotePrefix | Name::BlockQuoteMarker
+    )
+}
+
+/// Whether a line of content begins behind container prefixes.
+fn begins_behind(events: &[Event]) -> bool
+    ensures { result ≡ content_behind events.now }
+{
+    for event in events {
+        if !is_prefix(event.name) {
+            return begins_line(event);
+        }
     }
-    let mut next = at + 2;
-    while next < events.len() && is_prefix(events[next].name) {
-        next += 1;
-    }
-    next < events.len() && begins_line(&events[next])
+    false
+}
+
+/// Whether a line of content that ends before these events goes on: its ending stands first, and behind it and the prefixes
+/// of the next line a line of content.
+fn goes_on(events: &[Event]) -> bool
+    ensures value { result ≡ goes_on events.now }
+    ensures within { result ≡ true → 2 < length events.now }
+{
+    events.len() > 2
+        && matches!(events[0].name, Name::LineEnding)
+        && begins_behind(&events[2..])
 }
 
 /// The last of the events that are joined with the one at `at`: the end of a line of content that goes on takes its ending.
 fn joined_to(events: &[Event], at: usize) -> usize
     requires { at < length events.now }
-    ensures from { at ≤ result }
+    ensures value { result ≡ at + joined_with (drop at events.now) }
     ensures within { result < length events.now }
 {
     let event = events[at];
-    if event.kind == Kind::Exit && event.name == Name::Content && goes_on(events, at + 1) {
+    if matches!(event.kind, Kind::Exit)
+        && matches!(event.name, Name::Content)
+        && goes_on(&events[at + 1..])
+    {
         at + 2
     } else {
         at
@@ -188,9 +211,10 @@ fn joined_to(events: &[Event], at: usize) -> usize
 
 /// The events with the ending of each line of content that goes on in that line.
 fn join(alloc: Global, events: &[Event]) -> Result<Vec<Event>, Message>
-    ensures { IfOk result (λ joined. (bytes : List ℕ) → ArePlaced bytes events.now → ArePlaced bytes joined.items) }
+    ensures placed { IfOk result (λ all. (bytes : List ℕ) → ArePlaced bytes events.now → ArePlaced bytes all.items) }
+    ensures joined { IfOk result (λ all. all.items ≡ joined events.now) }
 {
-    let mut joined = Vec::new(alloc);
+    let mut all = Vec::new(alloc);
     let mut at = 0;
     while at < events.len() {
         let last = joined_to(events, at);
@@ -198,12 +222,12 @@ fn join(alloc: Global, events: &[Event]) -> Result<Vec<Event>, Message>
             point: events[last].point,
             ..events[at]
         };
-        if joined.push(event).is_err() {
+        if all.push(event).is_err() {
             return Err(Message);
         }
         at = last + 1;
     }
-    Ok(joined)
+    Ok(all)
 }
 
 /// Whether no part is left unread.
