@@ -4,3 +4,4 @@ pub mod ContentSteps
 pub mod Settings
 pub mod ContentRuns
 pub mod JoinedLemmas
+pub mod ContentReadsLemmas

@@ -13,9 +13,10 @@ ghost use Rattle.md_engine.specs.declared.state.Name.{Name as StateName};
 ghost use Rattle.md_engine.specs.declared.state.State.{State};
 ghost use Rattle.md_content.specs.States.{content_went};
 ghost use Rattle.md_content.specs.Chunks.{chunk_inside_code, chunk_start_went};
+ghost use Rattle.md_content.specs.ContentReads.{content_events};
 ghost use Rattle.md_content.specs.Joined.{content_behind, goes_on, is_content, is_enter, joined, joined_with};
 ghost use Rattle.md_content.specs.Resolves.{Resolves, is_all_read};
-ghost use Rattle.md_seam.specs.Parts.{ArePlaced};
+ghost use Rattle.md_seam.specs.Parts.{AreChunks, ArePlaced};
 ghost use Rattle.md_seam.specs.Spaces.{ends_line};
 ghost use Rattle.md_seam.specs.Substituted.{is_prefix};
 ghost use Rattle.md_seam.specs.Went.{IsAt, NeedsNothing};
@@ -138,6 +139,17 @@ impl Reader for ContentReader<'_> {
         _content: Content,
         chunks: &[Chunk],
     ) -> Result<Vec<Event>, Message> {
+        self.read_part(alloc, chunks)
+    }
+}
+
+impl ContentReader<'_> {
+    /// The events of a part that stands in these chunks: a paragraph over them.
+    fn read_part(&self, alloc: Global, chunks: &[Chunk]) -> Result<Vec<Event>, Message>
+        requires { AreChunks self.now.bytes.now chunks.now }
+        ensures placed { IfOk result (λ events. ArePlaced self.now.bytes.now events.items) }
+        ensures events { IfOk result (λ events. events.items ≡ content_events self.now.bytes.now self.now.options.now chunks.now) }
+    {
         let mut tokenizer = Tokenizer::new(alloc, chunks[0].first, self.bytes, self.options);
         for chunk in chunks {
             tokenizer.define_skip(chunk.first)?;
