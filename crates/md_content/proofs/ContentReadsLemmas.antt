@@ -43,7 +43,7 @@ pub small-at : (bytes : List ℕ) (chunks : List Chunk) (i : ℕ) (d : Chunk) �
 small-at bytes chunks i d are lt = let h = (are.each i d lt).after in omega (arith, h.index, h.sized)
 
 -- skips move the point, and nothing else but themselves
-skipping-same : (w : World) (chunks : List Chunk) → skipping_all w chunks ≡ record w { setting = record w.setting { skips = (skipping_all w chunks).setting.skips }; point = (skipping_all w chunks).point }
+pub skipping-same : (w : World) (chunks : List Chunk) → skipping_all w chunks ≡ record w { setting = record w.setting { skips = (skipping_all w chunks).setting.skips }; point = (skipping_all w chunks).point }
 skipping-same w [] = refl
 skipping-same w (chunk ∷ chunks) = skipping-same (skipping w chunk.first) chunks
 
