@@ -6,3 +6,5 @@ pub mod FlowMeans
 pub mod FlowRuns
 pub mod FlowEnds
 pub mod RowFacts
+pub mod FeedLines
+pub mod LineKinds
