@@ -8,3 +8,6 @@ pub mod FlowEnds
 pub mod RowFacts
 pub mod FeedLines
 pub mod LineKinds
+pub mod SubstitutedLemmas
+pub mod JoinedLemmas
+pub mod GroupLemmas

@@ -5,3 +5,4 @@ pub mod Resolved
 pub mod FlowRule
 pub mod Rows
 pub mod Sections
+pub mod Unread

@@ -1,0 +1,38 @@
+-- The events of a text where only breaks are on, before all its parts are read.
+use Rattle.std.specs.Prelude.{List, [], ◌∷◌, ◌++◌}
+use Rattle.md_engine.specs.declared.event.Event.{Event}
+use Rattle.md_engine.specs.declared.event.Link.{Link}
+use Rattle.md_engine.specs.declared.event.Name.{Name}
+use Rattle.md_engine.specs.declared.event.Name.TheVariants as n
+use Rattle.md_content.specs.ChunkRule.{enter_link}
+use Rattle.md_content.specs.Chunks.{content_link}
+use Rattle.md_content.specs.Paragraph.{text_link}
+use Rattle.md_seam.specs.declared.inline.Chunk.{Chunk}
+use Rattle.md_seam.specs.Nested.{around, exit}
+use Rattle.markdown_blocks.specs.Rows.{Group, Lines, Row, Single, chunks_of, ending_events, last_row, row_events}
+
+-- the chunks of a part that is not read yet
+abbrev pub linked : Name → Link → List Chunk → List Event
+linked name link [] = []
+linked name link (chunk ∷ chunks) = enter_link name chunk.first link ∷ exit name chunk.after ∷ linked name link chunks
+
+-- Lines of text that follow one another, before their content is read.
+abbrev pub joined_group : Group → List Event
+joined_group (Single row) = row_events row
+joined_group (Lines row rows) = linked n.Content content_link (chunks_of row rows) ++ ending_events n.LineEnding (last_row row rows)
+
+abbrev pub joined_groups : List Group → List Event
+joined_groups [] = []
+joined_groups (group ∷ groups) = joined_group group ++ joined_groups groups
+
+-- Paragraphs, before their text is read.
+abbrev pub unread_paragraph : Row → List Row → List Event
+unread_paragraph row rows = around n.Paragraph row.first (last_row row rows).end (linked n.Data text_link (chunks_of row rows))
+
+abbrev pub unread_group : Group → List Event
+unread_group (Single row) = row_events row
+unread_group (Lines row rows) = unread_paragraph row rows ++ ending_events n.LineEnding (last_row row rows)
+
+abbrev pub unread_groups : List Group → List Event
+unread_groups [] = []
+unread_groups (group ∷ groups) = unread_group group ++ unread_groups groups
