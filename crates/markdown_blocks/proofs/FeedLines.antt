@@ -421,6 +421,8 @@ is-ending bytes ending rest p e h =
       in_text = omega arith;
       before = subst (EndsBefore ending) (sym (drop-past bytes p.index (ending_bytes ending) rest e)) h;
       whole = refl;
+      line = refl;
+      column = refl;
     }
 
 -- behind a piece of a line

@@ -11,3 +11,4 @@ pub mod LineKinds
 pub mod SubstitutedLemmas
 pub mod JoinedLemmas
 pub mod GroupLemmas
+pub mod ParagraphReads

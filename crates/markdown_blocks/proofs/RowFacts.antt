@@ -20,6 +20,7 @@ pub record IsRow (options : ParseOptions) (bytes line : List ℕ) (row : Row) : 
   pub size : row.end.index ≡ row.first.index + length line
   pub end : row.end ≡ past_text line row.first
   pub first_whole : row.first.vs ≡ 0
+  pub first_column : 1 ≤ row.first.column
   pub end_whole : row.end.vs ≡ 0
   -- what stands inside
   pub quiet : Roles Quiet row.inside
@@ -36,6 +37,9 @@ pub record IsEnding (bytes : List ℕ) (p q : Point) : Type 0 where
   pub in_text : q.index ≤ length bytes
   pub before : EndsBefore ending (drop q.index bytes)
   pub whole : q.vs ≡ 0
+  -- a line begins there
+  pub line : q.line ≡ p.line + 1
+  pub column : q.column ≡ 1
 
 -- these lines, from this point to the end of the text
 abbrev pub AreRows : ParseOptions → List ℕ → Point → List (List ℕ) → List Row → Type 0
