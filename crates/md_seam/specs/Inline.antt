@@ -1,5 +1,5 @@
 -- What every inline layer promises of the events that it answers for a text part, and what the plain layer answers.
-use Rattle.std.specs.Prelude.{◌≡◌, ℕ, ◌<◌, Bool, true, false, ◌&&◌, if◌then◌else◌, IsTrue, List, [], ◌∷◌, ◌++◌, length, slice_range, Some, None}
+use Rattle.std.specs.Prelude.{◌≡◌, ℕ, ◌<◌, Bool, true, false, ◌&&◌, ◌==◌, if◌then◌else◌, IsTrue, List, [], ◌∷◌, ◌++◌, length, slice_range, Some, None}
 use Rattle.std.specs.List.{list_all}
 use Rattle.md_engine.specs.declared.event.Point.{Point}
 use Rattle.md_engine.specs.declared.event.Event.{Event}
@@ -77,6 +77,14 @@ abbrev pub are_lines : List ℕ → Point → List Chunk → Bool
 are_lines bytes end [] = true
 are_lines bytes end (chunk ∷ chunks) = is_one_line (split_lines (chunk_text bytes chunk)) (is_none chunks && same_place chunk.after end) && are_lines bytes end chunks
 
+-- whether a chunk is one line, with its ending or not
+abbrev pub is_line : List ℕ → Chunk → Bool
+is_line bytes chunk = is_one_line (split_lines (chunk_text bytes chunk)) true
+
+-- whether a chunk ends between two bytes, and not within a tab
+abbrev pub ends_whole : Chunk → Bool
+ends_whole chunk = chunk.after.vs == 0
+
 -- the point at the end of its line
 abbrev pub line_end : List ℕ → Chunk → Point
 line_end bytes chunk = past_text (without_ending (chunk_text bytes chunk)) chunk.first
@@ -106,6 +114,10 @@ together (xs ∷ xss) = xs ++ together xss
 -- What the plain layer answers for a part.
 abbrev pub plain_events : List ℕ → Part → List Event
 plain_events bytes part = together (plain_chunks bytes part.chunks)
+
+-- the plain layer answers so for a part whose chunks are lines that end between two bytes
+abbrev pub PlainReads : List ℕ → Part → List Event → Type 0
+PlainReads bytes part events = (end : Point) → IsTrue (are_lines bytes end part.chunks) → IsTrue (list_all ends_whole part.chunks) → events ≡ plain_events bytes part
 
 -- The promise of every layer.
 

@@ -47,6 +47,12 @@ chunks_behind wants (e ∷ f ∷ es) =
     else if is_prefix e.name then chunks_behind wants (f ∷ es)
     else []
 
+-- the chunks of the part that begins with some events
+abbrev pub chunks_from : (Content → Bool) → List Event → List Chunk
+chunks_from wants [] = []
+chunks_from wants (e ∷ []) = []
+chunks_from wants (e ∷ f ∷ es) = chunk_of e f ∷ chunks_behind wants es
+
 abbrev pub belongs_by : ℕ → Kind → ℕ → Bool
 belongs_by end Enter index = nat_lt index end
 belongs_by end Exit index = nat_le index end
@@ -59,6 +65,12 @@ belongs end e = belongs_by end e.kind e.point.index
 abbrev pub share : ℕ → List Event → ℕ → ℕ
 share zero left end = length left
 share (suc more) left end = prefix_len (belongs end) left
+
+-- A part of so many chunks is begun, of which such events may be read, unless chunks of another part are left: the events that
+-- are left, and for how many chunks, before and behind.
+abbrev pub Begun : (List Event → Type 0) → ℕ → List Event → ℕ → List Event → ℕ → Type 0
+Begun reads many left zero now chunks = reads now × (chunks ≡ many)
+Begun reads many left (suc more) now chunks = (now ≡ left) × (chunks ≡ suc more)
 
 -- The events with what was read in the places of the parts that the reader wants. Of a part that has begun, these events are
 -- left, for so many chunks.

@@ -1,6 +1,8 @@
 // What the block parser hands to an inline layer: the text parts of a document, each as the chunks that it stands in.
 
-ghost use Rattle.std.specs.Prelude.{IfOk};
+ghost use Rattle.std.specs.Prelude.{ℕ, IfOk, List};
+ghost use Rattle.md_engine.specs.declared.event.Event.{Event};
+ghost use Rattle.md_seam.specs.Inline.{Part};
 ghost use Rattle.md_seam.specs.Parts.{AreChunks, ArePlaced};
 
 use md_engine::event::{Event, Point};
@@ -28,6 +30,9 @@ pub struct Chunk {
 
 /// Reads text parts.
 pub trait Inline {
+    /// What it may give for a part of a text.
+    ghost reads: { Self → List ℕ → Part → List Event → Type 0 };
+
     /// The events of a text part that stands in these chunks.
     fn read(
         &self,
@@ -37,5 +42,6 @@ pub trait Inline {
         state: &ParseState,
     ) -> Result<Vec<Event>, Message>
         requires { AreChunks state.now.bytes.now chunks.now }
-        ensures { IfOk result (λ events. ArePlaced state.now.bytes.now events.items) };
+        ensures placed { IfOk result (λ events. ArePlaced state.now.bytes.now events.items) }
+        ensures reading { IfOk result (λ events. reads self.now state.now.bytes.now (record { kind = kind; chunks = chunks.now }) events.items) };
 }

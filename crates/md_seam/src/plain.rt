@@ -1,8 +1,12 @@
 // The plainest inline layer.
 
-ghost use Rattle.std.specs.Prelude.{◌≡◌, OnOk};
+ghost use Rattle.std.specs.Prelude.{◌≡◌, ◌≤◌, ◌++◌, IsTrue, OnOk, [], length, slice_range};
 ghost use Rattle.md_engine.specs.World.{world};
+ghost use Rattle.md_engine.specs.declared.event.Name.{Name};
+ghost use Rattle.md_seam.specs.Inline.{PlainReads, ends_whole, is_line, pair_unless_empty, plain_chunk};
+ghost use Rattle.md_seam.specs.Lines.{is_ending, without_ending};
 ghost use Rattle.md_seam.specs.Parts.{IsChunk};
+ghost use Rattle.md_seam.specs.Places.{past_text};
 
 use crate::inline::{Chunk, Inline, PartKind};
 use md_engine::event::{Event, Name};
@@ -15,17 +19,19 @@ use std::alloc::Global;
 pub struct Plain;
 
 /// Whether a line ends at this byte, which lies in the text.
-fn ends_line(byte: u8) -> bool {
+fn ends_line(byte: u8) -> bool
+    ensures { result ≡ is_ending byte }
+{
     byte == b'\n' || byte == b'\r'
 }
 
-/// Reads the line of a chunk, and its ending.
-fn read_chunk(tokenizer: &mut Tokenizer, chunk: &Chunk) -> Result<(), Message>
-    requires { IsChunk (world tokenizer.old).setting.bytes chunk.now }
-    ensures { OnOk result ((world tokenizer.new).setting ≡ (world tokenizer.old).setting) }
+/// Reads the line that begins at the point, up to `end` at most.
+fn read_line(tokenizer: &mut Tokenizer, end: usize) -> Result<(), Message>
+    requires { end ≤ length (world tokenizer.old).setting.bytes }
+    ensures { let w = world tokenizer.old in
+        let to = past_text (without_ending (slice_range w.setting.bytes w.point.index end)) w.point in
+        OnOk result (world tokenizer.new ≡ record w { point = to; events = w.events ++ pair_unless_empty Name.Data w.point to }) }
 {
-    tokenizer.point = chunk.first;
-    let end = chunk.after.index;
     if tokenizer.point.index < end && !ends_line(tokenizer.bytes[tokenizer.point.index]) {
         tokenizer.enter(Name::Data)?;
         while tokenizer.point.index < end && !ends_line(tokenizer.bytes[tokenizer.point.index]) {
@@ -33,6 +39,19 @@ fn read_chunk(tokenizer: &mut Tokenizer, chunk: &Chunk) -> Result<(), Message>
         }
         tokenizer.exit(Name::Data)?;
     }
+    Ok(())
+}
+
+/// Reads the line of a chunk, and its ending.
+fn read_chunk(tokenizer: &mut Tokenizer, chunk: &Chunk) -> Result<(), Message>
+    requires chunk { IsChunk (world tokenizer.old).setting.bytes chunk.now }
+    requires skips { (world tokenizer.old).setting.skips ≡ [] }
+    ensures setting { OnOk result ((world tokenizer.new).setting ≡ (world tokenizer.old).setting) }
+    ensures events { OnOk result (IsTrue (is_line (world tokenizer.old).setting.bytes chunk.now) → IsTrue (ends_whole chunk.now) → (world tokenizer.new).events ≡ (world tokenizer.old).events ++ plain_chunk (world tokenizer.old).setting.bytes chunk.now) }
+{
+    tokenizer.point = chunk.first;
+    let end = chunk.after.index;
+    read_line(tokenizer, end)?;
     if tokenizer.point.index < end {
         tokenizer.enter(Name::LineEnding)?;
         tokenizer.consume();
@@ -42,6 +61,8 @@ fn read_chunk(tokenizer: &mut Tokenizer, chunk: &Chunk) -> Result<(), Message>
 }
 
 impl Inline for Plain {
+    ghost reads = { λ plain. PlainReads };
+
     fn read(
         &self,
         alloc: Global,

@@ -3,8 +3,11 @@
 // A linked part is a chunk of the text on one line. Chunks between which nothing but container prefixes stands are read as
 // one, and what is found there is put in the places of the chunks.
 
-ghost use Rattle.std.specs.Prelude.{◌≡◌, ℕ, ◌+◌, ◌<◌, ◌≤◌, ◌++◌, All, IfOk, List, OnOk, [], length, slice_range};
-ghost use Rattle.md_seam.specs.Parts.{AreChunks, ArePlaced, IsChunk};
+ghost use Rattle.std.specs.Prelude.{◌≡◌, ℕ, ◌+◌, ◌-◌, ◌<◌, ◌≤◌, ◌∷◌, ◌++◌, Bool, IfOk, List, OnOk, [], drop, length, take};
+ghost use Rattle.std.specs.List.{prefix_len};
+ghost use Rattle.md_engine.specs.declared.event.Content.{Content};
+ghost use Rattle.md_seam.specs.Parts.{AreChunks, ArePlaced};
+ghost use Rattle.md_seam.specs.Substituted.{Begun, Readings, Substituted, belongs, chunk_of, chunks_from, is_prefix, share, wanted};
 
 use crate::inline::Chunk;
 use md_engine::event::{Content, Event, Kind, Name};
@@ -16,13 +19,21 @@ pub trait Reader {
     /// The text that the parts stand in.
     ghost text: { Self → List ℕ };
 
+    /// Of which contents it reads parts.
+    ghost wants: { Self → Content → Bool };
+
+    /// What it may give for a part.
+    ghost reads_as: { Self → Readings };
+
     /// Whether it reads parts of this content.
-    fn reads(&self, content: Content) -> bool;
+    fn reads(&self, content: Content) -> bool
+        ensures { result ≡ wants self.now content };
 
     /// The events of a part that stands in these chunks.
     fn read(&self, alloc: Global, content: Content, chunks: &[Chunk]) -> Result<Vec<Event>, Message>
         requires { AreChunks (text self.now) chunks.now }
-        ensures { IfOk result (λ events. ArePlaced (text self.now) events.items) };
+        ensures placed { IfOk result (λ events. ArePlaced (text self.now) events.items) }
+        ensures reading { IfOk result (λ events. reads_as self.now content chunks.now events.items) };
 }
 
 /// What was found in a part, and how much of it stands in its place.
@@ -36,7 +47,9 @@ struct Found {
 }
 
 /// Whether this belongs to a container prefix, which may stand between two lines of a part.
-pub fn is_prefix(name: Name) -> bool {
+pub fn is_prefix(name: Name) -> bool
+    ensures { result ≡ is_prefix name }
+{
     matches!(
         name,
         Name::SpaceOrTab | Name::BlockQuotePrefix | Name::BlockQuoteMarker
@@ -44,23 +57,22 @@ pub fn is_prefix(name: Name) -> bool {
 }
 
 /// What the chunk that begins here holds, if one does that is wanted.
-fn chunk_content<R: Reader>(reader: &R, event: &Event) -> Option<Content> {
-    let link = event.link?;
-    if event.kind == Kind::Enter && reader.reads(link.content) {
-        Some(link.content)
-    } else {
-        None
+fn chunk_content<R: Reader>(reader: &R, event: &Event) -> Option<Content>
+    ensures { result ≡ wanted (R.wants reader.now) event.now }
+{
+    match (event.kind, event.link) {
+        (Kind::Enter, Some(link)) if reader.reads(link.content) => Some(link.content),
+        _ => None,
     }
 }
 
-/// Appends the chunk that begins at `at`, or changes nothing.
-fn push_chunk(chunks: &mut Vec<Chunk>, events: &[Event], at: usize) -> Result<(), Message>
-    requires { at + 1 < length events.now }
-    ensures { OnOk result ((bytes : List ℕ) → ArePlaced bytes events.now → All (IsChunk bytes) chunks.old.items → AreChunks bytes chunks.new.items) }
+/// Appends the chunk between two events, or changes nothing.
+fn push_chunk(chunks: &mut Vec<Chunk>, first: &Event, after: &Event) -> Result<(), Message>
+    ensures { OnOk result (chunks.new.items ≡ chunks.old.items ++ chunk_of first.now after.now ∷ []) }
 {
     let chunk = Chunk {
-        first: events[at].point,
-        after: events[at + 1].point,
+        first: first.point,
+        after: after.point,
     };
     match chunks.push(chunk) {
         Ok(()) => Ok(()),
@@ -68,23 +80,21 @@ fn push_chunk(chunks: &mut Vec<Chunk>, events: &[Event], at: usize) -> Result<()
     }
 }
 
-/// The chunks of the part whose first chunk begins at `first`.
+/// The chunks of the part that begins with these events.
 fn chunks_from<R: Reader>(
     alloc: Global,
     reader: &R,
     events: &[Event],
-    first: usize,
 ) -> Result<Vec<Chunk>, Message>
-    requires within { first + 1 < length events.now }
-    requires placed { ArePlaced (R.text reader.now) events.now }
-    ensures { IfOk result (λ chunks. AreChunks (R.text reader.now) chunks.items) }
+    requires { 1 < length events.now }
+    ensures { IfOk result (λ chunks. chunks.items ≡ chunks_from (R.wants reader.now) events.now) }
 {
     let mut chunks = Vec::new(alloc);
-    push_chunk(&mut chunks, events, first)?;
-    let mut at = first + 2;
+    push_chunk(&mut chunks, &events[0], &events[1])?;
+    let mut at = 2;
     while at + 1 < events.len() {
         if chunk_content(reader, &events[at]).is_some() {
-            push_chunk(&mut chunks, events, at)?;
+            push_chunk(&mut chunks, &events[at], &events[at + 1])?;
             at += 2;
         } else if is_prefix(events[at].name) {
             at += 1;
@@ -95,32 +105,35 @@ fn chunks_from<R: Reader>(
     Ok(chunks)
 }
 
-/// How many of the events belong to a part that ends at the byte `end`, and to those before it: those that begin before
-/// it, and those that end there at last.
-fn placed_before(events: &[Event], from: usize, end: usize) -> usize
-    requires { from ≤ length events.now }
-    ensures from { from ≤ result }
-    ensures within { result ≤ length events.now }
+/// Whether an event belongs to a chunk that ends at the byte `end`, or to one before it: it begins before that byte, or
+/// ends there at last.
+fn belongs(event: &Event, end: usize) -> bool
+    ensures { result ≡ belongs end event.now }
 {
-    let mut at = from;
-    while at < events.len() {
-        let Event { kind, point, .. } = events[at];
-        let belongs = match kind {
-            Kind::Enter => point.index < end,
-            Kind::Exit => point.index <= end,
-        };
-        if !belongs {
-            break;
-        }
-        at += 1;
+    match event.kind {
+        Kind::Enter => event.point.index < end,
+        Kind::Exit => event.point.index <= end,
     }
-    at
+}
+
+/// How many of the events come before the first that does not belong to a chunk that ends at the byte `end`.
+fn belonging(events: &[Event], end: usize) -> usize
+    ensures { result ≡ prefix_len (belongs end) events.now }
+{
+    for (at, event) in events.iter().enumerate() {
+        if !belongs(event, end) {
+            return at;
+        }
+    }
+    events.len()
 }
 
 impl Found {
     /// Nothing, found in no chunk.
     fn nothing(alloc: Global) -> Found
-        ensures { result.events.items ≡ [] }
+        ensures events { result.events.items ≡ [] }
+        ensures placed { result.placed ≡ 0 }
+        ensures chunks { result.chunks ≡ 0 }
     {
         Found {
             events: Vec::new(alloc),
@@ -129,25 +142,25 @@ impl Found {
         }
     }
 
-    /// What is found in the part whose first chunk begins at `at`, unless chunks of another part are left.
+    /// What is found in the part that begins with these events, unless chunks of another part are left.
     fn or_read<R: Reader>(
         self,
         alloc: Global,
         reader: &R,
         content: Content,
         events: &[Event],
-        at: usize,
     ) -> Result<Found, Message>
-        requires within { at + 1 < length events.now }
+        requires within { 1 < length events.now }
         requires placed { ArePlaced (R.text reader.now) events.now }
         requires found { ArePlaced (R.text reader.now) self.events.items }
         ensures chunks { IfOk result (λ found. 0 < found.chunks) }
         ensures placed { IfOk result (λ found. ArePlaced (R.text reader.now) found.events.items) }
+        ensures begun { IfOk result (λ found. Begun (R.reads_as reader.now content (chunks_from (R.wants reader.now) events.now)) (length (chunks_from (R.wants reader.now) events.now)) (drop self.placed self.events.items) self.chunks (drop found.placed found.events.items) found.chunks) }
     {
         if self.chunks > 0 {
             return Ok(self);
         }
-        let chunks = chunks_from(alloc, reader, events, at)?;
+        let chunks = chunks_from(alloc, reader, events)?;
         Ok(Found {
             events: reader.read(alloc, content, &chunks)?,
             placed: 0,
@@ -159,20 +172,22 @@ impl Found {
     fn place(&mut self, events: &mut Vec<Event>, end: usize) -> Result<(), Message>
         requires { 0 < self.old.chunks }
         ensures same { self.new.events ≡ self.old.events }
-        ensures placed { OnOk result (events.new.items ≡ events.old.items ++ slice_range self.old.events.items self.old.placed self.new.placed) }
+        ensures chunks { OnOk result (self.new.chunks + 1 ≡ self.old.chunks) }
+        ensures placed { let left = drop self.old.placed self.old.events.items in
+            OnOk result (events.new.items ≡ events.old.items ++ take (share (self.old.chunks - 1) left end) left) }
+        ensures left { let left = drop self.old.placed self.old.events.items in
+            OnOk result (drop self.new.placed self.new.events.items ≡ drop (share (self.old.chunks - 1) left end) left) }
     {
-        let to = if self.chunks > 1 {
-            placed_before(&self.events, self.placed, end)
+        let left = &self.events[self.placed..];
+        let many = if self.chunks > 1 {
+            belonging(left, end)
         } else {
-            self.events.len()
+            left.len()
         };
-        if events
-            .extend_from_slice(&self.events[self.placed..to])
-            .is_err()
-        {
+        if events.extend_from_slice(&left[..many]).is_err() {
             return Err(Message);
         }
-        self.placed = to;
+        self.placed += many;
         self.chunks -= 1;
         Ok(())
     }
@@ -185,7 +200,8 @@ pub fn subtokenize<R: Reader>(
     events: &[Event],
 ) -> Result<Vec<Event>, Message>
     requires { ArePlaced (R.text reader.now) events.now }
-    ensures { IfOk result (λ all. ArePlaced (R.text reader.now) all.items) }
+    ensures placed { IfOk result (λ all. ArePlaced (R.text reader.now) all.items) }
+    ensures substituted { IfOk result (λ all. Substituted (R.wants reader.now) (R.reads_as reader.now) [] 0 events.now all.items) }
 {
     let mut all = Vec::new(alloc);
     let mut found = Found::nothing(alloc);
@@ -194,7 +210,7 @@ pub fn subtokenize<R: Reader>(
         let event = events[at];
         match chunk_content(reader, &event) {
             Some(content) if at + 1 < events.len() => {
-                found = found.or_read(alloc, reader, content, events, at)?;
+                found = found.or_read(alloc, reader, content, &events[at..])?;
                 found.place(&mut all, events[at + 1].point.index)?;
                 at += 2;
             }

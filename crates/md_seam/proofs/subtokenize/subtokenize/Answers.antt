@@ -1,14 +1,51 @@
+use Rattle.std.proofs.Common.{◌≡◌, true, ◌++◌, ◌∷◌, [], get_or, drop, inl, inr, sym, ◌∙◌, arith}
+use Rattle.std.specs.Prelude.{None}
+use Rattle.std.specs.Result.{is_ok}
+use Rattle.std.proofs.lemmas.List.{take_rest}
+use Rattle.std.proofs.lemmas.List.Elements.{All-nil}
+use Rattle.md_engine.specs.declared.event.Kind.TheVariants.{Enter}
+use Rattle.md_engine.specs.declared.event.Name.TheVariants.{Frontmatter}
+use Rattle.md_engine.specs.Place.{IsPlaced}
+use Rattle.md_engine.specs.declared.event.Event.{Event}
 use Rattle.md_seam.proofs.ReadingLemmas.{placed-place, placed-push_if}
+use Rattle.md_seam.proofs.SubstitutedLemmas.{leads-all, leads-first, leads-part, leads-stay}
 use Rattle.md_seam.proofs.subtokenize.subtokenize.Goals as goal
+use Rattle.md_seam.proofs.subtokenize.subtokenize.Goals.{in_default-via-in-Some+else-at-events, in_default-via-in_default}
+
+-- what indexing gives past the end of a list
+abbrev unset : Event
+unset = record { kind = Enter; name = Frontmatter; point = record { line = 0; column = 0; index = 0; vs = 0 }; link = None }
+
+pub loop-at-init : goal.loop-at-init
+loop-at-init g c = record {
+  all = rw c.new-all.ensures.items (All-nil (λ (e : Event). IsPlaced (g.R.Reader.text c.args.reader.now) e.point));
+  found = rw c.nothing-found.ensures.events (All-nil (λ (e : Event). IsPlaced (g.R.Reader.text c.args.reader.now) e.point));
+  substituted = leads-first (g.R.Reader.wants c.args.reader.now) (g.R.Reader.reads_as c.args.reader.now) c.args.events.now _ _ _ _ c.nothing-found.ensures.events c.nothing-found.ensures.placed c.nothing-found.ensures.chunks c.new-all.ensures.items;
+}
 
 pub loop-at-preserved-then-at-events : goal.loop-at-preserved-then-at-events
 loop-at-preserved-then-at-events g c = record {
-  all = placed-place (g.R.Reader.text c.args.reader.now) _ _ _ _ _ c.in_ok-place-in-Some.ensures.placed c.loop-at.invariant.all c.in_ok-found-in-Some.ensures.placed;
-  found = rw c.place.ensures.same c.in_ok-found-in-Some.ensures.placed;
-}
+    all =
+      placed-place (g.R.Reader.text c.args.reader.now) _ _ _ _ _ c.in_ok-place-in-Some.ensures.placed c.loop-at.invariant.all c.in_ok-found-in-Some.ensures.placed;
+    found = rw c.place.ensures.same c.in_ok-found-in-Some.ensures.placed;
+    substituted =
+      let begun = c.in_ok-found-in-Some.ensures.begun in
+      leads-part (g.R.Reader.wants c.args.reader.now) (g.R.Reader.reads_as c.args.reader.now) c.args.events.now _ _ _ _ _ _ _ _ _ c.loop-at.at _ c.in-Some.content c.if-at-events.true (take_rest c.args.events.now c.loop-at.at) c.in-Some.ensures begun c.in_ok-place-in-Some.ensures.chunks c.in_ok-place-in-Some.ensures.placed c.in_ok-place-in-Some.ensures.left c.loop-at.invariant.substituted;
+  }
 
 pub loop-at-preserved : goal.loop-at-preserved
-loop-at-preserved g c = record {
-  all = placed-push_if (g.R.Reader.text c.args.reader.now) _ _ _ _ c.push.ensures.items c.loop-at.invariant.all (c.requires c.loop-at.at _ c.loop-at-test.true);
-  found = c.loop-at.invariant.found;
-}
+loop-at-preserved g c =
+    let k : is_ok c.push.result ≡ true = c.if-is_err.ensures.negation in
+    let is : c.push.new.self.items ≡ c.loop-at.all.items ++ get_or c.args.events.now c.loop-at.at unset ∷ [] = rw k at c.push.ensures.items in
+    let leads = leads-stay (g.R.Reader.wants c.args.reader.now) (g.R.Reader.reads_as c.args.reader.now) c.args.events.now (drop c.loop-at.found.placed c.loop-at.found.events.items) c.loop-at.all.items c.push.new.self.items c.loop-at.found.chunks c.loop-at.at unset c.loop-at-test.true in
+    record {
+      all = placed-push_if (g.R.Reader.text c.args.reader.now) _ _ _ _ c.push.ensures.items c.loop-at.invariant.all (c.requires c.loop-at.at _ c.loop-at-test.true);
+      found = c.loop-at.invariant.found;
+      substituted = elim c.in_default.branch [
+        | in_default-via-in-Some+else-at-events w ↦ leads (inr w.if-at-events.false) is c.loop-at.invariant.substituted
+        | in_default-via-in_default w ↦ leads (inl (sym c.chunk_content.ensures ∙ w.in_default.is)) is c.loop-at.invariant.substituted
+      ];
+    }
+
+pub returns-clause-substituted : goal.returns-clause-substituted
+returns-clause-substituted g c = leads-all (g.R.Reader.wants c.args.reader.now) (g.R.Reader.reads_as c.args.reader.now) c.args.events.now _ _ _ c.loop-at.at (omega arith) c.loop-at.invariant.substituted

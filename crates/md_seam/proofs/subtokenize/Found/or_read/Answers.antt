@@ -1,0 +1,7 @@
+use Rattle.md_seam.proofs.SubstitutedLemmas.{chunks-placed}
+use Rattle.md_seam.proofs.subtokenize.Found.or_read.Goals as goal
+
+pub read-requires : goal.read-requires
+read-requires g c =
+    rw (c.deref.ensures.value, c.in_ok-chunks.ensures)
+    (chunks-placed (g.R.Reader.text c.args.reader.now) (g.R.Reader.wants c.args.reader.now) c.args.events.now c.requires.placed c.requires.within)
