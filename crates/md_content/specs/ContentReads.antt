@@ -1,6 +1,8 @@
 -- What a part of content is read as: a paragraph over the text of its chunks.
-use Rattle.std.specs.Prelude.{◌≡◌, ℕ, Bool, ◌==◌, List, [], ◌∷◌, ◌++◌}
+use Rattle.std.specs.Prelude.{◌≡◌, ℕ, Bool, true, false, List, [], ◌∷◌, ◌++◌}
 use Rattle.md_engine.specs.declared.configuration.ParseOptions.{ParseOptions}
+use Rattle.md_engine.specs.declared.event.Content.{Content}
+use Rattle.md_engine.specs.declared.event.Content.TheVariants as content
 use Rattle.md_engine.specs.declared.event.Event.{Event}
 use Rattle.md_engine.specs.declared.event.Name.TheVariants as parts
 use Rattle.md_engine.specs.declared.event.Point.{Point}
@@ -14,6 +16,7 @@ use Rattle.md_content.specs.ParagraphRule.{line_events}
 use Rattle.md_seam.specs.declared.inline.Chunk.{Chunk}
 use Rattle.md_seam.specs.Ahead.{point_after}
 use Rattle.md_seam.specs.Nested.{enter, exit}
+use Rattle.md_seam.specs.Substituted.{Readings}
 
 -- where the first chunk begins
 abbrev pub first_of : List Chunk → Point
@@ -44,3 +47,12 @@ unfoldable pub content_events : List ℕ → ParseOptions → List Chunk → Lis
 content_events bytes options chunks =
     let w = part_world bytes options chunks in
     paragraph_over (text_feed w.setting w.point) w.point
+
+-- What the reader of content reads, and as what.
+
+abbrev pub wants_content : Content → Bool
+wants_content content.Content = true
+wants_content _ = false
+
+abbrev pub content_readings : List ℕ → ParseOptions → Readings
+content_readings bytes options _ chunks events = events ≡ content_events bytes options chunks

@@ -18,7 +18,6 @@ ghost use Rattle.md_content.specs.Joined.{content_behind, goes_on, is_content, i
 ghost use Rattle.md_content.specs.Resolves.{Resolves, is_all_read};
 ghost use Rattle.md_seam.specs.Parts.{AreChunks, ArePlaced};
 ghost use Rattle.md_seam.specs.Spaces.{ends_line};
-ghost use Rattle.md_seam.specs.Substituted.{is_prefix};
 ghost use Rattle.md_seam.specs.Went.{IsAt, NeedsNothing};
 
 use crate::paragraph;
@@ -32,7 +31,7 @@ use md_engine::subtokenize::Subresult;
 use md_engine::table::{Table, flush, push};
 use md_engine::tokenizer::Tokenizer;
 use md_seam::inline::Chunk;
-use md_seam::subtokenize::{Reader, subtokenize};
+use md_seam::subtokenize::{Reader, is_prefix, subtokenize};
 use std::alloc::Global;
 
 /// Before a line.
@@ -127,10 +126,16 @@ struct ContentReader<'a> {
 }
 
 impl Reader for ContentReader<'_> {
+    ghost use Rattle.md_content.specs.ContentReads.{content_readings, wants_content};
+
     ghost text = { λ reader. reader.bytes.now };
 
+    ghost wants = { λ reader. wants_content };
+
+    ghost reads_as = { λ reader. content_readings reader.bytes.now reader.options.now };
+
     fn reads(&self, content: Content) -> bool {
-        content == Content::Content
+        matches!(content, Content::Content)
     }
 
     fn read(
@@ -170,15 +175,6 @@ fn begins_line(event: &Event) -> bool
     ensures { result ≡ is_enter event.now.kind && is_content event.now.name }
 {
     matches!(event.kind, Kind::Enter) && matches!(event.name, Name::Content)
-}
-
-fn is_prefix(name: Name) -> bool
-    ensures { result ≡ is_prefix name }
-{
-    matches!(
-        name,
-        Name::SpaceOrTab | Name::BlockQuotePrefix | Name::BlockQuoteMarker
-    )
 }
 
 /// Whether a line of content begins behind container prefixes.
