@@ -22,3 +22,4 @@ pub mod Parses
 pub mod TextCuts
 pub mod Sketches
 pub mod PlainEvents
+pub mod ParagraphReads

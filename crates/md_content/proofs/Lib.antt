@@ -3,3 +3,5 @@ pub mod States
 pub mod ContentSteps
 pub mod Settings
 pub mod ContentRuns
+pub mod JoinedLemmas
+pub mod ContentReadsLemmas

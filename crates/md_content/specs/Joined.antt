@@ -1,5 +1,5 @@
 -- Lines of content that follow one another, joined: the ending between two belongs to the first.
-use Rattle.std.specs.Prelude.{Bool, true, false, ◌&&◌, if◌then◌else◌, List, [], ◌∷◌}
+use Rattle.std.specs.Prelude.{ℕ, Bool, true, false, ◌&&◌, if◌then◌else◌, List, [], ◌∷◌}
 use Rattle.md_engine.specs.declared.event.Event.{Event}
 use Rattle.md_engine.specs.declared.event.Kind.{Kind}
 use Rattle.md_engine.specs.declared.event.Kind.TheVariants.{Enter, Exit}
@@ -32,6 +32,11 @@ content_behind (e ∷ es) = if is_prefix e.name then content_behind es else is_e
 abbrev pub goes_on : List Event → Bool
 goes_on (e ∷ f ∷ es) = is_line_ending e.name && content_behind es
 goes_on _ = false
+
+-- how many events are joined with the first of these
+abbrev pub joined_with : List Event → ℕ
+joined_with (e ∷ f ∷ g ∷ es) = if is_exit e.kind && is_content e.name && goes_on (f ∷ g ∷ es) then 2 else 0
+joined_with _ = 0
 
 -- each line of content that goes on ends behind its ending
 abbrev pub joined : List Event → List Event

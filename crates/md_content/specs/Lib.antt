@@ -5,3 +5,4 @@ pub mod ChunkRule
 pub mod ParagraphRule
 pub mod Resolves
 pub mod Joined
+pub mod ContentReads

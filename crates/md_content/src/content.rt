@@ -5,7 +5,7 @@
 // Each line first stands as one linked `Content`. When all lines are known, those that follow one another are joined and
 // read as one.
 
-ghost use Rattle.std.specs.Prelude.{◌≡◌, ◌≢◌, ℕ, ◌+◌, ◌<◌, ◌≤◌, true, IfOk, List, [], length};
+ghost use Rattle.std.specs.Prelude.{◌≡◌, ◌≢◌, ℕ, ◌+◌, ◌<◌, ◌&&◌, true, IfOk, List, [], length, drop};
 ghost use Rattle.std.specs.Option.{option_map};
 ghost use Rattle.md_engine.specs.Found.{found_in};
 ghost use Rattle.md_engine.specs.World.{looks, world};
@@ -13,8 +13,10 @@ ghost use Rattle.md_engine.specs.declared.state.Name.{Name as StateName};
 ghost use Rattle.md_engine.specs.declared.state.State.{State};
 ghost use Rattle.md_content.specs.States.{content_went};
 ghost use Rattle.md_content.specs.Chunks.{chunk_inside_code, chunk_start_went};
+ghost use Rattle.md_content.specs.ContentReads.{content_events};
+ghost use Rattle.md_content.specs.Joined.{content_behind, goes_on, is_content, is_enter, joined, joined_with};
 ghost use Rattle.md_content.specs.Resolves.{Resolves, is_all_read};
-ghost use Rattle.md_seam.specs.Parts.{ArePlaced};
+ghost use Rattle.md_seam.specs.Parts.{AreChunks, ArePlaced};
 ghost use Rattle.md_seam.specs.Spaces.{ends_line};
 ghost use Rattle.md_seam.specs.Went.{IsAt, NeedsNothing};
 
@@ -124,10 +126,16 @@ struct ContentReader<'a> {
 }
 
 impl Reader for ContentReader<'_> {
+    ghost use Rattle.md_content.specs.ContentReads.{content_readings, wants_content};
+
     ghost text = { λ reader. reader.bytes.now };
 
+    ghost wants = { λ reader. wants_content };
+
+    ghost reads_as = { λ reader. content_readings reader.bytes.now reader.options.now };
+
     fn reads(&self, content: Content) -> bool {
-        content == Content::Content
+        matches!(content, Content::Content)
     }
 
     fn read(
@@ -136,6 +144,17 @@ impl Reader for ContentReader<'_> {
         _content: Content,
         chunks: &[Chunk],
     ) -> Result<Vec<Event>, Message> {
+        self.read_part(alloc, chunks)
+    }
+}
+
+impl ContentReader<'_> {
+    /// The events of a part that stands in these chunks: a paragraph over them.
+    fn read_part(&self, alloc: Global, chunks: &[Chunk]) -> Result<Vec<Event>, Message>
+        requires { AreChunks self.now.bytes.now chunks.now }
+        ensures placed { IfOk result (λ events. ArePlaced self.now.bytes.now events.items) }
+        ensures events { IfOk result (λ events. events.items ≡ content_events self.now.bytes.now self.now.options.now chunks.now) }
+    {
         let mut tokenizer = Tokenizer::new(alloc, chunks[0].first, self.bytes, self.options);
         for chunk in chunks {
             tokenizer.define_skip(chunk.first)?;
@@ -152,34 +171,46 @@ impl Reader for ContentReader<'_> {
 }
 
 /// Whether the part that begins here is a line of content.
-fn begins_line(event: &Event) -> bool {
-    event.kind == Kind::Enter && event.name == Name::Content
+fn begins_line(event: &Event) -> bool
+    ensures { result ≡ is_enter event.now.kind && is_content event.now.name }
+{
+    matches!(event.kind, Kind::Enter) && matches!(event.name, Name::Content)
 }
 
-/// Whether a line of content that ends before `at` goes on: its ending stands at `at`, and behind the prefixes of the next
-/// line a line of content.
-fn goes_on(events: &[Event], at: usize) -> bool
-    requires { at ≤ length events.now }
-    ensures { result ≡ true → at + 2 < length events.now }
+/// Whether a line of content begins behind container prefixes.
+fn begins_behind(events: &[Event]) -> bool
+    ensures { result ≡ content_behind events.now }
 {
-    if at + 2 >= events.len() || events[at].name != Name::LineEnding {
-        return false;
+    for event in events {
+        if !is_prefix(event.name) {
+            return begins_line(event);
+        }
     }
-    let mut next = at + 2;
-    while next < events.len() && is_prefix(events[next].name) {
-        next += 1;
-    }
-    next < events.len() && begins_line(&events[next])
+    false
+}
+
+/// Whether a line of content that ends before these events goes on: its ending stands first, and behind it and the prefixes
+/// of the next line a line of content.
+fn goes_on(events: &[Event]) -> bool
+    ensures value { result ≡ goes_on events.now }
+    ensures within { result ≡ true → 2 < length events.now }
+{
+    events.len() > 2
+        && matches!(events[0].name, Name::LineEnding)
+        && begins_behind(&events[2..])
 }
 
 /// The last of the events that are joined with the one at `at`: the end of a line of content that goes on takes its ending.
 fn joined_to(events: &[Event], at: usize) -> usize
     requires { at < length events.now }
-    ensures from { at ≤ result }
+    ensures value { result ≡ at + joined_with (drop at events.now) }
     ensures within { result < length events.now }
 {
     let event = events[at];
-    if event.kind == Kind::Exit && event.name == Name::Content && goes_on(events, at + 1) {
+    if matches!(event.kind, Kind::Exit)
+        && matches!(event.name, Name::Content)
+        && goes_on(&events[at + 1..])
+    {
         at + 2
     } else {
         at
@@ -188,9 +219,10 @@ fn joined_to(events: &[Event], at: usize) -> usize
 
 /// The events with the ending of each line of content that goes on in that line.
 fn join(alloc: Global, events: &[Event]) -> Result<Vec<Event>, Message>
-    ensures { IfOk result (λ joined. (bytes : List ℕ) → ArePlaced bytes events.now → ArePlaced bytes joined.items) }
+    ensures placed { IfOk result (λ all. (bytes : List ℕ) → ArePlaced bytes events.now → ArePlaced bytes all.items) }
+    ensures joined { IfOk result (λ all. all.items ≡ joined events.now) }
 {
-    let mut joined = Vec::new(alloc);
+    let mut all = Vec::new(alloc);
     let mut at = 0;
     while at < events.len() {
         let last = joined_to(events, at);
@@ -198,12 +230,12 @@ fn join(alloc: Global, events: &[Event]) -> Result<Vec<Event>, Message>
             point: events[last].point,
             ..events[at]
         };
-        if joined.push(event).is_err() {
+        if all.push(event).is_err() {
             return Err(Message);
         }
         at = last + 1;
     }
-    Ok(joined)
+    Ok(all)
 }
 
 /// Whether no part is left unread.

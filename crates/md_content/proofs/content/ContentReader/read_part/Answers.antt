@@ -1,0 +1,45 @@
+use Rattle.std.proofs.Common.{ap, arith, ◌≡◌, ◌∙◌, ◌-◌, ◌<◌, ◌^◌, suc, length}
+use Rattle.md_engine.specs.World.{Setting, World, fresh, world}
+use Rattle.md_content.specs.ContentReads.{first_of, skipping_all}
+use Rattle.md_content.proofs.ContentReadsLemmas.{end-at, first-at, part-read, small-at, skipping-more}
+use Rattle.md_content.proofs.Settings.{content_keeps}
+use Rattle.md_seam.proofs.Settings.{KeepsResolving, flushes-setting}
+use Rattle.md_content.proofs.content.ContentReader.read_part.Goals as goal
+
+pub new-tokenizer-requires : goal.new-tokenizer-requires
+new-tokenizer-requires c = (c.requires.each 0 _ c.requires.some).first
+
+pub loop-chunk-init : goal.loop-chunk-init
+loop-chunk-init c =
+    let w : world c.new-tokenizer.result ≡ fresh c.args.self.now.bytes.now c.args.self.now.options.now (first_of c.args.chunks.now) =
+        c.new-tokenizer.ensures ∙ ap (fresh c.args.self.now.bytes.now c.args.self.now.options.now) (first-at c.args.chunks.now _ c.requires.some) in
+    record {
+      bytes = ap (λ (x : World). x.setting.bytes) w;
+      scratch = ap (λ (x : World). x.scratch) w;
+      frames = ap (λ (x : World). x.frames) w;
+      skips = ap (λ (x : World). skipping_all x c.args.chunks.now) w;
+    }
+
+pub define_skip-requires : goal.define_skip-requires
+define_skip-requires c = rw c.loop-chunk.invariant.bytes (c.requires.each c.loop-chunk.chunk-index _ (omega arith)).first
+
+pub loop-chunk-preserved : goal.loop-chunk-preserved
+loop-chunk-preserved c =
+    let w = c.in_ok-define_skip.ensures in
+    record {
+      bytes = ap (λ (x : World). x.setting.bytes) w ∙ c.loop-chunk.invariant.bytes;
+      scratch = ap (λ (x : World). x.scratch) w ∙ c.loop-chunk.invariant.scratch;
+      frames = ap (λ (x : World). x.frames) w ∙ c.loop-chunk.invariant.frames;
+      skips = skipping-more _ _ _ _ _ _ c.loop-chunk-test.true w c.loop-chunk.invariant.skips;
+    }
+
+pub returns : goal.returns
+returns c =
+    let kept = flushes-setting _ _ _ _ _ _ _ content_keeps (record { setting = λ n w f v r. ap (λ (x : World). x.setting) r.1 }) c.in_ok-flush.ensures in
+    let pushed = c.push.ensures.setting c.in_default.not-Error in
+    let same : c.flush.new.tokenizer.bytes.now ≡ c.args.self.now.bytes.now = ap (λ (x : Setting). x.bytes) kept ∙ ap (λ (x : Setting). x.bytes) pushed ∙ c.loop-chunk.invariant.bytes in
+    let count : length c.args.chunks.now ≡ suc (length c.args.chunks.now - 1) = omega (arith, c.requires.some) in
+    record {
+      placed = rw same at c.flush.new.tokenizer.sound.right;
+      events = part-read _ _ _ _ _ _ _ _ _ _ _ c.loop-chunk-test.false c.loop-chunk.invariant.skips (end-at _ _ _ count) (small-at _ _ _ _ c.requires (omega arith)) (c.push.ensures.runs c.in_default.not-Error) pushed (λ n old m v r. r.1) c.in_ok-flush.ensures;
+    }

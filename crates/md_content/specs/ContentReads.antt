@@ -1,0 +1,58 @@
+-- What a part of content is read as: a paragraph over the text of its chunks.
+use Rattle.std.specs.Prelude.{◌≡◌, ℕ, Bool, true, false, List, [], ◌∷◌, ◌++◌}
+use Rattle.md_engine.specs.declared.configuration.ParseOptions.{ParseOptions}
+use Rattle.md_engine.specs.declared.event.Content.{Content}
+use Rattle.md_engine.specs.declared.event.Content.TheVariants as content
+use Rattle.md_engine.specs.declared.event.Event.{Event}
+use Rattle.md_engine.specs.declared.event.Name.TheVariants as parts
+use Rattle.md_engine.specs.declared.event.Point.{Point}
+use Rattle.md_engine.specs.Meaning.{Cell}
+use Rattle.md_engine.specs.Place.{first_point}
+use Rattle.md_engine.specs.TextFeed.{text_feed}
+use Rattle.md_engine.specs.World.{World, fresh, reads_to, skipping}
+use Rattle.md_content.specs.ChunkRule.{enter_link}
+use Rattle.md_content.specs.Paragraph.{text_link}
+use Rattle.md_content.specs.ParagraphRule.{line_events}
+use Rattle.md_seam.specs.declared.inline.Chunk.{Chunk}
+use Rattle.md_seam.specs.Ahead.{point_after}
+use Rattle.md_seam.specs.Nested.{enter, exit}
+use Rattle.md_seam.specs.Substituted.{Readings}
+
+-- where the first chunk begins
+abbrev pub first_of : List Chunk → Point
+first_of [] = first_point
+first_of (chunk ∷ chunks) = chunk.first
+
+-- where the last chunk has ended
+abbrev pub end_of : List Chunk → ℕ
+end_of [] = 0
+end_of (chunk ∷ []) = chunk.after.index
+end_of (chunk ∷ next ∷ chunks) = end_of (next ∷ chunks)
+
+-- each line begins at its chunk
+abbrev pub skipping_all : World → List Chunk → World
+skipping_all w [] = w
+skipping_all w (chunk ∷ chunks) = skipping_all (skipping w chunk.first) chunks
+
+-- how a part is read: from its first chunk on, to the end of its last
+abbrev pub part_world : List ℕ → ParseOptions → List Chunk → World
+part_world bytes options chunks = reads_to (skipping_all (fresh bytes options (first_of chunks)) chunks) (end_of chunks)
+
+-- a paragraph from a point on, over these cells
+abbrev pub paragraph_over : List Cell → Point → List Event
+paragraph_over cells p = enter parts.Paragraph p ∷ enter_link parts.Data p text_link ∷ line_events cells p ++ exit parts.Paragraph (point_after cells p) ∷ []
+
+-- the events of a part
+unfoldable pub content_events : List ℕ → ParseOptions → List Chunk → List Event
+content_events bytes options chunks =
+    let w = part_world bytes options chunks in
+    paragraph_over (text_feed w.setting w.point) w.point
+
+-- What the reader of content reads, and as what.
+
+abbrev pub wants_content : Content → Bool
+wants_content content.Content = true
+wants_content _ = false
+
+abbrev pub content_readings : List ℕ → ParseOptions → Readings
+content_readings bytes options _ chunks events = events ≡ content_events bytes options chunks
