@@ -2,3 +2,8 @@ pub mod Goods
 pub mod BreakLemmas
 pub mod BlankSteps
 pub mod BreakSteps
+pub mod HeadingGoods
+pub mod HeadingLemmas
+pub mod HeadingSteps
+pub mod BomSteps
+pub mod HeadingWalkLemmas

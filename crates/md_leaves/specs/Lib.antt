@@ -1,4 +1,10 @@
 pub mod Blank
+pub mod Bom
 pub mod Break
+pub mod Heading
+pub mod HeadingText
+pub mod HeadingWalk
 pub mod BlankRule
+pub mod BomRule
 pub mod BreakRule
+pub mod HeadingRule

@@ -2,4 +2,7 @@
 #![tactic(auto)]
 
 pub mod blank_line;
+pub mod heading_atx;
+mod heading_text;
+pub mod partial_bom;
 pub mod thematic_break;

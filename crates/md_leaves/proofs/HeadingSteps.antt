@@ -1,0 +1,286 @@
+-- Each state of a heading takes one step of its rule.
+use Rattle.std.proofs.Common.{◌≡◌, ℕ, ◌≤◌, Bool, true, false, cond, ◌&&◌, ◌||◌, nat_eq, nat_lt, List, [], ◌∷◌, ◌++◌, length, Option, Some, None, refl, sym, ◌∙◌, ap, ap₂, arith, append_assoc, append-nil}
+use Rattle.std.specs.Prelude.{not}
+use Rattle.std.proofs.lemmas.Bool.Decides.{nat_tests}
+use Rattle.md_engine.specs.declared.configuration.ParseOptions.{ParseOptions}
+use Rattle.md_engine.specs.declared.event.Event.{Event}
+use Rattle.md_engine.specs.declared.event.Kind.TheVariants.{Enter}
+use Rattle.md_engine.specs.declared.event.Name.{Name}
+use Rattle.md_engine.specs.declared.event.Name.TheVariants.{SpaceOrTab}
+use Rattle.md_engine.specs.declared.event.Name.TheVariants as parts
+use Rattle.md_engine.specs.declared.resolve.Name.{Name as ResolveName}
+use Rattle.md_engine.specs.declared.state.Name.TheVariants as n
+use Rattle.md_engine.specs.declared.state.State.{State}
+use Rattle.md_engine.specs.declared.state.State.TheVariants.{Nok, Next}
+use Rattle.md_engine.specs.declared.tokenizer.Frame.{Frame}
+use Rattle.md_engine.specs.declared.tokenizer.Scratch.{Scratch}
+use Rattle.md_engine.specs.Meaning.{Accepts, Behaviour, Cell, Feed, Here, Refuses, Steps, goes, here}
+use Rattle.md_engine.specs.World.{World, after}
+use Rattle.md_engine.proofs.StepOf.{Sees, ahead, begins, cell_here, moves, passes}
+use Rattle.md_leaves.specs.Heading.{at_break_code, before_code, behind_part, data_code, heading_link, sees_text, sequence_further_code, sequence_open_code, start_code, without_size}
+use Rattle.md_leaves.specs.HeadingRule.{Apart, HasHeading, Hashes, Run, Text, White, at_break, before_opening, begun, closes, goes_on, heading_at, in_heading, in_opening, opens}
+use Rattle.md_leaves.proofs.BreakLemmas.{eq-of, here_after}
+use Rattle.md_leaves.proofs.HeadingLemmas.{apart-none, apart-white, before-hash, before-other, opening-ends, opening-full, opening-more, opening-none, opening-text, opening-white, run-begins, run-ends, run-ends_line, run-ends_none, run-more, white-no_hash, white-run}
+use Rattle.md_seam.specs.Ahead.{begins_white, white_end, white_rest}
+use Rattle.md_seam.specs.Nested.{enter, exit}
+use Rattle.md_seam.specs.Rest.{is_white}
+use Rattle.md_seam.specs.Spaces.{IsRest, any_size, calmed, ends_line, is_current, sees_white, small_indent}
+use Rattle.md_seam.specs.Went.{Went}
+use Rattle.md_seam.proofs.WhiteSteps.{begins-seen, behind_white, white-tried}
+
+-- what is seen of a byte that passes a test
+pub sees-one : (feed : Feed) (w : World) (t : Option ℕ → Bool) → t None ≡ false → Sees feed w → t w.current ≡ true →
+    (b : ℕ) × (feed w.point ≡ cell_here feed w b ∷ feed (after w.setting w.point)) × (t (Some b) ≡ true)
+sees-one feed w t none s e = go w.current e s.next
+  where
+    go : (o : Option ℕ) → t o ≡ true → feed w.point ≡ ahead feed w o → (b : ℕ) × (feed w.point ≡ cell_here feed w b ∷ feed (after w.setting w.point)) × (t (Some b) ≡ true)
+    go None e k = let bad : true ≡ false = sym e ∙ none in cc
+    go (Some b) e k = (b, k, e)
+
+not-or : (a b : Bool) → not (a || b) ≡ true → (a ≡ false) × (b ≡ false)
+not-or true b e = cc
+not-or false true e = cc
+not-or false false e = (refl, refl)
+
+or-left : (a b : Bool) → not (a || b) ≡ false → b ≡ false → a ≡ true
+or-left true b e k = refl
+or-left false true e k = cc
+or-left false false e k = cc
+
+not-true : (a : Bool) → a ≡ true → not a ≡ false
+not-true a e = rw e refl
+
+not-false : (a : Bool) → a ≡ false → not a ≡ true
+not-false a e = rw e refl
+
+-- The start.
+
+small-some : (options : ParseOptions) → 1 ≤ small_indent options
+small-some options = go options.constructs.code_indented
+  where
+    go : (b : Bool) → 1 ≤ cond b 3 any_size
+    go true = omega arith
+    go false = omega arith
+
+abbrev entered_here : Here → Here
+entered_here h = record h { events = h.events ++ enter parts.HeadingAtx h.point ∷ [] }
+
+at-off : (options : ParseOptions) (cells : List Cell) (h : Here) → options.constructs.heading_atx ≡ false → heading_at options cells h ≡ Refuses h.scratch h.flags
+unfolding heading_at
+at-off options cells h off = rw off refl
+
+at-white : (options : ParseOptions) (cells : List Cell) (h : Here) → options.constructs.heading_atx ≡ true → begins_white cells ≡ true →
+    heading_at options cells h ≡ before_opening (white_rest (small_indent options) cells) (behind_white (small_indent options) cells (entered_here h))
+unfolding heading_at
+at-white options cells h on s = rw (on, s) refl
+
+at-none : (options : ParseOptions) (cells : List Cell) (h : Here) → options.constructs.heading_atx ≡ true → begins_white cells ≡ false → heading_at options cells h ≡ before_opening cells (entered_here h)
+unfolding heading_at
+at-none options cells h on s = rw (on, s) refl
+
+abbrev white_frame : State → World → List Event → Frame
+white_frame ok w events = record { ok = ok; nok = Nok; is_check = false; events_len = length events; point = w.point }
+
+pub heading_start_steps : (B : Behaviour) (feed : Feed) (w : World) (x y : Bool) → HasHeading B w.setting.options → Sees feed w → w.setting.options.constructs.heading_atx ≡ x → sees_white w.current ≡ y →
+    Steps B feed (Next n.HeadingAtxStart) w (start_code w x y).to (start_code w x y).world
+heading_start_steps B feed w false y has s e f = passes B feed _ _ w w refl refl (has.start _ _ ∙ at-off _ (feed w.point) (here w) e)
+heading_start_steps B feed w true true has s e f =
+    let h : Here = entered_here (here w) in
+    let frame : Frame = white_frame (Next n.HeadingAtxBefore) w h.events in
+    let white : begins_white (feed w.point) ≡ true = begins-seen feed w s ∙ f in
+    begins B feed _ _ w (start_code w true true).world (enter parts.HeadingAtx w.point ∷ []) frame refl refl
+    (has.start _ _ ∙ at-white _ (feed w.point) (here w) e white ∙ sym (has.before _ _)
+    ∙ white-tried B feed frame h.events (feed w.point) h 0 (small_indent w.setting.options) has.white white (small-some w.setting.options) (omega arith) refl)
+heading_start_steps B feed w true false has s e f =
+    moves B feed _ _ w (start_code w true false).world (enter parts.HeadingAtx w.point ∷ []) refl refl
+    (has.start _ _ ∙ at-none _ (feed w.point) (here w) e (begins-seen feed w s ∙ f) ∙ sym (has.before _ _))
+
+-- Behind the indent.
+
+hash-no_ending : (b : ℕ) → nat_eq b 35 ≡ true → nat_eq b 10 ≡ false
+hash-no_ending b e = rw (eq-of b 35 e) refl
+
+rest-same : (s : Scratch) → IsRest s → without_size s ≡ s
+rest-same s r = ap without_size r ∙ sym r
+
+other-ahead : (feed : Feed) (w : World) (h : Here) (o : Option ℕ) → is_current 35 o ≡ false → before_opening (ahead feed w o) h ≡ Refuses h.scratch h.flags
+unfolding before_opening
+other-ahead feed w h None e = refl
+other-ahead feed w h (Some b) e = before-other (cell_here feed w b) (feed (after w.setting w.point)) h e
+
+pub heading_before_steps : (B : Behaviour) (options : ParseOptions) (feed : Feed) (w : World) (x : Bool) → HasHeading B options → Sees feed w → IsRest w.scratch → is_current 35 w.current ≡ x →
+    Steps B feed (Next n.HeadingAtxBefore) w (before_code w x).to (before_code w x).world
+heading_before_steps B options feed w true has s r e =
+    let saw = sees-one feed w (is_current 35) refl s e in
+    let h : Here = record (here w) { events = w.events ++ enter parts.HeadingAtxSequence w.point ∷ [] } in
+    moves B feed _ _ w (before_code w true).world (enter parts.HeadingAtxSequence w.point ∷ []) refl refl
+    (has.before _ _ ∙ ap (λ (x : List Cell). before_opening x (here w)) saw.1
+    ∙ before-hash (cell_here feed w saw.0) (feed (after w.setting w.point)) (here w) saw.2 (hash-no_ending saw.0 saw.2) (ap (λ (t : Scratch). t.size) r) (rest-same w.scratch r)
+    ∙ ap (λ (x : List Cell). in_opening x h) (sym saw.1) ∙ sym (has.sequence_open _ _))
+heading_before_steps B options feed w false has s r e =
+    passes B feed _ _ w w refl refl (has.before _ _ ∙ rw s.next (other-ahead feed w (here w) w.current e))
+
+-- Behind a run of the line.
+
+-- a run that does not go on with what stands here ends
+run-stops : (feed : Feed) (w : World) (h : Here) (run : Run) (o : Option ℕ) → ((b : ℕ) → o ≡ Some b → nat_eq b 10 ≡ false → goes_on run b ≡ false) →
+    in_heading run (ahead feed w o) h ≡ in_heading Apart (ahead feed w o) (record h { events = h.events ++ closes run h.point })
+run-stops feed w h run None stops = run-ends_none run h
+run-stops feed w h run (Some b) stops = go (nat_eq b 10) refl
+  where
+    go : (x : Bool) → nat_eq b 10 ≡ x → in_heading run (ahead feed w (Some b)) h ≡ in_heading Apart (ahead feed w (Some b)) (record h { events = h.events ++ closes run h.point })
+    go true e = run-ends_line run (cell_here feed w b) (feed (after w.setting w.point)) h e
+    go false e = run-ends run (cell_here feed w b) (feed (after w.setting w.point)) h (stops b refl e) e
+
+-- whitespace that is here is the next run
+white-here : (feed : Feed) (w : World) (h : Here) → Sees feed w → sees_white w.current ≡ true → in_heading Apart (feed w.point) h ≡ in_heading White (feed w.point) (record h { events = h.events ++ enter SpaceOrTab h.point ∷ [] })
+white-here feed w h s e =
+    let saw = sees-one feed w sees_white refl s e in
+    ap (λ (x : List Cell). in_heading Apart x h) saw.1 ∙ apart-white (cell_here feed w saw.0) (feed (after w.setting w.point)) h saw.2
+    ∙ ap (λ (x : List Cell). in_heading White x (record h { events = h.events ++ enter SpaceOrTab h.point ∷ [] })) (sym saw.1)
+
+-- the same place, its events written in another way
+joined : (room : ℕ) (cells : List Cell) (h : Here) → calmed h.scratch ≡ h.scratch →
+    here_after room cells (record h { events = h.events ++ enter SpaceOrTab h.point ∷ [] }) ≡ behind_white room cells h
+unfolding here_after
+joined room cells h same =
+    ap₂ (λ (es : List Event) (t : Scratch). let r : Here = record h { events = es; point = white_end room cells h.point; scratch = t } in r) (append_assoc h.events (enter SpaceOrTab h.point ∷ []) _) (sym same)
+
+-- what is left behind a run that has ended, in a step that ends it
+behind_steps : (B : Behaviour) (options : ParseOptions) (feed : Feed) (from : State) (w : World) (name : Name) (t : Scratch) (x : Bool) → HasHeading B options → Sees feed w → IsRest t → sees_white w.current ≡ x →
+    goes B from (feed w.point) (here w) ≡ in_heading Apart (feed w.point) (record (here w) { events = w.events ++ exit name w.point ∷ []; scratch = t }) →
+    (let left : Went = behind_part (record w { events = w.events ++ exit name w.point ∷ []; scratch = t }) x in Steps B feed from w left.to left.world)
+behind_steps B options feed from w name t true has s r e same =
+    let h : Here = record (here w) { events = w.events ++ exit name w.point ∷ []; scratch = t } in
+    let frame : Frame = white_frame (Next n.HeadingAtxAtBreak) w h.events in
+    begins B feed from _ w (behind_part (record w { events = h.events; scratch = t }) true).world (exit name w.point ∷ []) frame refl refl
+    (same ∙ white-here feed w h s e
+    ∙ white-run any_size (feed w.point) (record h { events = h.events ++ enter SpaceOrTab h.point ∷ [] }) (omega (arith, s.short))
+    ∙ ap (at_break (white_rest any_size (feed w.point))) (joined any_size (feed w.point) h (ap calmed r ∙ sym r))
+    ∙ sym (has.at_break _ _)
+    ∙ white-tried B feed frame h.events (feed w.point) h 1 any_size has.white (begins-seen feed w s ∙ e) (omega arith) (omega arith) refl)
+behind_steps B options feed from w name t false has s r e same =
+    let h : Here = record (here w) { events = w.events ++ exit name w.point ∷ []; scratch = t } in
+    moves B feed from _ w (behind_part (record w { events = h.events; scratch = t }) false).world (exit name w.point ∷ []) refl refl
+    (same ∙ sym (apart-none (feed w.point) h (begins-seen feed w s ∙ e)) ∙ sym (has.at_break _ _))
+
+-- The opening sequence.
+
+opening-refuses : (feed : Feed) (w : World) (h : Here) (o : Option ℕ) → is_current 35 o && nat_lt h.scratch.size 6 ≡ false → sees_text o ≡ true → in_opening (ahead feed w o) h ≡ Refuses (without_size h.scratch) h.flags
+opening-refuses feed w h None e f = cc
+opening-refuses feed w h (Some b) e f = go (nat_eq b 35) refl e
+  where
+    apart : (is_white b ≡ false) × (nat_eq b 10 ≡ false)
+    apart = not-or (is_white b) (nat_eq b 10) f
+
+    go : (x : Bool) → nat_eq b 35 ≡ x → x && nat_lt h.scratch.size 6 ≡ false → in_opening (ahead feed w (Some b)) h ≡ Refuses (without_size h.scratch) h.flags
+    go true k e = let full : 6 ≤ h.scratch.size = grind (arith, nat_tests) in opening-full (cell_here feed w b) (feed (after w.setting w.point)) h k apart.1 full
+    go false k e = opening-text (cell_here feed w b) (feed (after w.setting w.point)) h k apart.1 apart.0
+
+opening-stops : (feed : Feed) (w : World) (h : Here) (o : Option ℕ) → sees_text o ≡ false → h.scratch.size ≤ 6 →
+    in_opening (ahead feed w o) h ≡ in_heading Hashes (ahead feed w o) (record h { scratch = without_size h.scratch })
+opening-stops feed w h None e le = opening-none h le
+opening-stops feed w h (Some b) e le = go (nat_eq b 10) refl
+  where
+    go : (x : Bool) → nat_eq b 10 ≡ x → in_opening (ahead feed w (Some b)) h ≡ in_heading Hashes (ahead feed w (Some b)) (record h { scratch = without_size h.scratch })
+    go true k = opening-ends (cell_here feed w b) (feed (after w.setting w.point)) h k le
+    go false k = opening-white (cell_here feed w b) (feed (after w.setting w.point)) h (or-left (is_white b) (nat_eq b 10) e k) le
+
+white-of : (o : Option ℕ) (b : ℕ) → sees_text o ≡ false → o ≡ Some b → nat_eq b 10 ≡ false → is_white b ≡ true
+white-of o b e is k = or-left (is_white b) (nat_eq b 10) (sym (ap sees_text is) ∙ e) k
+
+and-left : (a b : Bool) → a && b ≡ true → a ≡ true
+and-left true b e = refl
+and-left false b e = cc
+
+and-right : (a b : Bool) → a && b ≡ true → b ≡ true
+and-right true b e = e
+and-right false b e = cc
+
+not-of : (a : Bool) → not a ≡ true → a ≡ false
+not-of true e = cc
+not-of false e = refl
+
+pub sequence_open_steps : (B : Behaviour) (options : ParseOptions) (feed : Feed) (w : World) (x y z : Bool) → HasHeading B options → Sees feed w → IsRest (without_size w.scratch) → w.scratch.size ≤ 6 →
+    is_current 35 w.current && nat_lt w.scratch.size 6 ≡ x → sees_text w.current ≡ y → sees_white w.current ≡ z → Steps B feed (Next n.HeadingAtxSequenceOpen) w (sequence_open_code w x y z).to (sequence_open_code w x y z).world
+sequence_open_steps B options feed w true y z has s r le e f g =
+    let saw = sees-one feed w (is_current 35) refl s (and-left _ _ e) in
+    passes B feed _ _ w (sequence_open_code w true y z).world refl refl
+    (has.sequence_open _ _ ∙ ap (λ (x : List Cell). in_opening x (here w)) saw.1
+    ∙ opening-more (cell_here feed w saw.0) (feed (after w.setting w.point)) (here w) saw.2 (hash-no_ending saw.0 saw.2) ∙ sym (has.sequence_open _ _))
+sequence_open_steps B options feed w false true z has s r le e f g =
+    passes B feed _ _ w (sequence_open_code w false true z).world refl refl (has.sequence_open _ _ ∙ rw s.next (opening-refuses feed w (here w) w.current e f))
+sequence_open_steps B options feed w false false z has s r le e f g =
+    let h : Here = record (here w) { scratch = without_size w.scratch } in
+    behind_steps B options feed (Next n.HeadingAtxSequenceOpen) w parts.HeadingAtxSequence (without_size w.scratch) z has s r g
+    (has.sequence_open _ _ ∙ rw s.next (opening-stops feed w (here w) w.current f le
+    ∙ run-stops feed w h Hashes w.current (λ b is k. white-no_hash b (white-of w.current b f is k))))
+
+-- Between two runs.
+
+-- a run begins with what stands here
+run-here : (feed : Feed) (w : World) (h : Here) (b : ℕ) (run : Run) → feed w.point ≡ cell_here feed w b ∷ feed (after w.setting w.point) → is_white b ≡ false → nat_eq b 10 ≡ false → begun b ≡ run →
+    at_break (feed w.point) h ≡ in_heading run (feed w.point) (record h { events = h.events ++ opens run h.point })
+run-here feed w h b run saw white ending is =
+    let c = cell_here feed w b in
+    let cs = feed (after w.setting w.point) in
+    ap (λ (x : List Cell). at_break x h) saw ∙ apart-none (c ∷ cs) h white ∙ run-begins c cs h ending
+    ∙ ap (λ (r : Run). in_heading r (c ∷ cs) (record h { events = h.events ++ opens r h.point })) is
+    ∙ ap (λ (x : List Cell). in_heading run x (record h { events = h.events ++ opens run h.point })) (sym saw)
+
+text-begins : (b : ℕ) → is_white b ≡ false → nat_eq b 35 ≡ false → begun b ≡ Text
+text-begins b s k = rw (s, k) refl
+
+line-ends : (feed : Feed) (w : World) (h : Here) (o : Option ℕ) → ends_line o ≡ true →
+    at_break (ahead feed w o) h ≡ Accepts (record h { events = h.events ++ exit parts.HeadingAtx h.point ∷ []; flags = record h.flags { interrupt = false } }) (ahead feed w o)
+unfolding at_break in_heading
+line-ends feed w h None e = rw append-nil refl
+line-ends feed w h (Some b) e = let white : is_white b ≡ false = rw (eq-of b 10 e) refl in rw (white, e, append-nil) refl
+
+white-refuses : (feed : Feed) (w : World) (h : Here) (o : Option ℕ) → sees_text o ≡ false → ends_line o ≡ false → at_break (ahead feed w o) h ≡ Refuses h.scratch h.flags
+unfolding at_break
+white-refuses feed w h None e f = cc
+white-refuses feed w h (Some b) e f = rw (or-left (is_white b) (nat_eq b 10) e f) refl
+
+pub heading_at_break_steps : (B : Behaviour) (options : ParseOptions) (feed : Feed) (is_name : ResolveName → Bool) (w : World) (x y z : Bool) → HasHeading B options → Sees feed w →
+    sees_text w.current ≡ x → is_current 35 w.current ≡ y → ends_line w.current ≡ z → Steps B feed (Next n.HeadingAtxAtBreak) w (at_break_code is_name w x y z).to (at_break_code is_name w x y z).world
+heading_at_break_steps B options feed is_name w true true z has s e f g =
+    let saw = sees-one feed w (is_current 35) refl s f in
+    let white : is_white saw.0 ≡ false = rw (eq-of saw.0 35 saw.2) refl in
+    moves B feed _ _ w (at_break_code is_name w true true z).world (enter parts.HeadingAtxSequence w.point ∷ []) refl refl
+    (has.at_break _ _ ∙ run-here feed w (here w) saw.0 Hashes saw.1 white (hash-no_ending saw.0 saw.2) (ap begun (eq-of saw.0 35 saw.2)) ∙ sym (has.sequence_further _ _))
+heading_at_break_steps B options feed is_name w true false z has s e f g =
+    let saw = sees-one feed w (λ (o : Option ℕ). sees_text o && not (is_current 35 o)) refl s (rw (e, f) refl) in
+    let apart = not-or (is_white saw.0) (nat_eq saw.0 10) (and-left _ _ saw.2) in
+    moves B feed _ _ w (at_break_code is_name w true false z).world (record { kind = Enter; name = parts.Data; point = w.point; link = Some heading_link } ∷ []) refl refl
+    (has.at_break _ _ ∙ run-here feed w (here w) saw.0 Text saw.1 apart.0 apart.1 (text-begins saw.0 apart.0 (not-of _ (and-right _ _ saw.2))) ∙ sym (has.text _ _))
+heading_at_break_steps B options feed is_name w false y true has s e f g =
+    moves B feed _ _ w (at_break_code is_name w false y true).world (exit parts.HeadingAtx w.point ∷ []) refl refl
+    (has.at_break _ _ ∙ rw s.next (line-ends feed w (here w) w.current g))
+heading_at_break_steps B options feed is_name w false y false has s e f g =
+    passes B feed _ _ w w refl refl (has.at_break _ _ ∙ rw s.next (white-refuses feed w (here w) w.current e g))
+
+-- In a run.
+
+pub sequence_further_steps : (B : Behaviour) (options : ParseOptions) (feed : Feed) (w : World) (x y : Bool) → HasHeading B options → Sees feed w → IsRest w.scratch →
+    is_current 35 w.current ≡ x → sees_white w.current ≡ y → Steps B feed (Next n.HeadingAtxSequenceFurther) w (sequence_further_code w x y).to (sequence_further_code w x y).world
+sequence_further_steps B options feed w true y has s r e f =
+    let saw = sees-one feed w (is_current 35) refl s e in
+    passes B feed _ _ w (sequence_further_code w true y).world refl refl
+    (has.sequence_further _ _ ∙ ap (λ (x : List Cell). in_heading Hashes x (here w)) saw.1
+    ∙ run-more Hashes (cell_here feed w saw.0) (feed (after w.setting w.point)) (here w) saw.2 (hash-no_ending saw.0 saw.2) ∙ sym (has.sequence_further _ _))
+sequence_further_steps B options feed w false y has s r e f =
+    behind_steps B options feed (Next n.HeadingAtxSequenceFurther) w parts.HeadingAtxSequence w.scratch y has s r f
+    (has.sequence_further _ _ ∙ rw s.next (run-stops feed w (here w) Hashes w.current (λ b is k. sym (ap (is_current 35) is) ∙ e)))
+
+pub data_steps : (B : Behaviour) (options : ParseOptions) (feed : Feed) (w : World) (x y : Bool) → HasHeading B options → Sees feed w → IsRest w.scratch →
+    sees_text w.current ≡ x → sees_white w.current ≡ y → Steps B feed (Next n.HeadingAtxData) w (data_code w x y).to (data_code w x y).world
+data_steps B options feed w true y has s r e f =
+    let saw = sees-one feed w sees_text refl s e in
+    let apart = not-or (is_white saw.0) (nat_eq saw.0 10) saw.2 in
+    passes B feed _ _ w (data_code w true y).world refl refl
+    (has.text _ _ ∙ ap (λ (x : List Cell). in_heading Text x (here w)) saw.1
+    ∙ run-more Text (cell_here feed w saw.0) (feed (after w.setting w.point)) (here w) (not-false _ apart.0) apart.1 ∙ sym (has.text _ _))
+data_steps B options feed w false y has s r e f =
+    behind_steps B options feed (Next n.HeadingAtxData) w parts.Data w.scratch y has s r f
+    (has.text _ _ ∙ rw s.next (run-stops feed w (here w) Text w.current (λ b is k. not-true _ (white-of w.current b e is k))))

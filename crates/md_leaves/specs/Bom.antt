@@ -1,0 +1,57 @@
+-- The byte order mark.
+use Rattle.std.specs.Prelude.{ℕ, ◌+◌, ◌<◌, Bool, true, false, nat_lt, List, [], ◌∷◌, get_or}
+use Rattle.md_engine.specs.declared.event.Name.TheVariants.{ByteOrderMark}
+use Rattle.md_engine.specs.declared.state.Name.{Name as StateName}
+use Rattle.md_engine.specs.declared.state.Name.TheVariants.{BomStart, BomInside}
+use Rattle.md_engine.specs.declared.state.State.TheVariants.{Ok, Nok, Next, Retry}
+use Rattle.md_engine.specs.Scheme.{After, Ends, Scheme, Spot}
+use Rattle.md_engine.specs.World.{World}
+use Rattle.md_leaves.specs.Heading.{without_size}
+use Rattle.md_seam.specs.Spaces.{IsRest, is_current, rest_ready}
+use Rattle.md_seam.specs.Went.{Went, entered, exited, taken}
+
+-- U+FEFF
+abbrev pub mark : List ℕ
+mark = 239 ∷ 187 ∷ 191 ∷ []
+
+-- the byte of the mark behind so many of its bytes
+abbrev pub mark_at : ℕ → ℕ
+mark_at size = get_or mark size 0
+
+-- by whether the first byte of the mark stands here
+abbrev pub start_code : World → Bool → Went
+start_code w true = record { to = Retry BomInside; world = entered w ByteOrderMark }
+start_code w false = record { to = Nok; world = w }
+
+-- by whether the next byte of the mark stands here, and whether more of the mark follows
+abbrev pub inside_code : World → Bool → Bool → Went
+inside_code w true true = record { to = Next BomInside; world = record (taken w) { scratch = record w.scratch { size = w.scratch.size + 1 } } }
+inside_code w true false = record { to = Ok; world = record (exited (taken w) ByteOrderMark) { scratch = without_size w.scratch } }
+inside_code w false more = record { to = Nok; world = record w { scratch = without_size w.scratch } }
+
+-- each state with what it does, where there is memory
+abbrev pub start_went : World → Went
+start_went w = start_code w (is_current 239 w.current)
+
+abbrev pub inside_went : World → Went
+inside_went w = inside_code w (is_current (mark_at w.scratch.size) w.current) (nat_lt w.scratch.size 2)
+
+abbrev pub BomNeeds : StateName → World → Type 0
+BomNeeds BomInside w = w.scratch.size < 3
+BomNeeds _ w = Unit {0}
+
+-- Inside, not all of the mark is taken.
+pub record IsMarking (x : Spot) : Type 0 where
+  pub size : x.scratch.size < 3
+  pub rest : IsRest (without_size x.scratch)
+
+abbrev pub bom_ready : StateName → Spot → After → Type 0
+bom_ready BomInside x K = IsMarking x × Ends IsRest IsRest x K
+bom_ready _ x K = rest_ready x K
+
+abbrev pub bom_rank : StateName → Spot → ℕ
+bom_rank BomStart x = 1
+bom_rank _ x = 0
+
+abbrev pub bom_scheme : Scheme
+bom_scheme = record { ready = bom_ready; level = λ n. 1; rank = bom_rank; tries = λ n. 0 }

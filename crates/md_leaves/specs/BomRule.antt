@@ -1,0 +1,36 @@
+-- The rule of the byte order mark, as what is left of it at each state.
+use Rattle.std.specs.Prelude.{◌≡◌, ℕ, Bool, true, false, ◌&&◌, ◌==◌, if◌then◌else◌, List, [], ◌∷◌, ◌++◌, length, take, drop}
+use Rattle.md_engine.specs.declared.event.Name.TheVariants.{ByteOrderMark}
+use Rattle.md_engine.specs.declared.state.Name.TheVariants.{BomStart, BomInside}
+use Rattle.md_engine.specs.Meaning.{Accepts, Behaviour, Cell, Here, Outcome, Refuses}
+use Rattle.md_leaves.specs.Bom.{mark}
+use Rattle.md_leaves.specs.Heading.{without_size}
+use Rattle.md_seam.specs.Ahead.{point_after}
+use Rattle.md_seam.specs.Nested.{exit, pair}
+
+-- whether the first cells are these bytes
+abbrev pub are_next : List ℕ → List Cell → Bool
+are_next [] cells = true
+are_next (b ∷ bytes) [] = false
+are_next (b ∷ bytes) (c ∷ cells) = (c.byte == b) && are_next bytes cells
+
+-- inside a mark: the rest of it
+unfoldable pub inside_mark : List Cell → Here → Outcome
+inside_mark cells h =
+    let left = drop h.scratch.size mark in
+    let p = point_after (take (length left) cells) h.point in
+    if are_next left cells
+    then Accepts (record h { events = h.events ++ exit ByteOrderMark p ∷ []; point = p; scratch = without_size h.scratch }) (drop (length left) cells)
+    else Refuses (without_size h.scratch) h.flags
+
+-- the whole rule: the first three cells are the mark
+unfoldable pub bom_at : List Cell → Here → Outcome
+bom_at cells h =
+    let p = point_after (take 3 cells) h.point in
+    if are_next mark cells
+    then Accepts (record h { events = h.events ++ pair ByteOrderMark h.point p; point = p }) (drop 3 cells)
+    else Refuses h.scratch h.flags
+
+pub record HasBom (B : Behaviour) : Type 0 where
+  pub start : (cells : List Cell) (h : Here) → B BomStart cells h ≡ bom_at cells h
+  pub inside : (cells : List Cell) (h : Here) → B BomInside cells h ≡ inside_mark cells h

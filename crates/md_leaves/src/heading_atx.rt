@@ -1,0 +1,211 @@
+// ATX headings (CommonMark 4.2).
+//
+//     heading_atx ::= small_indent 1*6'#' [ 1*space_or_tab line [ 1*space_or_tab 1*'#' ] ] *space_or_tab
+//
+// The states add `HeadingAtx` around runs of the line: `HeadingAtxSequence`, `SpaceOrTab` and linked `Data`. When all of it
+// is read, `resolve` puts `HeadingAtxText` around what lies between the first `Data` and the last, as one `Data`.
+
+ghost use Rattle.std.specs.Prelude.{◌≡◌, ◌≢◌, [], IfOk, None};
+ghost use Rattle.std.specs.Option.{option_map};
+ghost use Rattle.md_engine.specs.Found.{found_in};
+ghost use Rattle.md_engine.specs.World.{world};
+ghost use Rattle.md_engine.specs.declared.state.Name.{Name as StateName};
+ghost use Rattle.md_engine.specs.declared.state.State.{State};
+ghost use Rattle.md_leaves.specs.Heading.{at_break_went, before_went, behind_part, data_went, sequence_further_went, sequence_open_went, start_went};
+ghost use Rattle.md_leaves.specs.HeadingText.{headings_resolved};
+ghost use Rattle.md_seam.specs.Spaces.{sees_white};
+ghost use Rattle.md_seam.specs.Went.{IsAt, NeedsNothing};
+
+use crate::heading_text::put_texts;
+use md_engine::event::{Content, Link, Name};
+use md_engine::message::Message;
+use md_engine::or_error;
+use md_engine::resolve::Name as ResolveName;
+use md_engine::state::{Name as StateName, State};
+use md_engine::subtokenize::Subresult;
+use md_engine::tokenizer::Tokenizer;
+use md_seam::space_or_tab::{is_space_or_tab, small_indent, space_or_tab, space_or_tab_min_max};
+
+/// An opening sequence has at most so many `#`.
+const OPENING: usize = 6;
+
+/// Before a heading.
+///
+/// ```markdown
+/// > | ## aa
+///     ^
+/// ```
+pub fn start(tokenizer: &mut Tokenizer) -> State
+    requires { IsAt NeedsNothing StateName.HeadingAtxStart (world tokenizer.old) }
+    ensures to { result ≢ State.Error → result ≡ (start_went (world tokenizer.old)).to }
+    ensures world { result ≢ State.Error → world tokenizer.new ≡ (start_went (world tokenizer.old)).world }
+{
+    if !tokenizer.options.constructs.heading_atx {
+        return State::Nok;
+    }
+    or_error!(tokenizer.enter(Name::HeadingAtx));
+    if is_space_or_tab(tokenizer.current) {
+        let max = small_indent(tokenizer);
+        space_or_tab_min_max(
+            tokenizer,
+            0,
+            max,
+            State::Next(StateName::HeadingAtxBefore),
+            State::Nok,
+        )
+    } else {
+        State::Retry(StateName::HeadingAtxBefore)
+    }
+}
+
+/// Behind the indent, at `#`.
+///
+/// ```markdown
+/// > | ## aa
+///     ^
+/// ```
+pub fn before(tokenizer: &mut Tokenizer) -> State
+    requires { IsAt NeedsNothing StateName.HeadingAtxBefore (world tokenizer.old) }
+    ensures to { result ≢ State.Error → result ≡ (before_went (world tokenizer.old)).to }
+    ensures world { result ≢ State.Error → world tokenizer.new ≡ (before_went (world tokenizer.old)).world }
+{
+    if tokenizer.current == Some(b'#') {
+        or_error!(tokenizer.enter(Name::HeadingAtxSequence));
+        State::Retry(StateName::HeadingAtxSequenceOpen)
+    } else {
+        State::Nok
+    }
+}
+
+/// Goes on behind a run of the line: behind whitespace, if some stands here.
+fn go_on(tokenizer: &mut Tokenizer) -> State
+    ensures to { result ≢ State.Error → result ≡ (behind_part (world tokenizer.old) (sees_white tokenizer.old.current)).to }
+    ensures world { result ≢ State.Error → world tokenizer.new ≡ (behind_part (world tokenizer.old) (sees_white tokenizer.old.current)).world }
+{
+    if is_space_or_tab(tokenizer.current) {
+        space_or_tab(
+            tokenizer,
+            State::Next(StateName::HeadingAtxAtBreak),
+            State::Nok,
+        )
+    } else {
+        State::Retry(StateName::HeadingAtxAtBreak)
+    }
+}
+
+/// In the opening sequence.
+///
+/// ```markdown
+/// > | ## aa
+///     ^^
+/// ```
+pub fn sequence_open(tokenizer: &mut Tokenizer) -> State
+    requires { IsAt NeedsNothing StateName.HeadingAtxSequenceOpen (world tokenizer.old) }
+    ensures to { result ≢ State.Error → result ≡ (sequence_open_went (world tokenizer.old)).to }
+    ensures world { result ≢ State.Error → world tokenizer.new ≡ (sequence_open_went (world tokenizer.old)).world }
+{
+    if tokenizer.current == Some(b'#') && tokenizer.scratch.size < OPENING {
+        tokenizer.consume();
+        tokenizer.scratch.size += 1;
+        return State::Next(StateName::HeadingAtxSequenceOpen);
+    }
+    tokenizer.scratch.size = 0;
+    match tokenizer.current {
+        None | Some(b'\t' | b'\n' | b' ') => {
+            or_error!(tokenizer.exit(Name::HeadingAtxSequence));
+            go_on(tokenizer)
+        }
+        _ => State::Nok,
+    }
+}
+
+/// Before a run of the line, or at its end.
+///
+/// ```markdown
+/// > | ## aa ##
+///        ^  ^ ^
+/// ```
+pub fn at_break(tokenizer: &mut Tokenizer) -> State
+    requires { IsAt NeedsNothing StateName.HeadingAtxAtBreak (world tokenizer.old) }
+    ensures to { result ≢ State.Error → result ≡ (at_break_went (λ name. ⟦<ResolveName as PartialEq>⟧.eq name ResolveName.HeadingAtx) (world tokenizer.old)).to }
+    ensures world { result ≢ State.Error → world tokenizer.new ≡ (at_break_went (λ name. ⟦<ResolveName as PartialEq>⟧.eq name ResolveName.HeadingAtx) (world tokenizer.old)).world }
+{
+    match tokenizer.current {
+        None | Some(b'\n') => {
+            or_error!(tokenizer.exit(Name::HeadingAtx));
+            or_error!(tokenizer.register_resolver(ResolveName::HeadingAtx));
+            tokenizer.flags.interrupt = false;
+            State::Ok
+        }
+        // All whitespace lies behind.
+        Some(b'\t' | b' ') => State::Nok,
+        Some(b'#') => {
+            or_error!(tokenizer.enter(Name::HeadingAtxSequence));
+            State::Retry(StateName::HeadingAtxSequenceFurther)
+        }
+        Some(_) => {
+            let link = Link {
+                previous: None,
+                next: None,
+                content: Content::Text,
+            };
+            or_error!(tokenizer.enter_link(Name::Data, link));
+            State::Retry(StateName::HeadingAtxData)
+        }
+    }
+}
+
+/// In a further sequence: the closing one, or a part of the text.
+///
+/// ```markdown
+/// > | ## aa ##
+///           ^^
+/// ```
+pub fn sequence_further(tokenizer: &mut Tokenizer) -> State
+    requires { IsAt NeedsNothing StateName.HeadingAtxSequenceFurther (world tokenizer.old) }
+    ensures to { result ≢ State.Error → result ≡ (sequence_further_went (world tokenizer.old)).to }
+    ensures world { result ≢ State.Error → world tokenizer.new ≡ (sequence_further_went (world tokenizer.old)).world }
+{
+    if tokenizer.current == Some(b'#') {
+        tokenizer.consume();
+        State::Next(StateName::HeadingAtxSequenceFurther)
+    } else {
+        or_error!(tokenizer.exit(Name::HeadingAtxSequence));
+        go_on(tokenizer)
+    }
+}
+
+/// In text: a `#` that stands behind no whitespace belongs to it.
+///
+/// ```markdown
+/// > | ## aa
+///        ^^
+/// ```
+pub fn data(tokenizer: &mut Tokenizer) -> State
+    requires { IsAt NeedsNothing StateName.HeadingAtxData (world tokenizer.old) }
+    ensures to { result ≢ State.Error → result ≡ (data_went (world tokenizer.old)).to }
+    ensures world { result ≢ State.Error → world tokenizer.new ≡ (data_went (world tokenizer.old)).world }
+{
+    match tokenizer.current {
+        None | Some(b'\t' | b'\n' | b' ') => {
+            or_error!(tokenizer.exit(Name::Data));
+            go_on(tokenizer)
+        }
+        _ => {
+            tokenizer.consume();
+            State::Next(StateName::HeadingAtxData)
+        }
+    }
+}
+
+/// Sets the text of each heading: from its first `Data` to its last.
+///
+/// After an `Err` the parse has failed, and the tokenizer is only dropped.
+pub fn resolve(tokenizer: &mut Tokenizer) -> Result<Option<Subresult>, Message>
+    requires { (world tokenizer.old).frames ≡ [] }
+    ensures world { IfOk result (λ found. world tokenizer.new ≡ record (world tokenizer.old) { events = headings_resolved (world tokenizer.old).events }) }
+    ensures found { IfOk result (λ found. option_map found_in found ≡ None) }
+{
+    tokenizer.events = put_texts(tokenizer.alloc, &tokenizer.events)?;
+    Ok(None)
+}

@@ -1,0 +1,65 @@
+// The byte order mark at the front of a text.
+//
+//     byte_order_mark ::= 0xEF 0xBB 0xBF
+//
+// It adds `ByteOrderMark`.
+
+ghost use Rattle.std.specs.Prelude.{◌≡◌, ◌≢◌};
+ghost use Rattle.md_engine.specs.World.{world};
+ghost use Rattle.md_engine.specs.declared.state.Name.{Name as StateName};
+ghost use Rattle.md_engine.specs.declared.state.State.{State};
+ghost use Rattle.md_leaves.specs.Bom.{BomNeeds, inside_went, start_went};
+ghost use Rattle.md_seam.specs.Went.{IsAt};
+
+use md_engine::event::Name;
+use md_engine::or_error;
+use md_engine::state::{Name as StateName, State};
+use md_engine::tokenizer::Tokenizer;
+
+/// The bytes of the mark.
+const MARK: [u8; 3] = [0xEF, 0xBB, 0xBF];
+
+/// Before a mark.
+///
+/// ```text
+/// > | 0xEF 0xBB 0xBF
+///     ^^^^
+/// ```
+pub fn start(tokenizer: &mut Tokenizer) -> State
+    requires { IsAt BomNeeds StateName.BomStart (world tokenizer.old) }
+    ensures to { result ≢ State.Error → result ≡ (start_went (world tokenizer.old)).to }
+    ensures world { result ≢ State.Error → world tokenizer.new ≡ (start_went (world tokenizer.old)).world }
+{
+    if tokenizer.current == Some(MARK[0]) {
+        or_error!(tokenizer.enter(Name::ByteOrderMark));
+        State::Retry(StateName::BomInside)
+    } else {
+        State::Nok
+    }
+}
+
+/// In a mark.
+///
+/// ```text
+/// > | 0xEF 0xBB 0xBF
+///     ^^^^ ^^^^ ^^^^
+/// ```
+pub fn inside(tokenizer: &mut Tokenizer) -> State
+    requires { IsAt BomNeeds StateName.BomInside (world tokenizer.old) }
+    ensures to { result ≢ State.Error → result ≡ (inside_went (world tokenizer.old)).to }
+    ensures world { result ≢ State.Error → world tokenizer.new ≡ (inside_went (world tokenizer.old)).world }
+{
+    let size = tokenizer.scratch.size;
+    if tokenizer.current != Some(MARK[size]) {
+        tokenizer.scratch.size = 0;
+        return State::Nok;
+    }
+    tokenizer.consume();
+    if size + 1 < MARK.len() {
+        tokenizer.scratch.size = size + 1;
+        return State::Next(StateName::BomInside);
+    }
+    tokenizer.scratch.size = 0;
+    or_error!(tokenizer.exit(Name::ByteOrderMark));
+    State::Ok
+}
