@@ -146,11 +146,11 @@ opening-none h le = rw (few h.scratch.size le) refl
 
 -- Behind the indent.
 
-before-is : (cells : List Cell) (h : Here) → is_heading (line_bytes cells) ≡ true → before_opening cells h ≡ in_heading Apart cells h
+pub before-is : (cells : List Cell) (h : Here) → is_heading (line_bytes cells) ≡ true → before_opening cells h ≡ in_heading Apart cells h
 unfolding before_opening
 before-is cells h e = rw e refl
 
-before-no : (cells : List Cell) (h : Here) → is_heading (line_bytes cells) ≡ false → before_opening cells h ≡ Refuses h.scratch h.flags
+pub before-no : (cells : List Cell) (h : Here) → is_heading (line_bytes cells) ≡ false → before_opening cells h ≡ Refuses h.scratch h.flags
 unfolding before_opening
 before-no cells h e = rw e refl
 

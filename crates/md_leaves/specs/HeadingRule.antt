@@ -9,7 +9,7 @@ use Rattle.md_engine.specs.declared.state.Name.TheVariants.{HeadingAtxStart, Hea
 use Rattle.md_engine.specs.Meaning.{Accepts, Behaviour, Cell, Here, Outcome, Refuses}
 use Rattle.md_leaves.specs.Heading.{heading_link, without_size}
 use Rattle.md_seam.specs.Ahead.{HasWhite, begins_white, from_ending, line_bytes, line_cells, line_end, white_end, white_rest}
-use Rattle.md_seam.specs.Nested.{enter, exit}
+use Rattle.md_seam.specs.Nested.{enter, exit, pair}
 use Rattle.md_seam.specs.Rest.{is_parted, is_white, run_len}
 use Rattle.md_seam.specs.Spaces.{calmed, small_indent}
 
@@ -98,3 +98,17 @@ pub record HasHeading (B : Behaviour) (options : ParseOptions) : Type 0 where
   pub at_break : (cells : List Cell) (h : Here) → B HeadingAtxAtBreak cells h ≡ at_break cells h
   pub sequence_further : (cells : List Cell) (h : Here) → B HeadingAtxSequenceFurther cells h ≡ in_heading Hashes cells h
   pub text : (cells : List Cell) (h : Here) → B HeadingAtxData cells h ≡ in_heading Text cells h
+
+-- A line as a whole.
+
+-- whether a heading stands on a line of these cells, with as much whitespace before it as there may be
+abbrev pub is_heading_line : ParseOptions → List Cell → Bool
+is_heading_line options cells = options.constructs.heading_atx && is_heading (line_bytes (white_rest (small_indent options) cells))
+
+-- what stands in it: its indent, and its runs
+abbrev pub heading_inside : ParseOptions → List Cell → Point → List Event
+heading_inside options cells p =
+    let room = small_indent options in
+    let rest = white_rest room cells in
+    let q = white_end room cells p in
+    (if begins_white cells then pair SpaceOrTab p q else []) ++ runs Apart (line_cells rest) q

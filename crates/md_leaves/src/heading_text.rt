@@ -193,3 +193,6 @@ pub fn put_texts(alloc: Global, events: &[Event]) -> Result<Vec<Event>, Message>
     }
     walk.finish()
 }
+
+#[cfg(test)]
+mod tests;
