@@ -65,16 +65,16 @@ small-some options = go options.constructs.code_indented
 abbrev entered_here : Here → Here
 entered_here h = record h { events = h.events ++ enter parts.HeadingAtx h.point ∷ [] }
 
-at-off : (options : ParseOptions) (cells : List Cell) (h : Here) → options.constructs.heading_atx ≡ false → heading_at options cells h ≡ Refuses h.scratch h.flags
+pub at-off : (options : ParseOptions) (cells : List Cell) (h : Here) → options.constructs.heading_atx ≡ false → heading_at options cells h ≡ Refuses h.scratch h.flags
 unfolding heading_at
 at-off options cells h off = rw off refl
 
-at-white : (options : ParseOptions) (cells : List Cell) (h : Here) → options.constructs.heading_atx ≡ true → begins_white cells ≡ true →
+pub at-white : (options : ParseOptions) (cells : List Cell) (h : Here) → options.constructs.heading_atx ≡ true → begins_white cells ≡ true →
     heading_at options cells h ≡ before_opening (white_rest (small_indent options) cells) (behind_white (small_indent options) cells (entered_here h))
 unfolding heading_at
 at-white options cells h on s = rw (on, s) refl
 
-at-none : (options : ParseOptions) (cells : List Cell) (h : Here) → options.constructs.heading_atx ≡ true → begins_white cells ≡ false → heading_at options cells h ≡ before_opening cells (entered_here h)
+pub at-none : (options : ParseOptions) (cells : List Cell) (h : Here) → options.constructs.heading_atx ≡ true → begins_white cells ≡ false → heading_at options cells h ≡ before_opening cells (entered_here h)
 unfolding heading_at
 at-none options cells h on s = rw (on, s) refl
 

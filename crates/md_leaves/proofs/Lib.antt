@@ -5,5 +5,6 @@ pub mod BreakSteps
 pub mod HeadingGoods
 pub mod HeadingLemmas
 pub mod HeadingSteps
+pub mod HeadingWhole
 pub mod BomSteps
 pub mod HeadingWalkLemmas

@@ -90,10 +90,7 @@ fn sets_texts(rt: HostRuntime) {
         // `# a`
         ("H0S0s1W1w2D2d3h3", "H0S0s1W1w2T2D2d3t3h3"),
         // `# a # b`
-        (
-            "H0S0s1W1w2D2d3W3w4S4s5W5w6D6d7h7",
-            "H0S0s1W1w2T2D2d7t7h7",
-        ),
+        ("H0S0s1W1w2D2d3W3w4S4s5W5w6D6d7h7", "H0S0s1W1w2T2D2d7t7h7"),
         // `# a #`, and a second heading on the next line
         (
             "H0S0s1W1w2D2d3W3w4S4s5h5L5l6H6S6s7W7w8D8d9h9",
