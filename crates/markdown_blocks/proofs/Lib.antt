@@ -8,6 +8,7 @@ pub mod FlowEnds
 pub mod RowFacts
 pub mod FeedLines
 pub mod LineKinds
+pub mod HeadingLines
 pub mod RowLemmas
 pub mod FlowRows
 pub mod FlowReads

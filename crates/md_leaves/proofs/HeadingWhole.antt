@@ -15,7 +15,7 @@ use Rattle.md_leaves.proofs.HeadingSteps.{at-none, at-off, at-white}
 use Rattle.md_seam.specs.Ahead.{begins_white, from_ending, line_bytes, line_cells, line_end, white_end, white_rest}
 use Rattle.md_seam.specs.Leaves as leaves
 use Rattle.md_seam.specs.Nested.{around, enter, exit, pair}
-use Rattle.md_seam.specs.Rest.{Rest, has_small_indent, indent, is_white, run_len, is_parted, trim_start}
+use Rattle.md_seam.specs.Rest.{Rest, has_small_indent, is_white, run_len, is_parted, trim_start}
 use Rattle.md_seam.specs.Spaces.{calmed, small_indent}
 use Rattle.md_seam.proofs.WhiteSteps.{behind_white}
 
@@ -128,17 +128,16 @@ some-if : (x : Bool) (c : leaves.Came) → is_some (cond x (Some c) None) ≡ x
 some-if true c = refl
 some-if false c = refl
 
-flat : (a s b c c' d : Bool) → s ≡ true → c ≡ c' → (a && s && b && c && d) ≡ (a && (b && (c' && d)))
-flat false true b c c' d e k = refl
-flat true true false c c' d e k = refl
-flat true true true c c' d e k = ap (λ (x : Bool). x && d) k
-flat a false b c c' d e k = cc
+flat : (a s b c c' d : Bool) → c ≡ c' → (a && s && b && c && d) ≡ (a && (s && (b && (c' && d))))
+flat false s b c c' d k = refl
+flat true false b c c' d k = refl
+flat true true false c c' d k = refl
+flat true true true c c' d k = ap (λ (x : Bool). x && d) k
 
--- a line holds a heading by the definition if its bytes behind the indent do
-pub defined-heading : (options : ParseOptions) (r : Rest) → options.constructs.code_indented ≡ false → is_some (leaves.heading_at options r) ≡ (options.constructs.heading_atx && is_heading (trim_start r.bytes))
+-- a line holds a heading by the definition if its indent is small, and its bytes behind the indent do
+pub defined-heading : (options : ParseOptions) (r : Rest) → is_some (leaves.heading_at options r) ≡ (options.constructs.heading_atx && (has_small_indent options r && is_heading (trim_start r.bytes)))
 unfolding leaves.heading_at
-defined-heading options r off =
+defined-heading options r =
     let text = trim_start r.bytes in
     let depth = run_len 35 text in
-    let small : has_small_indent options r ≡ true = ap (λ (t : Bool). not t || nat_le (indent r) 3) off in
-    some-if _ _ ∙ flat options.constructs.heading_atx (has_small_indent options r) (nat_le 1 depth) (nat_le depth 6) (nat_le (0 + depth) 6) (is_parted (drop depth text)) small (ap (λ (n : ℕ). nat_le n 6) (omega arith))
+    some-if _ _ ∙ flat options.constructs.heading_atx (has_small_indent options r) (nat_le 1 depth) (nat_le depth 6) (nat_le (0 + depth) 6) (is_parted (drop depth text)) (ap (λ (n : ℕ). nat_le n 6) (omega arith))

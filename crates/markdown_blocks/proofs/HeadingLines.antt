@@ -1,0 +1,254 @@
+-- Whether a heading stands on a line, by its bytes and by its cells.
+use Rattle.std.proofs.Common.{◌≡◌, ℕ, zero, suc, ◌+◌, ◌-◌, ◌^◌, ◌<◌, ◌≤◌, Bool, true, false, cond, ◌&&◌, ◌||◌, List, [], ◌∷◌, ◌++◌, length, refl, sym, ap, ◌∙◌, subst, arith, append_assoc}
+use Rattle.std.specs.Prelude.{◌==◌, nat_le, not}
+use Rattle.std.specs.Option.{is_some}
+use Rattle.std.proofs.lemmas.Bool.{eqb-true}
+use Rattle.std.proofs.lemmas.Bool.Decides.{nat_tests}
+use Rattle.md_engine.specs.declared.configuration.ParseOptions.{ParseOptions}
+use Rattle.md_engine.specs.declared.event.Point.{Point}
+use Rattle.md_engine.specs.declared.tokenizer.Line.{Line}
+use Rattle.md_engine.specs.Meaning.{Cell}
+use Rattle.md_leaves.specs.HeadingRule.{is_heading, is_heading_line, is_opening}
+use Rattle.md_leaves.proofs.BreakLemmas.{white-no_ending}
+use Rattle.md_leaves.proofs.HeadingLemmas.{white-no_hash}
+use Rattle.md_leaves.proofs.HeadingWhole.{defined-heading}
+use Rattle.md_seam.specs.Ahead.{begins_white, line_bytes, white_rest}
+use Rattle.md_seam.specs.Leaves.{heading_at}
+use Rattle.md_seam.specs.Places.{past_byte, past_text}
+use Rattle.md_seam.specs.Rest.{Rest, has_small_indent, indent, is_white, run_len, tab_columns, trim_start, white_columns}
+use Rattle.md_seam.specs.Spaces.{any_size, small_indent}
+use Rattle.md_seam.proofs.TextsLemmas.{NoEnding}
+use Rattle.markdown_blocks.proofs.FeedLines.{bytes_of, cell, columns_more, next_column, spread, tab_cells}
+use Rattle.markdown_blocks.proofs.LineKinds.{Stops, no_ending-trim, small-rest, spread-bytes, white_front}
+
+-- `#` at the front
+
+hash-one : (b : ℕ) (bs : List ℕ) → (b == 35) ≡ true → run_len 35 (b ∷ bs) ≡ suc (run_len 35 bs)
+hash-one b bs e = rw e (omega arith)
+
+hash-none : (b : ℕ) (bs : List ℕ) → (b == 35) ≡ false → run_len 35 (b ∷ bs) ≡ 0
+hash-none b bs e = rw e refl
+
+opening-hash : (n b : ℕ) (bs : List ℕ) → (b == 35) ≡ true → is_opening n (b ∷ bs) ≡ is_opening (n + 1) bs
+opening-hash n b bs e =
+    let k = run_len 35 bs in
+    let sum : n + suc k ≡ n + 1 + k = omega arith in
+    rw (hash-one b bs e, sum) refl
+
+opening-other : (n b : ℕ) (bs : List ℕ) → (b == 35) ≡ false → is_opening n (b ∷ bs) ≡ (nat_le (n + 0) 6 && is_white b)
+opening-other n b bs e = rw (hash-none b bs e) refl
+
+heading-hash : (b : ℕ) (bs : List ℕ) → (b == 35) ≡ true → is_heading (b ∷ bs) ≡ is_opening 1 bs
+heading-hash b bs e =
+    let some : nat_le 1 (run_len 35 (b ∷ bs)) ≡ true = rw (hash-one b bs e) (grind (arith, nat_tests)) in
+    ap (λ (t : Bool). t && is_opening 0 (b ∷ bs)) some ∙ opening-hash 0 b bs e
+
+heading-other : (b : ℕ) (bs : List ℕ) → (b == 35) ≡ false → is_heading (b ∷ bs) ≡ false
+heading-other b bs e = rw (hash-none b bs e) refl
+
+opening-tab : (n : ℕ) (line : Line) (m : ℕ) (p : Point) (cs : List Cell) → is_opening n (bytes_of (tab_cells line m 9 p ++ cs)) ≡ (nat_le (n + 0) 6 && true)
+opening-tab n line zero p cs = refl
+opening-tab n line (suc m) p cs = refl
+
+heading-tab : (line : Line) (m : ℕ) (p : Point) (cs : List Cell) → is_heading (bytes_of (tab_cells line m 9 p ++ cs)) ≡ false
+heading-tab line zero p cs = refl
+heading-tab line (suc m) p cs = refl
+
+-- a byte that is no tab is one cell
+no_tab : (line : Line) (b : ℕ) (bs : List ℕ) (p : Point) → (b == 9) ≡ false → bytes_of (spread line (b ∷ bs) p) ≡ b ∷ bytes_of (spread line bs (past_byte b p))
+no_tab line b bs p e = ap (λ (t : Bool). bytes_of (cond t (tab_cells line (columns_more p) 9 p) (cell b (past_byte b p) line ∷ []) ++ spread line bs (past_byte b p))) e
+
+-- an opening run goes on in the cells as in the bytes
+opening-spread : (n : ℕ) (line : Line) (bytes : List ℕ) (p : Point) → is_opening n (bytes_of (spread line bytes p)) ≡ is_opening n bytes
+opening-spread n line [] p = refl
+opening-spread n line (b ∷ bs) p = go (b == 9) refl (b == 35) refl (opening-spread (n + 1) line bs (past_byte b p))
+  where
+    go : (t : Bool) → (b == 9) ≡ t → (m : Bool) → (b == 35) ≡ m → is_opening (n + 1) (bytes_of (spread line bs (past_byte b p))) ≡ is_opening (n + 1) bs →
+        is_opening n (bytes_of (spread line (b ∷ bs) p)) ≡ is_opening n (b ∷ bs)
+    go true e m k more =
+        let tab : b ≡ 9 = eqb-true b 9 e in
+        subst (λ (c : ℕ). is_opening n (bytes_of (spread line (c ∷ bs) p)) ≡ is_opening n (c ∷ bs)) (sym tab) (opening-tab n line (columns_more p) p (spread line bs (past_byte 9 p)))
+    go false e true k more =
+        ap (is_opening n) (no_tab line b bs p e) ∙ opening-hash n b (bytes_of (spread line bs (past_byte b p))) k ∙ more ∙ sym (opening-hash n b bs k)
+    go false e false k more =
+        ap (is_opening n) (no_tab line b bs p e) ∙ opening-other n b (bytes_of (spread line bs (past_byte b p))) k ∙ sym (opening-other n b bs k)
+
+-- a line is a heading by its cells if it is by its bytes
+pub heading-spread : (line : Line) (bytes : List ℕ) (p : Point) → is_heading (bytes_of (spread line bytes p)) ≡ is_heading bytes
+heading-spread line [] p = refl
+heading-spread line (b ∷ bs) p = go (b == 9) refl (b == 35) refl
+  where
+    go : (t : Bool) → (b == 9) ≡ t → (m : Bool) → (b == 35) ≡ m → is_heading (bytes_of (spread line (b ∷ bs) p)) ≡ is_heading (b ∷ bs)
+    go true e m k =
+        let tab : b ≡ 9 = eqb-true b 9 e in
+        subst (λ (c : ℕ). is_heading (bytes_of (spread line (c ∷ bs) p)) ≡ is_heading (c ∷ bs)) (sym tab) (heading-tab line (columns_more p) p (spread line bs (past_byte 9 p)))
+    go false e true k =
+        ap is_heading (no_tab line b bs p e) ∙ heading-hash b (bytes_of (spread line bs (past_byte b p))) k ∙ opening-spread 1 line bs (past_byte b p) ∙ sym (heading-hash b bs k)
+    go false e false k =
+        ap is_heading (no_tab line b bs p e) ∙ heading-other b (bytes_of (spread line bs (past_byte b p))) k ∙ sym (heading-other b bs k)
+
+-- The columns of the indent.
+
+-- how many cells of whitespace come first
+abbrev white_count : List Cell → ℕ
+white_count [] = 0
+white_count (c ∷ cs) = cond (is_white c.byte) (suc (white_count cs)) 0
+
+none-taken : (k : ℕ) (c : Cell) (cs : List Cell) → white_count (c ∷ cs) ≤ 0 → white_rest k (c ∷ cs) ≡ c ∷ cs
+none-taken zero c cs le = refl
+none-taken (suc k) c cs le = go (is_white c.byte) refl
+  where
+    go : (x : Bool) → is_white c.byte ≡ x → white_rest (suc k) (c ∷ cs) ≡ c ∷ cs
+    go true e = let bad : suc (white_count cs) ≤ 0 = subst (λ (t : Bool). cond t (suc (white_count cs)) 0 ≤ 0) e le in absurd (omega (arith, bad))
+    go false e = rw e refl
+
+-- where there is room for all of it, no more is taken
+same-rest : (m k : ℕ) (cells : List Cell) → white_count cells ≤ m → white_count cells ≤ k → white_rest m cells ≡ white_rest k cells
+same-rest m k [] le ge = refl
+same-rest zero k (c ∷ cs) le ge = sym (none-taken k c cs le)
+same-rest (suc m) zero (c ∷ cs) le ge = none-taken (suc m) c cs ge
+same-rest (suc m) (suc k) (c ∷ cs) le ge = go (is_white c.byte) refl (same-rest m k cs)
+  where
+    go : (x : Bool) → is_white c.byte ≡ x → (white_count cs ≤ m → white_count cs ≤ k → white_rest m cs ≡ white_rest k cs) → white_rest (suc m) (c ∷ cs) ≡ white_rest (suc k) (c ∷ cs)
+    go true e more =
+        let a : suc (white_count cs) ≤ suc m = subst (λ (t : Bool). cond t (suc (white_count cs)) 0 ≤ suc m) e le in
+        let b : suc (white_count cs) ≤ suc k = subst (λ (t : Bool). cond t (suc (white_count cs)) 0 ≤ suc k) e ge in
+        rw e (more (omega (arith, a)) (omega (arith, b)))
+    go false e more = rw e refl
+
+-- where there is more of it than room, some is left
+over-white : (m : ℕ) (cells : List Cell) → m < white_count cells → begins_white (white_rest m cells) ≡ true
+over-white m [] lt = absurd (omega arith)
+over-white zero (c ∷ cs) lt = go (is_white c.byte) refl
+  where
+    go : (x : Bool) → is_white c.byte ≡ x → is_white c.byte ≡ true
+    go true e = e
+    go false e = let bad : 0 < 0 = subst (λ (t : Bool). 0 < cond t (suc (white_count cs)) 0) e lt in absurd (omega (arith, bad))
+over-white (suc m) (c ∷ cs) lt = go (is_white c.byte) refl (over-white m cs)
+  where
+    go : (x : Bool) → is_white c.byte ≡ x → (m < white_count cs → begins_white (white_rest m cs) ≡ true) → begins_white (white_rest (suc m) (c ∷ cs)) ≡ true
+    go true e more =
+        let a : suc m < suc (white_count cs) = subst (λ (t : Bool). suc m < cond t (suc (white_count cs)) 0) e lt in
+        rw e (more (omega (arith, a)))
+    go false e more = let bad : suc m < 0 = subst (λ (t : Bool). suc m < cond t (suc (white_count cs)) 0) e lt in absurd (omega (arith, bad))
+
+count-length : (cells : List Cell) → white_count cells ≤ length cells
+count-length [] = omega arith
+count-length (c ∷ cs) = go (is_white c.byte) (count-length cs)
+  where
+    go : (x : Bool) → white_count cs ≤ length cs → cond x (suc (white_count cs)) 0 ≤ suc (length cs)
+    go true le = omega (arith, le)
+    go false le = omega arith
+
+count-stops : (rest : List Cell) → Stops rest → white_count rest ≡ 0
+count-stops [] k = refl
+count-stops (c ∷ cs) k = let ten : c.byte ≡ 10 = eqb-true c.byte 10 k in ap (λ (b : ℕ). cond (is_white b) (suc (white_count cs)) 0) ten
+
+count-tab : (line : Line) (m byte : ℕ) (p : Point) (ys : List Cell) → is_white byte ≡ true → white_count (tab_cells line m byte p ++ ys) ≡ suc m + white_count ys
+count-tab line zero byte p ys e = rw e (omega arith)
+count-tab line (suc m) byte p ys e = let more = count-tab line m 32 (next_column p) ys refl in rw (e, more) (omega arith)
+
+-- of a tab, as many as it has columns
+tab-count : (line : Line) (bs : List ℕ) (p : Point) (rest : List Cell) → 1 ≤ p.column → white_count (spread line bs (past_byte 9 p) ++ rest) ≡ white_columns ((past_byte 9 p).column - 1) bs →
+    white_count (spread line (9 ∷ bs) p ++ rest) ≡ white_columns (p.column - 1) (9 ∷ bs)
+tab-count line bs p rest one more =
+    let column = p.column - 1 in
+    let left = spread line bs (past_byte 9 p) ++ rest in
+    let next : (past_byte 9 p).column - 1 ≡ column + tab_columns column = omega arith in
+    let stop : suc (columns_more p) ≡ tab_columns column = omega arith in
+    ap white_count (append_assoc (tab_cells line (columns_more p) 9 p) (spread line bs (past_byte 9 p)) rest)
+    ∙ count-tab line (columns_more p) 9 p left refl
+    ∙ ap (λ (n : ℕ). suc (columns_more p) + n) (more ∙ ap (λ (n : ℕ). white_columns n bs) next)
+    ∙ ap (λ (n : ℕ). n + white_columns (column + tab_columns column) bs) stop
+
+space-count : (line : Line) (bs : List ℕ) (p : Point) (rest : List Cell) → 1 ≤ p.column → white_count (spread line bs (past_byte 32 p) ++ rest) ≡ white_columns ((past_byte 32 p).column - 1) bs →
+    white_count (spread line (32 ∷ bs) p ++ rest) ≡ white_columns (p.column - 1) (32 ∷ bs)
+space-count line bs p rest one more =
+    let column = p.column - 1 in
+    let next : (past_byte 32 p).column - 1 ≡ column + 1 = omega arith in
+    let same : white_count (spread line bs (past_byte 32 p) ++ rest) ≡ white_columns (column + 1) bs = more ∙ ap (λ (n : ℕ). white_columns n bs) next in
+    ap (λ (n : ℕ). suc n) same ∙ omega arith
+
+-- a line has as many cells of whitespace in front as columns
+count-white : (line : Line) (bytes : List ℕ) (p : Point) (rest : List Cell) → Stops rest → 1 ≤ p.column → white_count (spread line bytes p ++ rest) ≡ white_columns (p.column - 1) bytes
+count-white line [] p rest k one = count-stops rest k
+count-white line (b ∷ bs) p rest k one = go (b == 9) refl (b == 32) refl (count-white line bs (past_byte b p) rest k (omega arith))
+  where
+    P : ℕ → Type 0
+    P c = white_count (spread line bs (past_byte c p) ++ rest) ≡ white_columns ((past_byte c p).column - 1) bs → white_count (spread line (c ∷ bs) p ++ rest) ≡ white_columns (p.column - 1) (c ∷ bs)
+
+    go : (t : Bool) → (b == 9) ≡ t → (s : Bool) → (b == 32) ≡ s → P b
+    go true e s f = subst P (sym (eqb-true b 9 e)) (tab-count line bs p rest one)
+    go false e true f = subst P (sym (eqb-true b 32 f)) (space-count line bs p rest one)
+    go false e false f = λ more. rw (e, f, e, f) refl
+
+-- what begins with whitespace is no heading
+white-none : (cells : List Cell) → begins_white cells ≡ true → is_heading (line_bytes cells) ≡ false
+white-none [] e = cc
+white-none (c ∷ cs) e = rw (white-no_ending c.byte e) (heading-other c.byte (line_bytes cs) (white-no_hash c.byte e))
+
+-- The definition.
+
+-- a line as it is read from its first column
+abbrev pub whole : List ℕ → Rest
+whole bytes = record { column = 0; spaces = 0; bytes = bytes }
+
+-- what is left of a line behind as much whitespace as there may be
+pub record IsLine (bytes : List ℕ) (p : Point) (line : Line) (rest : List Cell) : Type 0 where
+  pub short : length (spread line bytes p ++ rest) < 2 ^ 63
+  pub inside : NoEnding bytes
+  pub stops : Stops rest
+  pub first : p.column ≡ 1
+
+heading-free : (options : ParseOptions) (line : Line) (bytes : List ℕ) (p : Point) (rest : List Cell) → IsLine bytes p line rest → is_heading (line_bytes (white_rest any_size (spread line bytes p ++ rest))) ≡ is_heading (trim_start bytes)
+heading-free options line bytes p rest h =
+    let off : ParseOptions = record options { constructs = record options.constructs { code_indented = false } } in
+    let q = past_text (white_front bytes) p in
+    let one : 1 ≤ p.column = let f = h.first in omega (arith, f) in
+    ap (λ (l : List Cell). is_heading (line_bytes l)) (small-rest off line bytes p rest refl h.short h.stops one)
+    ∙ ap is_heading (spread-bytes line (trim_start bytes) q rest (no_ending-trim bytes h.inside) h.stops)
+    ∙ heading-spread line (trim_start bytes) q
+
+heading-room : (options : ParseOptions) (line : Line) (bytes : List ℕ) (p : Point) (rest : List Cell) → IsLine bytes p line rest →
+    is_heading (line_bytes (white_rest (small_indent options) (spread line bytes p ++ rest))) ≡ (has_small_indent options (whole bytes) && is_heading (trim_start bytes))
+heading-room options line bytes p rest h = go options.constructs.code_indented refl
+  where
+    cells : List Cell
+    cells = spread line bytes p ++ rest
+
+    first : 1 ≤ p.column
+    first = let f = h.first in omega (arith, f)
+
+    columns : white_count (spread line bytes p ++ rest) ≡ indent (whole bytes)
+    columns =
+        let zero_is : p.column - 1 ≡ 0 = let f = h.first in omega (arith, f) in
+        count-white line bytes p rest h.stops first ∙ ap (λ (n : ℕ). white_columns n bytes) zero_is ∙ omega arith
+
+    by : (y : Bool) → nat_le (indent (whole bytes)) 3 ≡ y → is_heading (line_bytes (white_rest 3 (spread line bytes p ++ rest))) ≡ (nat_le (indent (whole bytes)) 3 && is_heading (trim_start bytes))
+    by true le =
+        let small : indent (whole bytes) ≤ 3 = grind (arith, nat_tests) in
+        let many = count-length (spread line bytes p ++ rest) in
+        let short = h.short in
+        ap (λ (l : List Cell). is_heading (line_bytes l)) (same-rest 3 any_size (spread line bytes p ++ rest) (omega (arith, small, columns)) (omega (arith, many, short)))
+        ∙ heading-free options line bytes p rest h
+        ∙ sym (ap (λ (t : Bool). t && is_heading (trim_start bytes)) le)
+    by false gt =
+        let large : 3 < indent (whole bytes) = grind (arith, nat_tests) in
+        white-none (white_rest 3 (spread line bytes p ++ rest)) (over-white 3 (spread line bytes p ++ rest) (omega (arith, large, columns)))
+        ∙ sym (ap (λ (t : Bool). t && is_heading (trim_start bytes)) gt)
+
+    go : (x : Bool) → options.constructs.code_indented ≡ x → is_heading (line_bytes (white_rest (small_indent options) (spread line bytes p ++ rest))) ≡ (has_small_indent options (whole bytes) && is_heading (trim_start bytes))
+    go true on =
+        ap (λ (t : Bool). is_heading (line_bytes (white_rest (cond t 3 any_size) (spread line bytes p ++ rest)))) on
+        ∙ by (nat_le (indent (whole bytes)) 3) refl
+        ∙ sym (ap (λ (t : Bool). (not t || nat_le (indent (whole bytes)) 3) && is_heading (trim_start bytes)) on)
+    go false off =
+        ap (λ (t : Bool). is_heading (line_bytes (white_rest (cond t 3 any_size) (spread line bytes p ++ rest)))) off
+        ∙ heading-free options line bytes p rest h
+        ∙ sym (ap (λ (t : Bool). (not t || nat_le (indent (whole bytes)) 3) && is_heading (trim_start bytes)) off)
+
+-- the rule takes the cells of a line if the definition finds a heading on its bytes
+pub heading-line : (options : ParseOptions) (line : Line) (bytes : List ℕ) (p : Point) (rest : List Cell) → IsLine bytes p line rest →
+    is_heading_line options (spread line bytes p ++ rest) ≡ is_some (heading_at options (whole bytes))
+heading-line options line bytes p rest h =
+    ap (λ (t : Bool). options.constructs.heading_atx && t) (heading-room options line bytes p rest h) ∙ sym (defined-heading options (whole bytes))
