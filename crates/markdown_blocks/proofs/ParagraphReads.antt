@@ -255,5 +255,5 @@ paragraph-reads options under bytes small row rows h =
     ∙ ap (λ (p : Point). around n.Paragraph row.first p (linked n.Data text_link chunks)) read.1
 
 -- what the reader of content gives for the paragraphs of a text
-pub content-reads : (options under : ParseOptions) (bytes : List ℕ) → length bytes < 2 ^ 61 → ReadsContent options bytes (λ content chunks events. events ≡ content_events bytes under chunks)
-content-reads options under bytes small row rows h answer is = is ∙ paragraph-reads options under bytes small row rows h
+pub content-reads : (options under : ParseOptions) (bytes : List ℕ) (F : Row → Type 0) → length bytes < 2 ^ 61 → ReadsContent options bytes F (λ content chunks events. events ≡ content_events bytes under chunks)
+content-reads options under bytes F small row rows h each answer is = is ∙ paragraph-reads options under bytes small row rows h
