@@ -1,10 +1,10 @@
 // Worked texts of the grammars of single constructs.
 
-use crate::definition::{Cut, Defined, cut_definitions};
-use crate::html::{HtmlKind, html_ends, html_kind};
-use crate::label::{labels_of, normal_form};
+use plain_grammars::definition::{Cut, Defined, cut_definitions};
+use plain_grammars::html::{HtmlKind, html_ends, html_kind};
+use plain_grammars::label::{labels_of, normal_form};
 use crate::meaning::tree;
-use crate::table::{delimiter_columns, is_head, row_cells};
+use plain_grammars::table::{delimiter_columns, is_head, row_cells};
 use md_engine::configuration::ParseOptions;
 use std::test::Fail;
 

@@ -1,7 +1,7 @@
 // Lists: neighbouring items with the same marker byte (CommonMark 5.3).
 
-use crate::memory;
-use crate::tree::Block;
+use plain_grammars::memory;
+use plain_grammars::tree::Block;
 use md_engine::message::Message;
 use std::alloc::Global;
 

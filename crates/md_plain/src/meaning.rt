@@ -3,16 +3,16 @@
 ghost use Rattle.std.specs.Prelude.{◌≡◌, ◌^◌, ◌<◌, length, IfOk};
 ghost use Rattle.md_seam.specs.Lines.{lines_of};
 ghost use Rattle.md_seam.specs.Preamble.{without_mark, first_column, rests_at};
-ghost use Rattle.md_plain.specs.Rests.{rest_meanings};
+ghost use Rattle.plain_grammars.specs.Rests.{rest_meanings};
 
 use crate::close::closed;
 use crate::grouped::grouped;
-use crate::lines::rests_of;
-use crate::preamble::{Front, front_of, has_mark};
-use crate::rest::Rest;
+use plain_grammars::lines::rests_of;
+use plain_grammars::preamble::{Front, front_of, has_mark};
+use plain_grammars::rest::Rest;
 use crate::state::{Leaf, Path, Spot};
 use crate::step::step;
-use crate::tree::{Block, Tree};
+use plain_grammars::tree::{Block, Tree};
 use md_engine::configuration::ParseOptions;
 use md_engine::message::Message;
 use std::alloc::Global;

@@ -2,8 +2,8 @@
 
 ghost use Rattle.std.specs.Prelude.{◌≡◌, ◌+◌, IfOk, OnOk};
 
-use crate::memory;
-use crate::tree::{Block, Line, Tree};
+use plain_grammars::memory;
+use plain_grammars::tree::{Block, Line, Tree};
 use md_engine::message::Message;
 use md_seam::outline::{OutlineLine, Word};
 use std::alloc::Global;

@@ -5,22 +5,22 @@ ghost use Rattle.md_seam.specs.Tree.{End};
 ghost use Rattle.md_seam.specs.State as state;
 ghost use Rattle.md_seam.specs.Leaves.{table_at};
 ghost use Rattle.md_seam.specs.Step as definition;
-ghost use Rattle.md_plain.specs.Rests.{rest_meaning};
-ghost use Rattle.md_plain.specs.Trees.{meanings};
+ghost use Rattle.plain_grammars.specs.Rests.{rest_meaning};
+ghost use Rattle.plain_grammars.specs.Trees.{meanings};
 ghost use Rattle.md_plain.specs.States.{kept_meanings, leaf_meaning, spot_meaning, came_meaning, taken_meaning, path_meaning, within};
 
-use crate::blocks::push_block;
-use crate::bytes::is_blank;
+use plain_grammars::blocks::push_block;
+use plain_grammars::bytes::is_blank;
 use crate::close::{close_to, shut};
 use crate::containers::{continues, opens};
 use crate::leaves::{Went, goes_on, starts};
-use crate::memory;
+use plain_grammars::memory;
 use crate::paragraph::{
     head_cells, kept, shut_paragraph, underline_depth, underlined, with_line, with_table,
 };
-use crate::rest::Rest;
+use plain_grammars::rest::Rest;
 use crate::state::{Against, Came, Frame, Kept, Leaf, Path, Spot, Taken};
-use crate::tree::Block;
+use plain_grammars::tree::Block;
 use md_engine::configuration::ParseOptions;
 use md_engine::message::Message;
 use std::alloc::Global;

@@ -3,7 +3,7 @@
 
 use md_engine::configuration::ParseOptions;
 use md_engine::message::Message;
-use md_plain::label::labels_of;
+use plain_grammars::label::labels_of;
 use md_plain::meaning::tree;
 use md_plain::outline_lines::outline;
 use md_program::body::{Body, Outlined};
