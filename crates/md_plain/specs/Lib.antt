@@ -2,3 +2,4 @@ pub mod States
 pub mod Markers
 pub mod Paragraphs
 pub mod Groups
+pub mod Meanings
