@@ -2,3 +2,4 @@ pub mod PathLemmas
 pub mod ParagraphLemmas
 pub mod HeadLemmas
 pub mod GroupLemmas
+pub mod StepLemmas

@@ -3,3 +3,4 @@ pub mod Markers
 pub mod Paragraphs
 pub mod Groups
 pub mod Meanings
+pub mod Stops

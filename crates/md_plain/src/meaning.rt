@@ -3,18 +3,22 @@
 ghost use Rattle.std.specs.Prelude.{◌≡◌, ◌^◌, ◌<◌, length, IfOk};
 ghost use Rattle.md_seam.specs.Lines.{lines_of};
 ghost use Rattle.md_seam.specs.Preamble.{without_mark, first_column, rests_at};
+ghost use Rattle.md_seam.specs.State as state;
+ghost use Rattle.md_seam.specs.Step as definition;
+ghost use Rattle.md_seam.specs.Tree.{End};
 ghost use Rattle.plain_grammars.specs.Rests.{rest_meanings};
+ghost use Rattle.plain_grammars.specs.Trees.{meanings};
 
 use crate::close::closed;
 use crate::grouped::grouped;
+use crate::state::{Leaf, Path, Spot};
+use crate::step::step;
+use md_engine::configuration::ParseOptions;
+use md_engine::message::Message;
 use plain_grammars::lines::rests_of;
 use plain_grammars::preamble::{Front, front_of, has_mark};
 use plain_grammars::rest::Rest;
-use crate::state::{Leaf, Path, Spot};
-use crate::step::step;
 use plain_grammars::tree::{Block, Tree};
-use md_engine::configuration::ParseOptions;
-use md_engine::message::Message;
 use std::alloc::Global;
 
 /// The lines behind a byte order mark, whose bytes are columns of the first.
@@ -34,7 +38,9 @@ fn blocks_of<'a>(
     alloc: Global,
     options: &ParseOptions,
     rests: &[Rest<'a>],
-) -> Result<Vec<Block<'a>>, Message> {
+) -> Result<Vec<Block<'a>>, Message>
+    ensures { IfOk result (λ bs. meanings bs.items ≡ state.closed options.now (definition.steps options.now (state.At (definition.spot_of End)) (rest_meanings rests.now))) }
+{
     let mut path = Path {
         frames: Vec::new(alloc),
         spot: Spot {
