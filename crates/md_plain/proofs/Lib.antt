@@ -3,3 +3,4 @@ pub mod ParagraphLemmas
 pub mod HeadLemmas
 pub mod GroupLemmas
 pub mod StepLemmas
+pub mod BodyLemmas
