@@ -1,4 +1,6 @@
 pub mod PathLemmas
 pub mod ParagraphLemmas
 pub mod HeadLemmas
+pub mod GroupLemmas
 pub mod StepLemmas
+pub mod BodyLemmas

@@ -1,4 +1,6 @@
 pub mod States
 pub mod Markers
 pub mod Paragraphs
+pub mod Groups
+pub mod Meanings
 pub mod Stops

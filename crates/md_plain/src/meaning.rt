@@ -2,12 +2,14 @@
 
 ghost use Rattle.std.specs.Prelude.{◌≡◌, ◌^◌, ◌<◌, length, IfOk};
 ghost use Rattle.md_seam.specs.Lines.{lines_of};
+ghost use Rattle.md_seam.specs.Meaning as meaning;
 ghost use Rattle.md_seam.specs.Preamble.{without_mark, first_column, rests_at};
 ghost use Rattle.md_seam.specs.State as state;
 ghost use Rattle.md_seam.specs.Step as definition;
 ghost use Rattle.md_seam.specs.Tree.{End};
 ghost use Rattle.plain_grammars.specs.Rests.{rest_meanings};
 ghost use Rattle.plain_grammars.specs.Trees.{meanings};
+ghost use Rattle.md_plain.specs.Meanings.{tree_meaning};
 
 use crate::close::closed;
 use crate::grouped::grouped;
@@ -57,6 +59,7 @@ fn blocks_of<'a>(
 /// The block tree of a text of fewer than 2^61 bytes.
 pub fn tree<'a>(alloc: Global, text: &'a str, options: &ParseOptions) -> Result<Tree<'a>, Message>
     requires { length text.now < 2 ^ 61 }
+    ensures { IfOk result (λ t. tree_meaning t ≡ meaning.tree options.now text.now) }
 {
     let rests = rests_behind_mark(alloc, text.as_bytes())?;
     match front_of(alloc, options, &rests)? {

@@ -5,3 +5,5 @@ pub mod LinesLemmas
 pub mod TreeLemmas
 pub mod LabelLemmas
 pub mod WordLemmas
+pub mod FrontLemmas
+pub mod MeaningLemmas

@@ -69,7 +69,7 @@ pub lines_of-first : (text : List ℕ) → (length text == 0) ≡ false → line
 lines_of-first [] h = absurd (cc)
 lines_of-first (b ∷ bytes) h = splits (b ∷ bytes)
 
-rests_at-zero : (ls : List (List ℕ)) → rests_at 0 ls ≡ map (rest_at 0) ls
+pub rests_at-zero : (ls : List (List ℕ)) → rests_at 0 ls ≡ map (rest_at 0) ls
 rests_at-zero [] = refl
 rests_at-zero (l ∷ ls) = refl
 

@@ -1,7 +1,8 @@
 // What stands before the body of a text: a byte order mark, and frontmatter (own choice: CommonMark knows neither).
 
-ghost use Rattle.std.specs.Prelude.{◌≡◌, ◌≤◌, not, length, IfOk};
-ghost use Rattle.std.specs.List.{list_any, prefix_len};
+ghost use Rattle.std.specs.Prelude.{◌≡◌, ◌≤◌, not, length, drop, Some, IfOk, IfSome};
+ghost use Rattle.std.specs.List.{prefix_len};
+ghost use Rattle.std.specs.Option.{option_map};
 ghost use Rattle.md_seam.specs.Preamble as preamble;
 ghost use Rattle.plain_grammars.specs.Trees.{slices};
 ghost use Rattle.plain_grammars.specs.Fronts as fronts;
@@ -48,13 +49,6 @@ fn front_marker(line: &[u8]) -> Option<u8>
     }
 }
 
-/// Whether a fence with this marker is among these lines.
-fn has_fence(marker: u8, rests: &[Rest]) -> bool
-    ensures { result ≡ list_any (λ x. preamble.is_front_fence marker x.bytes.now) rests.now }
-{
-    rests.iter().any(|rest| is_front_fence(marker, rest.bytes))
-}
-
 /// How many lines stand before the first fence with this marker.
 fn lines_before_fence(marker: u8, rests: &[Rest]) -> usize
     ensures value { result ≡ prefix_len (λ x. not (preamble.is_front_fence marker x.bytes.now)) rests.now }
@@ -77,32 +71,45 @@ fn lines_in<'a>(alloc: Global, rests: &[Rest<'a>]) -> Result<Vec<&'a [u8]>, Mess
     Ok(lines)
 }
 
-/// The frontmatter at the front of these lines: the first later fence with the marker of the first line closes it, and
+/// The frontmatter of these lines, which follow a fence with this marker: the first fence with the same marker closes it, and
 /// without one there is none.
+fn front_by<'a, 'b>(
+    alloc: Global,
+    marker: u8,
+    rests: &'b [Rest<'a>],
+) -> Result<Option<Front<'a, 'b>>, Message>
+    ensures front { IfOk result (λ o. option_map fronts.front_meaning o ≡ preamble.front_by (Some marker) (fronts.lines_in rests.now)) }
+    ensures after { IfOk result (λ o. IfSome o (λ f. fronts.IsEnd rests.now f.after.now)) }
+{
+    let (inside, behind) = rests.split_at(lines_before_fence(marker, rests));
+    let Some((_, after)) = behind.split_first() else {
+        return Ok(None);
+    };
+    let lines = lines_in(alloc, inside)?;
+    Ok(Some(Front {
+        block: Block::Frontmatter(marker, lines),
+        after,
+    }))
+}
+
+/// The frontmatter at the front of these lines, if the first is a fence.
+#[tactic(auto, unfolding(md_seam::specs::Preamble::front_of))]
 pub fn front_of<'a, 'b>(
     alloc: Global,
     options: &ParseOptions,
     rests: &'b [Rest<'a>],
-) -> Result<Option<Front<'a, 'b>>, Message> {
-    let [first, later @ ..] = rests else {
+) -> Result<Option<Front<'a, 'b>>, Message>
+    ensures front { IfOk result (λ o. option_map fronts.front_meaning o ≡ preamble.front_of options.now (fronts.lines_in rests.now)) }
+    ensures after { IfOk result (λ o. IfSome o (λ f. fronts.IsEnd (drop 1 rests.now) f.after.now)) }
+{
+    let Some((first, later)) = rests.split_first() else {
         return Ok(None);
     };
     if !options.constructs.frontmatter {
         return Ok(None);
     }
-    let Some(marker) = front_marker(first.bytes) else {
-        return Ok(None);
-    };
-    if !has_fence(marker, later) {
-        return Ok(None);
-    }
-    let (inside, behind) = later.split_at(lines_before_fence(marker, later));
-    let lines = lines_in(alloc, inside)?;
-    match behind {
-        [_, after @ ..] => Ok(Some(Front {
-            block: Block::Frontmatter(marker, lines),
-            after,
-        })),
-        [] => Ok(None),
+    match front_marker(first.bytes) {
+        Some(marker) => front_by(alloc, marker, later),
+        None => Ok(None),
     }
 }
