@@ -1,3 +1,4 @@
 pub mod PathLemmas
 pub mod ParagraphLemmas
 pub mod HeadLemmas
+pub mod OutlineLemmas

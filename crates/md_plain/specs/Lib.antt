@@ -1,3 +1,4 @@
 pub mod States
 pub mod Markers
 pub mod Paragraphs
+pub mod Outlined
