@@ -1,9 +1,8 @@
 // The plain program as a body of the programs that print or try outlines.
 #![tactic(auto)]
 
-ghost use Rattle.std.specs.Prelude.{◌≡◌, IfOk};
+ghost use Rattle.std.specs.Prelude.{IfOk};
 ghost use Rattle.md_program.specs.Listing.{listing_of};
-ghost use Rattle.md_seam.specs.Meaning as meaning;
 ghost use Rattle.plain_body.specs.Outlines.{Lists, Outlines};
 ghost use Rattle.plain_grammars.specs.WholeTrees.{tree_meaning};
 
@@ -26,18 +25,6 @@ fn listed<'a>(alloc: Global, tree: &Tree<'a>) -> Result<Outlined<'a>, Message>
         definitions: labels.definitions,
         footnotes: labels.footnotes,
     })
-}
-
-fn fits<'a>(
-    alloc: Global,
-    text: &'a str,
-    options: &'a ParseOptions,
-    tree: &Tree<'a>,
-) -> Result<Outlined<'a>, Message>
-    requires { tree_meaning tree.now ≡ meaning.tree options.now text.now }
-    ensures { IfOk result (λ outlined. Outlines text.now options.now (listing_of outlined)) }
-{
-    listed(alloc, tree)
 }
 
 /// The plain program: all constructs, by the line definition.
