@@ -4,3 +4,4 @@ pub mod HeadLemmas
 pub mod GroupLemmas
 pub mod StepLemmas
 pub mod BodyLemmas
+pub mod OutlineLemmas

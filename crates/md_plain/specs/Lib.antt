@@ -4,3 +4,4 @@ pub mod Paragraphs
 pub mod Groups
 pub mod Meanings
 pub mod Stops
+pub mod Outlined

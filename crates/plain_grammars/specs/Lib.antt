@@ -6,3 +6,4 @@ pub mod Labels
 pub mod Fronts
 pub mod Words
 pub mod Kinds
+pub mod WholeTrees

@@ -6,11 +6,12 @@ ghost use Rattle.md_seam.specs.Rest.{is_white};
 ghost use Rattle.plain_grammars.specs.Definitions.{texts};
 ghost use Rattle.plain_grammars.specs.Labels.{labels_meaning};
 ghost use Rattle.plain_grammars.specs.Trees.{meaning, meanings};
+ghost use Rattle.plain_grammars.specs.WholeTrees.{tree_meaning};
 ghost use Rattle.plain_grammars.specs.Words as words;
 
 use crate::bytes::is_white;
 use crate::memory;
-use crate::tree::Block;
+use crate::tree::{Block, Tree};
 use caseless::default_case_fold_str;
 use md_engine::message::Message;
 use std::alloc::Global;
@@ -120,13 +121,16 @@ fn push_blocks(alloc: Global, labels: &mut Labels, blocks: &[Block]) -> Result<(
 }
 
 /// The labels of a tree.
-pub fn labels_of(alloc: Global, blocks: &[Block]) -> Result<Labels, Message>
-    ensures { IfOk result (λ found. labels_meaning found ≡ label.labels (meanings blocks.now)) }
+pub fn labels_of(alloc: Global, tree: &Tree) -> Result<Labels, Message>
+    ensures { IfOk result (λ found. labels_meaning found ≡ label.labels (tree_meaning tree.now)) }
 {
     let mut labels = Labels {
         definitions: Vec::new(alloc),
         footnotes: Vec::new(alloc),
     };
-    push_blocks(alloc, &mut labels, blocks)?;
+    if let Some(block) = &tree.frontmatter {
+        push_block(alloc, &mut labels, block)?;
+    }
+    push_blocks(alloc, &mut labels, &tree.blocks)?;
     Ok(labels)
 }
