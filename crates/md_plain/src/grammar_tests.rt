@@ -1,11 +1,11 @@
 // Worked texts of the grammars of single constructs.
 
-use crate::definition::{Cut, Defined, cut_definitions};
-use crate::html::{HtmlKind, html_ends, html_kind};
-use crate::label::{labels_of, normal_form};
 use crate::meaning::tree;
-use crate::table::{delimiter_columns, is_head, row_cells};
 use md_engine::configuration::ParseOptions;
+use plain_grammars::definition::{Cut, Defined, cut_definitions};
+use plain_grammars::html::{HtmlKind, html_ends, html_kind};
+use plain_grammars::label::{labels_of, normal_form};
+use plain_grammars::table::{delimiter_columns, is_head, row_cells};
 use std::test::Fail;
 
 fn are_texts(texts: &[&[u8]], expected: &[&str]) -> bool {
@@ -118,7 +118,7 @@ fn labels_in_source_order(rt: HostRuntime) -> Result<(), Fail> {
         "[A]: x\n[\u{df}]: y\n\n> - [a]: z",
         &ParseOptions::COMMONMARK,
     )?;
-    let labels = labels_of(alloc, &found.blocks)?;
+    let labels = labels_of(alloc, &found)?;
     let forms = ["a", "ss", "a"];
     assert!(rt; labels.footnotes.is_empty() && labels.definitions.len() == forms.len());
     assert!(rt;

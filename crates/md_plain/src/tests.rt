@@ -1,7 +1,7 @@
 // Worked texts and their outlines, as the program `blocks` prints them.
 
 use crate::meaning::tree;
-use crate::memory;
+use plain_grammars::memory;
 use crate::outline_lines::outline;
 use md_engine::configuration::{Constructs, ParseOptions};
 use md_engine::message::Message;
