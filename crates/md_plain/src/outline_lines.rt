@@ -6,7 +6,8 @@ ghost use Rattle.md_seam.specs.Outline as spec;
 ghost use Rattle.md_seam.specs.declared.outline.Word.TheVariants as words;
 ghost use Rattle.plain_grammars.specs.Trees.{meaning, meanings, line_meanings, slices};
 ghost use Rattle.plain_grammars.specs.WholeTrees.{tree_meaning};
-ghost use Rattle.md_plain.specs.Outlined.{entries_of, entry_as};
+ghost use Rattle.md_plain.specs.Outlined.{entry_as};
+ghost use Rattle.md_seam.specs.Outline.{entries_of};
 
 use md_engine::message::Message;
 use md_seam::outline::{OutlineLine, Word};
