@@ -2,6 +2,5 @@ pub mod States
 pub mod Markers
 pub mod Paragraphs
 pub mod Groups
-pub mod Meanings
 pub mod Stops
 pub mod Outlined

@@ -9,7 +9,7 @@ ghost use Rattle.md_seam.specs.Step as definition;
 ghost use Rattle.md_seam.specs.Tree.{End};
 ghost use Rattle.plain_grammars.specs.Rests.{rest_meanings};
 ghost use Rattle.plain_grammars.specs.Trees.{meanings};
-ghost use Rattle.md_plain.specs.Meanings.{tree_meaning};
+ghost use Rattle.plain_grammars.specs.WholeTrees.{tree_meaning};
 
 use crate::close::closed;
 use crate::grouped::grouped;
