@@ -1,11 +1,11 @@
 // Worked texts of the grammars of single constructs.
 
+use crate::meaning::tree;
+use md_engine::configuration::ParseOptions;
 use plain_grammars::definition::{Cut, Defined, cut_definitions};
 use plain_grammars::html::{HtmlKind, html_ends, html_kind};
 use plain_grammars::label::{labels_of, normal_form};
-use crate::meaning::tree;
 use plain_grammars::table::{delimiter_columns, is_head, row_cells};
-use md_engine::configuration::ParseOptions;
 use std::test::Fail;
 
 fn are_texts(texts: &[&[u8]], expected: &[&str]) -> bool {

@@ -1,8 +1,8 @@
 // Lists: neighbouring items with the same marker byte (CommonMark 5.3).
 
+use md_engine::message::Message;
 use plain_grammars::memory;
 use plain_grammars::tree::Block;
-use md_engine::message::Message;
 use std::alloc::Global;
 
 /// Blocks that are done, and behind them items with one marker that may still become more.

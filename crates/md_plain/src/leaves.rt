@@ -11,15 +11,15 @@ ghost use Rattle.plain_grammars.specs.Trees.{meaning, line_meanings};
 ghost use Rattle.plain_grammars.specs.Kinds.{kind_meaning};
 ghost use Rattle.md_plain.specs.States.{opening_meaning, came_meaning, came_option, against_meaning, leaf_meaning, went_option, HandsBack};
 
+use crate::state::{Against, Came, Leaf, Opening};
+use md_engine::configuration::ParseOptions;
+use md_engine::message::Message;
 use plain_grammars::bytes::{is_blank, is_parted, is_white, run_len, trim, trim_end, trim_start};
 use plain_grammars::html::{HtmlKind, html_ends, html_kind};
 use plain_grammars::memory;
 use plain_grammars::rest::Rest;
-use crate::state::{Against, Came, Leaf, Opening};
 use plain_grammars::table::row_cells;
 use plain_grammars::tree::{Block, Line};
-use md_engine::configuration::ParseOptions;
-use md_engine::message::Message;
 use std::alloc::Global;
 
 /// Whether a line has only this byte, spaces and tabs.

@@ -2,10 +2,10 @@
 
 ghost use Rattle.std.specs.Prelude.{◌≡◌, ◌+◌, IfOk, OnOk};
 
-use plain_grammars::memory;
-use plain_grammars::tree::{Block, Line, Tree};
 use md_engine::message::Message;
 use md_seam::outline::{OutlineLine, Word};
+use plain_grammars::memory;
+use plain_grammars::tree::{Block, Line, Tree};
 use std::alloc::Global;
 
 /// Adds a line with this text, which is UTF-8 since the tree is cut beside ASCII bytes.

@@ -12,17 +12,17 @@ ghost use Rattle.md_seam.specs.Table as table;
 ghost use Rattle.std.specs.List.{list_all};
 ghost use Rattle.std.specs.Option.{option_map};
 
+use crate::state::{Kept, Leaf, Spot};
+use md_engine::configuration::ParseOptions;
+use md_engine::message::Message;
 use plain_grammars::blocks::{push_block, push_paragraph};
 use plain_grammars::bytes::trim;
 use plain_grammars::columns::is_small;
 use plain_grammars::definition::{Cut, Defined, cut_definitions};
 use plain_grammars::memory;
 use plain_grammars::rest::Rest;
-use crate::state::{Kept, Leaf, Spot};
 use plain_grammars::table::{delimiter_columns, is_head, row_cells};
 use plain_grammars::tree::Block;
-use md_engine::configuration::ParseOptions;
-use md_engine::message::Message;
 use std::alloc::Global;
 
 /// The texts of these lines.
