@@ -114,6 +114,7 @@ other-block x no_list no_item = by (out-Block x) refl
   where
     same : (y : Block) → x ≡ y → is_other (meaning y) ≡ true → is_other (meaning x) ≡ true
     same y e h = subst (λ z. is_other (meaning z) ≡ true) (sym e) h
+
     by : (l : Block-F Block) → out-Block x ≡ l → is_other (meaning x) ≡ true
     by (layer.ListOf m bs) e = absurd (no_list m bs (sym (roll-out-Block x) ∙ ap roll-Block e ∙ b.rolls-ListOf m bs))
     by (layer.Item m digits bs) e = absurd (no_item m digits bs (sym (roll-out-Block x) ∙ ap roll-Block e ∙ b.rolls-Item m digits bs))

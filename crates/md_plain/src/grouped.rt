@@ -6,9 +6,9 @@ ghost use Rattle.md_seam.specs.Grouped as grouped;
 ghost use Rattle.plain_grammars.specs.Trees.{meaning, meanings};
 ghost use Rattle.md_plain.specs.Groups.{then_groups, AddsItem, Adds};
 
+use md_engine::message::Message;
 use plain_grammars::memory;
 use plain_grammars::tree::Block;
-use md_engine::message::Message;
 use std::alloc::Global;
 
 /// Blocks that are done, and behind them items with one marker that may still become more.
