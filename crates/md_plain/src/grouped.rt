@@ -19,7 +19,7 @@ struct Groups<'a> {
     items: Vec<Block<'a>>,
 }
 
-/// Adds these blocks at the end. After an `Err` both lists are as they were.
+/// Moves these blocks to the end.
 fn append<'a>(blocks: &mut Vec<Block<'a>>, more: &mut Vec<Block<'a>>) -> Result<(), Message>
     ensures { OnOk result (blocks.new.items ≡ blocks.old.items ++ more.old.items) }
 {

@@ -1,8 +1,8 @@
 use Rattle.std.proofs.Common.{◌≡◌, ◌==◌, true, false, length, rules, ◌∙◌, ap, sym}
 use Rattle.md_seam.specs.Tree as t
-use Rattle.plain_grammars.specs.Trees.{meaning, meanings}
+use Rattle.plain_grammars.specs.Trees.{meanings}
 use Rattle.plain_grammars.proofs.MeaningLemmas.{meaning-ListOf}
-use Rattle.md_plain.specs.Groups.{then_blocks, with_items}
+use Rattle.md_plain.specs.Groups.{then_blocks}
 use Rattle.md_plain.proofs.GroupLemmas.{flushed-none, flushed-items, then_blocks-push, then_blocks-end}
 use Rattle.md_plain.proofs.grouped.flushed.Goals as goal
 

@@ -1,7 +1,6 @@
-use Rattle.std.proofs.Common.{◌≡◌, true, rules, ◌∙◌, ap}
-use Rattle.md_seam.specs.Tree as t
+use Rattle.std.proofs.Common.{◌≡◌, true, ◌∙◌, ap}
 use Rattle.plain_grammars.specs.Trees.{meaning, meanings}
-use Rattle.md_plain.specs.Groups.{then_blocks, with_items, then_groups}
+use Rattle.md_plain.specs.Groups.{then_blocks, with_items}
 use Rattle.md_plain.proofs.GroupLemmas.{is_other, other-block, then_blocks-push, flushed-other}
 use Rattle.md_plain.proofs.grouped.with_block.Goals as goal
 

@@ -1,4 +1,4 @@
-use Rattle.std.proofs.Common.{◌≡◌, ◌==◌, false, [], ◌∷◌, ◌++◌, ◌∙◌, ap, rules}
+use Rattle.std.proofs.Common.{[], ◌∷◌, ◌++◌, ◌∙◌, ap, rules}
 use Rattle.md_seam.specs.Grouped.{with_item}
 use Rattle.plain_grammars.specs.Trees.{meaning, meanings}
 use Rattle.md_plain.specs.Groups.{then_blocks, with_items, then_groups}

@@ -1,6 +1,6 @@
-use Rattle.std.proofs.Common.{◌≡◌, ◌==◌, false, [], ◌∷◌, ◌++◌, sym, ◌∙◌, ap, rules}
+use Rattle.std.proofs.Common.{◌≡◌, sym, ◌∙◌, ap, rules}
 use Rattle.md_seam.specs.Tree as t
-use Rattle.plain_grammars.specs.Trees.{meaning, meanings}
+use Rattle.plain_grammars.specs.Trees.{meanings}
 use Rattle.plain_grammars.proofs.MeaningLemmas.{meaning-ListOf}
 use Rattle.md_plain.specs.Groups.{then_blocks, with_items, then_groups}
 use Rattle.md_plain.proofs.GroupLemmas.{meanings-append, with_items-list, then_blocks-push, flushed-list, eqb-other}
