@@ -3,8 +3,6 @@
 
 pub mod close;
 pub mod containers;
-#[cfg(test)]
-mod grammar_tests;
 pub mod grouped;
 pub mod leaves;
 pub mod meaning;
@@ -12,5 +10,3 @@ pub mod outline_lines;
 pub mod paragraph;
 pub mod state;
 pub mod step;
-#[cfg(test)]
-mod tests;

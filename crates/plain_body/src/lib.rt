@@ -50,3 +50,8 @@ impl Body for Plain {
         listed(alloc, &meant)
     }
 }
+
+#[cfg(test)]
+mod grammar_tests;
+#[cfg(test)]
+mod tests;

@@ -1,9 +1,9 @@
 // Worked texts and their outlines, as the program `blocks` prints them.
 
-use crate::meaning::tree;
-use crate::outline_lines::outline;
 use md_engine::configuration::{Constructs, ParseOptions};
 use md_engine::message::Message;
+use md_plain::meaning::tree;
+use md_plain::outline_lines::outline;
 use md_seam::outline::{OutlineLine, Word};
 use plain_grammars::memory;
 use std::alloc::Global;

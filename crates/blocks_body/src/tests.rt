@@ -1,8 +1,8 @@
 // Outlines of texts.
 ghost use Rattle.markdown_blocks.specs.Parsed.{IsSmall};
 
-use super::outline;
-use crate::parser::parse;
+use markdown_blocks::outline::outline;
+use markdown_blocks::parser::parse;
 use md_engine::configuration::{Constructs, ParseOptions};
 use md_engine::message::Message;
 use md_seam::outline::Word;

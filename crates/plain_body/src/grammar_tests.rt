@@ -1,7 +1,7 @@
 // Worked texts of the grammars of single constructs.
 
-use crate::meaning::tree;
 use md_engine::configuration::ParseOptions;
+use md_plain::meaning::tree;
 use plain_grammars::definition::{Cut, Defined, cut_definitions};
 use plain_grammars::html::{HtmlKind, html_ends, html_kind};
 use plain_grammars::label::{labels_of, normal_form};
