@@ -67,3 +67,6 @@ impl Body for Blocks {
         })
     }
 }
+
+#[cfg(test)]
+mod tests;

@@ -1,6 +1,6 @@
 -- A paragraph over the cells of its lines is these lines, whose text is not read yet.
-use Rattle.std.proofs.Common.{◌≡◌, ℕ, zero, suc, ◌+◌, ◌-◌, ◌^◌, ◌<◌, ◌≤◌, Bool, true, false, cond, nat_eq, List, [], ◌∷◌, ◌++◌, length, take, drop, slice_range, refl, ap, sym, ◌∙◌, subst, append_assoc, append-nil, drop-drop, length-append, length-drop, arith}
-use Rattle.std.specs.Prelude.{◌==◌, Option, Some, None, nat_le, slice_get}
+use Rattle.std.proofs.Common.{◌≡◌, ℕ, zero, suc, ◌+◌, ◌-◌, ◌^◌, ◌<◌, ◌≤◌, Bool, true, false, cond, List, [], ◌∷◌, ◌++◌, length, drop, slice_range, refl, ap, sym, ◌∙◌, subst, append_assoc, append-nil, drop-drop, length-append, length-drop, arith}
+use Rattle.std.specs.Prelude.{◌==◌, Some, nat_le, slice_get}
 use Rattle.std.proofs.lemmas.Bool.Decides.{nat_tests}
 use Rattle.std.proofs.lemmas.List.{take-append-drop}
 use Rattle.md_engine.specs.declared.configuration.ParseOptions.{ParseOptions}
@@ -8,7 +8,6 @@ use Rattle.md_engine.specs.declared.event.Event.{Event}
 use Rattle.md_engine.specs.declared.event.Name.TheVariants as n
 use Rattle.md_engine.specs.declared.event.Point.{Point}
 use Rattle.md_engine.specs.Meaning.{Cell}
-use Rattle.md_engine.specs.Place.{begun_at}
 use Rattle.md_engine.specs.TextFeed.{text_feed}
 use Rattle.md_engine.specs.World.{Setting, World, fresh, line_begun, skipping}
 use Rattle.md_content.specs.ChunkRule.{enter_link}
@@ -21,7 +20,7 @@ use Rattle.md_seam.specs.Ahead.{point_after}
 use Rattle.md_seam.specs.Places.{past_byte, past_text}
 use Rattle.md_seam.specs.Nested.{around, enter, exit}
 use Rattle.md_seam.proofs.TextsLemmas.{Both, Ending, LineFeed, Return, ending_bytes}
-use Rattle.markdown_blocks.specs.Rows.{Row, TextRow, behind_row, chunks_of, last_row, line_kind}
+use Rattle.markdown_blocks.specs.Rows.{Row, TextRow, chunks_of, last_row, line_kind}
 use Rattle.markdown_blocks.specs.Unread.{linked, unread_paragraph}
 use Rattle.markdown_blocks.proofs.FeedLines.{HasEnding, HasLine, NoFeed, begun-same, cell, ending-feed, feed-none, line-feed, no_feed-spread, past_ending, point_after-append, spread, spread-end}
 use Rattle.markdown_blocks.proofs.GroupLemmas.{IsParagraph, ReadsContent}
@@ -107,13 +106,13 @@ line-read options bytes line x row is small same within =
     let ends : point_after (spread x.line line row.first) row.first ≡ row.end = spread-end x.line line row.first is.first_column ∙ sym is.end in
     record {
       lines =
-        ap (λ (l : List Cell). line_events l row.first) feed
-        ∙ line_events-append (spread x.line line row.first) (text_feed x row.end) row.first (no_feed-spread x.line line row.first is.no_ending)
-        ∙ ap (line_events (text_feed x row.end)) ends;
+          ap (λ (l : List Cell). line_events l row.first) feed
+          ∙ line_events-append (spread x.line line row.first) (text_feed x row.end) row.first (no_feed-spread x.line line row.first is.no_ending)
+          ∙ ap (line_events (text_feed x row.end)) ends;
       end =
-        ap (λ (l : List Cell). point_after l row.first) feed
-        ∙ point_after-append (spread x.line line row.first) (text_feed x row.end) row.first
-        ∙ ap (point_after (text_feed x row.end)) ends;
+          ap (λ (l : List Cell). point_after l row.first) feed
+          ∙ point_after-append (spread x.line line row.first) (text_feed x row.end) row.first
+          ∙ ap (point_after (text_feed x row.end)) ends;
     }
 
 -- where lines begin
@@ -175,10 +174,11 @@ lines-read options bytes x k row (next ∷ rows) h r =
     } in
     let feed : text_feed x row.end ≡ cell 10 next.first x.line ∷ text_feed x next.first = ending-feed x h.5.ending (drop h.3.index bytes) row.end has ∙ ap (λ (q : Point). cell 10 q x.line ∷ text_feed x q) (sym past) in
     let below : AreRead x bytes (k + 1) next rows = record { small = r.small; bytes_are = r.bytes_are; limit = r.limit; skips = behind; line = omega (arith, r.line) } in
-    let more = lines-read options bytes x (k + 1) next rows h.7 below in
-    (ap (λ (l : List Event). enter_link n.Data row.first text_link ∷ l) (read.lines ∙ ap (λ (l : List Cell). line_events l row.end) feed ∙ ap (λ (l : List Event). exit n.Data next.first ∷ l) more.0)
-    ∙ ap (λ (q : Point). enter_link n.Data row.first text_link ∷ exit n.Data q ∷ linked n.Data text_link (chunks_of next rows)) (sym (behind-is row h.3 h.4 ∙ sym h.6)),
-     read.end ∙ ap (λ (l : List Cell). point_after l row.end) feed ∙ more.1)
+    let more = lines-read options bytes x (k + 1) next rows h.7 below in (
+      ap (λ (l : List Event). enter_link n.Data row.first text_link ∷ l) (read.lines ∙ ap (λ (l : List Cell). line_events l row.end) feed ∙ ap (λ (l : List Event). exit n.Data next.first ∷ l) more.0)
+          ∙ ap (λ (q : Point). enter_link n.Data row.first text_link ∷ exit n.Data q ∷ linked n.Data text_link (chunks_of next rows)) (sym (behind-is row h.3 h.4 ∙ sym h.6)),
+      read.end ∙ ap (λ (l : List Cell). point_after l row.end) feed ∙ more.1,
+    )
 
 -- Where they are read.
 
@@ -255,5 +255,5 @@ paragraph-reads options under bytes small row rows h =
     ∙ ap (λ (p : Point). around n.Paragraph row.first p (linked n.Data text_link chunks)) read.1
 
 -- what the reader of content gives for the paragraphs of a text
-pub content-reads : (options under : ParseOptions) (bytes : List ℕ) → length bytes < 2 ^ 61 → ReadsContent options bytes (λ content chunks events. events ≡ content_events bytes under chunks)
-content-reads options under bytes small row rows h answer is = is ∙ paragraph-reads options under bytes small row rows h
+pub content-reads : (options under : ParseOptions) (bytes : List ℕ) (F : Row → Type 0) → length bytes < 2 ^ 61 → ReadsContent options bytes F (λ content chunks events. events ≡ content_events bytes under chunks)
+content-reads options under bytes F small row rows h each answer is = is ∙ paragraph-reads options under bytes small row rows h

@@ -1,6 +1,6 @@
 -- What a text is read as, where only breaks are on: its events nest, and spell its tree.
-use Rattle.std.proofs.Common.{◌≡◌, ◌^◌, ◌<◌, ◌⊎◌, ℕ, Bool, true, false, suc, List, [], ◌∷◌, length, refl, ap, sym, ◌∙◌, subst}
-use Rattle.std.specs.Prelude.{inl, inr}
+use Rattle.std.proofs.Common.{◌≡◌, ◌^◌, ◌-◌, ◌<◌, ◌≤◌, ◌⊎◌, inl, inr, arith, ℕ, Bool, true, false, suc, List, [], ◌∷◌, length, refl, ap, sym, ◌∙◌, subst}
+use Rattle.std.specs.Prelude.{◌/◌}
 use Rattle.std.specs.Str.{IsUtf8}
 use Rattle.md_engine.specs.declared.configuration.ParseOptions.{ParseOptions}
 use Rattle.md_engine.specs.declared.event.Content.{Content}
@@ -67,7 +67,7 @@ events-are options bytes built small found new flow wants reads wanted text even
         let here : Substituted wants_content (content_readings bytes options) [] 0 (joined flow.at.events) new.events =
         subst (λ (x : Setting). Substituted wants_content (content_readings x.bytes x.options) [] 0 (joined flow.at.events) new.events) flow.setting resolved.events in
         groups-read options bytes first_point (split_lines bytes) rows Nothing (text-are options bytes built small) (text-quiet options bytes) (each-nothing rows)
-        wants_content wants (content_readings bytes options) reads refl wanted (content-reads options options bytes small) text new.events events
+        wants_content wants (content_readings bytes options) reads refl wanted (content-reads options options bytes Nothing small) text new.events events
         (subst (λ (l : List Event). Substituted wants_content (content_readings bytes options) [] 0 (joined l) new.events) flow.events here) substituted
 
     go : ReadsNone rows flow.at found new ⊎ ReadsContent resolved_as flow.at found new → events ≡ groups_events bytes (groups rows)
@@ -89,3 +89,13 @@ text-reads options bytes built utf8 small events is =
       outlined = groups-outlined options bytes first_point (split_lines bytes) rows are utf8 (between-rows options bytes (split_lines bytes) rows are);
       tree = λ no_mark. spelled-rows options bytes first_point (split_lines bytes) rows are ∙ sym (tree-sections options bytes built no_mark);
     })
+
+-- The same in the words of the calls that `parse` makes.
+pub parsed-reads : (options : ParseOptions) (bytes text : List ℕ) (found : Found) (new : World) (items events : List Event) → bytes ≡ text → IsBuilt options → IsUtf8 text → length text ≤ (2 ^ 64 - 1) / 8 →
+    FlowReads resolved_as bytes options found new → (wants : Content → Bool) (reads : Readings) → wants content.Text ≡ true → ReadsText bytes reads → items ≡ new.events → Substituted wants reads [] 0 items events → Reads options text events
+parsed-reads options bytes text found new items events same built utf8 most flow wants reads wanted plain are substituted =
+    let small : length text < 2 ^ 61 = omega (arith, most) in
+    let here : length bytes < 2 ^ 61 = subst (λ (l : List ℕ). length l < 2 ^ 61) (sym same) small in
+    let is : events ≡ groups_events bytes (groups (text_rows options bytes)) =
+    events-are options bytes built here found new flow wants reads wanted plain events (subst (λ (l : List Event). Substituted wants reads [] 0 l events) are substituted) in
+    text-reads options text built utf8 small events (subst (λ (l : List ℕ). events ≡ groups_events l (groups (text_rows options l))) same is)

@@ -10,3 +10,4 @@ pub mod FlowReads
 pub mod Unread
 pub mod Outlined
 pub mod Sketched
+pub mod TextReads

@@ -189,6 +189,3 @@ pub fn outline<'a>(
     }
     Ok(reading.lines)
 }
-
-#[cfg(test)]
-mod tests;

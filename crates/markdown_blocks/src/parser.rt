@@ -1,11 +1,12 @@
 // From a text to events.
 
-ghost use Rattle.std.specs.Prelude.{IfOk};
+ghost use Rattle.std.specs.Prelude.{◌≡◌, IfOk};
 ghost use Rattle.md_engine.specs.Found.{found_in};
 ghost use Rattle.md_engine.specs.World.{world};
 ghost use Rattle.markdown_blocks.specs.FlowReads.{FlowReads};
 ghost use Rattle.markdown_blocks.specs.Parsed.{IsBuilt, IsParsed, IsSmall};
 ghost use Rattle.markdown_blocks.specs.Resolved.{resolved_as};
+ghost use Rattle.markdown_blocks.specs.TextReads.{text_kind, wants_text};
 
 use crate::construct::flow::FlowTable;
 use md_engine::configuration::ParseOptions;
@@ -36,11 +37,25 @@ struct TextReader<'a, 'b, I: Inline> {
     state: &'b ParseState<'a>,
 }
 
+/// What a part of this content may hold.
+fn kind_of(content: Content) -> PartKind
+    ensures { result ≡ text_kind content }
+{
+    match content {
+        Content::Text => PartKind::Text,
+        _ => PartKind::String,
+    }
+}
+
 impl<I: Inline> Reader for TextReader<'_, '_, I> {
     ghost text = { λ reader. reader.state.now.bytes.now };
 
+    ghost wants = { λ reader. wants_text };
+
+    ghost reads_as = { λ reader content chunks events. I.reads reader.inline.now reader.state.now.bytes.now (record { kind = text_kind content; chunks = chunks }) events };
+
     fn reads(&self, content: Content) -> bool {
-        content == Content::Text || content == Content::String
+        matches!(content, Content::Text | Content::String)
     }
 
     fn read(
@@ -49,12 +64,7 @@ impl<I: Inline> Reader for TextReader<'_, '_, I> {
         content: Content,
         chunks: &[Chunk],
     ) -> Result<Vec<Event>, Message> {
-        let kind = if content == Content::Text {
-            PartKind::Text
-        } else {
-            PartKind::String
-        };
-        self.inline.read(alloc, kind, chunks, self.state)
+        self.inline.read(alloc, kind_of(content), chunks, self.state)
     }
 }
 

@@ -1,22 +1,20 @@
 -- What is read of a part is a paragraph over the text of its chunks.
-use Rattle.std.proofs.Common.{◌≡◌, ◌^◌, ◌+◌, ◌<◌, ◌≤◌, ℕ, zero, suc, Bool, false, true, cond, List, [], ◌∷◌, ◌++◌, length, get_or, drop, Option, None, refl, sym, ◌∙◌, ap, subst, add-one, drop-cons, arith}
+use Rattle.std.proofs.Common.{◌≡◌, ◌^◌, ◌+◌, ◌<◌, ◌≤◌, ℕ, zero, suc, false, true, List, [], ◌∷◌, length, get_or, drop, Option, refl, sym, ◌∙◌, ap, add-one, drop-cons, arith}
 use Rattle.std.proofs.lemmas.List.{drop_all}
 use Rattle.md_engine.specs.declared.configuration.ParseOptions.{ParseOptions}
-use Rattle.md_engine.specs.declared.event.Event.{Event}
-use Rattle.md_engine.specs.declared.event.Point.{Point}
 use Rattle.md_engine.specs.declared.resolve.Name.{Name as ResolveName}
 use Rattle.md_engine.specs.declared.state.Name.TheVariants.{ParagraphStart}
 use Rattle.md_engine.specs.declared.state.State.{State}
 use Rattle.md_engine.specs.declared.state.State.TheVariants.{Next}
 use Rattle.md_engine.specs.declared.tokenizer.Frame.{Frame}
 use Rattle.md_engine.specs.Found.{Found}
-use Rattle.md_engine.specs.Meaning.{Accepts, Behaviour, Cell, Feed, Here, Outcome, comes_to, goes, here, resume_all}
-use Rattle.md_engine.specs.Run.{Flushes, Resolution, Resolved, ResolvedIf, Runs}
+use Rattle.md_engine.specs.Meaning.{Accepts, Cell, Feed, Here, comes_to, goes, here, resume_all}
+use Rattle.md_engine.specs.Run.{Flushes, Resolution, Resolved, Runs}
 use Rattle.md_engine.specs.Run.Resolved.{More, NoneYet}
-use Rattle.md_engine.specs.Scheme.{After, after_all, stands}
+use Rattle.md_engine.specs.Scheme.{stands}
 use Rattle.md_engine.specs.TextFeed.{text_feed}
 use Rattle.md_engine.specs.World.{Setting, World, fresh, reads_to, skipping}
-use Rattle.md_content.specs.ContentReads.{content_events, end_of, first_of, paragraph_over, part_world, skipping_all}
+use Rattle.md_content.specs.ContentReads.{content_events, end_of, first_of, paragraph_over, skipping_all}
 use Rattle.md_content.specs.ParagraphRule.{content_behaves, inside_paragraph, paragraph_at, paragraph_line}
 use Rattle.md_content.specs.States.{ContentStep, content_scheme}
 use Rattle.md_content.proofs.ContentRuns.{content_outcome, content_push}
@@ -93,7 +91,7 @@ part-read bytes options chunks i w w' end s R found new le skips last small run 
     let feed = text_feed (reads_to w end).setting in
     let pushed = content_push (Next ParagraphStart) s w w' end end small (omega arith) (part-stands (reads_to w end) rest frames) run in
     let at_end : comes_to content_behaves (text_feed w'.setting) s w' ≡ Accepts (over (feed w.point) w) [] =
-        ap (λ (x : Setting). comes_to content_behaves (text_feed x) s w') kept ∙ sym pushed.0 ∙ part-comes-to feed w frames events in
+    ap (λ (x : Setting). comes_to content_behaves (text_feed x) s w') kept ∙ sym pushed.0 ∙ part-comes-to feed w frames events in
     let h : over (feed w.point) w ≡ here f.at = content_outcome R s w' true found new (over (feed w.point) w) (rw kept small) pushed.1 at_end f in
     let resolved : new ≡ record f.at { resolvers = [] } = resolved-same R _ _ _ _ same f.resolved in
     let is : paragraph_over (feed w.point) w.point ≡ content_events bytes options chunks = rw (begun, last) refl in

@@ -1,17 +1,16 @@
 -- Content and paragraphs stand and end in any table that has them.
-use Rattle.std.proofs.Common.{◌≡◌, ℕ, ◌%◌, ◌<◌, ◌≤◌, Bool, true, false, nat_eq, Option, Some, None, List, length, refl, arith, ap, sym, ◌∙◌}
+use Rattle.std.proofs.Common.{◌≡◌, ℕ, ◌<◌, Bool, true, false, nat_eq, Option, Some, None, refl, arith}
 use Rattle.md_engine.specs.declared.event.Name.TheVariants as parts
 use Rattle.md_engine.specs.declared.resolve.Name.{Name as ResolveName}
-use Rattle.md_engine.specs.declared.state.Name.{Name as StateName}
 use Rattle.md_engine.specs.declared.state.Name.TheVariants as n
-use Rattle.md_engine.specs.Scheme.{Ends, Fits, Scheme, after_all, moved_to, seen, spot}
-use Rattle.md_engine.specs.World.{World, after}
+use Rattle.md_engine.specs.Scheme.{Fits, Scheme, after_all, seen, spot}
+use Rattle.md_engine.specs.World.{World}
 use Rattle.md_engine.proofs.Falls.{later}
 use Rattle.md_engine.proofs.Local.{accepts, consumes, turns}
 use Rattle.md_engine.proofs.Points.{takes}
 use Rattle.md_content.specs.Chunks.{chunk_inside_code, chunk_scheme, chunk_start_went, content_link}
 use Rattle.md_content.specs.Paragraph.{inside_code, line_start_went, paragraph_scheme, start_went, text_link}
-use Rattle.md_seam.specs.Spaces.{IsRest, rest_ready}
+use Rattle.md_seam.specs.Spaces.{rest_ready}
 use Rattle.md_seam.specs.Went.{entered, entered_link, exited, taken}
 use Rattle.md_seam.proofs.SpacesGoods.{Does, seen-some}
 

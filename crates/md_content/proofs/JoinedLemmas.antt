@@ -1,5 +1,5 @@
 -- Lines of content are joined one event after another.
-use Rattle.std.proofs.Common.{◌≡◌, ℕ, zero, suc, ◌+◌, ◌<◌, Bool, true, false, ◌&&◌, cond, List, [], ◌∷◌, ◌++◌, length, length-drop, get_or, drop, refl, sym, ◌∙◌, ap, subst, append_assoc, arith, add-zero}
+use Rattle.std.proofs.Common.{◌≡◌, ℕ, ◌+◌, ◌<◌, Bool, true, false, ◌&&◌, cond, List, [], ◌∷◌, ◌++◌, length, length-drop, get_or, drop, refl, sym, ◌∙◌, ap, append_assoc, arith}
 use Rattle.std.proofs.lemmas.List.{drop-drop, get_or-drop}
 use Rattle.md_engine.specs.declared.event.Event.{Event}
 use Rattle.md_content.specs.Joined.{goes_on, is_content, is_exit, joined, joined_with}

@@ -1,25 +1,11 @@
 -- The states of content keep the setting.
-use Rattle.std.proofs.Common.{◌≡◌, ◌≤◌, ℕ, Bool, true, false, nat_eq, List, [], Option, None, Some, length, reverse, refl, ap, sym, ◌∙◌, subst, arith}
-use Rattle.std.specs.List.{All}
-use Rattle.std.proofs.lemmas.List.{length-reverse}
-use Rattle.std.proofs.lemmas.List.Elements.{All-nil}
-use Rattle.md_engine.specs.declared.event.Event.{Event}
-use Rattle.md_engine.specs.declared.event.Point.{Point}
-use Rattle.md_engine.specs.declared.resolve.Name.{Name as ResolveName}
+use Rattle.std.proofs.Common.{◌≡◌, ℕ, Bool, true, false, nat_eq, Option, None, Some, refl, ap, ◌∙◌}
 use Rattle.md_engine.specs.declared.state.Name.{Name as StateName}
 use Rattle.md_engine.specs.declared.state.Name.TheVariants as n
-use Rattle.md_engine.specs.declared.state.State.{State}
-use Rattle.md_engine.specs.declared.state.State.TheVariants.{Next}
-use Rattle.md_engine.specs.declared.tokenizer.Frame.{Frame}
-use Rattle.md_engine.specs.Found.{Found}
-use Rattle.md_engine.specs.Scheme.{After, after_all, stands}
-use Rattle.md_engine.specs.Sound.{IsSaved, IsSound}
-use Rattle.md_engine.specs.World.{World, reads_to}
+use Rattle.md_engine.specs.World.{World}
 use Rattle.md_content.specs.Paragraph.{inside_code}
-use Rattle.md_content.specs.States.{ContentStep, content_scheme, content_went}
-use Rattle.md_seam.specs.Parts.{ArePlaced}
-use Rattle.md_seam.specs.Spaces.{IsRest}
-use Rattle.md_seam.proofs.Settings.{Keeps, KeepsResolving}
+use Rattle.md_content.specs.States.{ContentStep, content_went}
+use Rattle.md_seam.proofs.Settings.{Keeps}
 
 inside-setting : (w : World) (o : Option ℕ) → (inside_code w o).world.setting ≡ w.setting
 inside-setting w None = refl

@@ -1,10 +1,10 @@
 -- Each state of content keeps what its table needs.
-use Rattle.std.proofs.Common.{◌≡◌, ◌<◌, refl, ◌∙◌, sym}
+use Rattle.std.proofs.Common.{◌≡◌, sym}
 use Rattle.md_engine.specs.declared.state.Name.{Name as StateName}
 use Rattle.md_engine.specs.declared.state.Name.TheVariants as n
 use Rattle.md_engine.specs.declared.state.State.TheVariants.{Next}
-use Rattle.md_engine.specs.Scheme.{After, Grown, Grows, Spot, stands}
-use Rattle.md_engine.specs.World.{Setting, World, looks}
+use Rattle.md_engine.specs.Scheme.{Grows, stands}
+use Rattle.md_engine.specs.World.{World, looks}
 use Rattle.md_engine.proofs.Local.{fits}
 use Rattle.md_content.specs.States.{content_owner, content_scheme, content_went}
 use Rattle.md_content.proofs.Goods.{ParagraphFits, good_inside, good_line_start, good_start}

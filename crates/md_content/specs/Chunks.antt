@@ -1,5 +1,5 @@
 -- A line of content, before it is read.
-use Rattle.std.specs.Prelude.{ℕ, Bool, true, false, Option, None}
+use Rattle.std.specs.Prelude.{ℕ, Bool, true, false, None}
 use Rattle.md_engine.specs.declared.event.Link.{Link}
 use Rattle.md_engine.specs.declared.event.Content.TheVariants as content
 use Rattle.md_engine.specs.declared.event.Name.TheVariants as n
@@ -10,7 +10,7 @@ use Rattle.md_engine.specs.declared.state.Name.TheVariants.{ContentChunkStart, C
 use Rattle.md_engine.specs.declared.state.State.TheVariants.{Ok, Next, Retry}
 use Rattle.md_engine.specs.Scheme.{Scheme, Spot}
 use Rattle.md_engine.specs.World.{World, registered_before}
-use Rattle.md_seam.specs.Spaces.{ends_line, rest_ready}
+use Rattle.md_seam.specs.Spaces.{rest_ready}
 use Rattle.md_seam.specs.Went.{Went, entered_link, exited, taken}
 
 abbrev pub content_link : Link

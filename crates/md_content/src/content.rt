@@ -195,9 +195,7 @@ fn goes_on(events: &[Event]) -> bool
     ensures value { result ≡ goes_on events.now }
     ensures within { result ≡ true → 2 < length events.now }
 {
-    events.len() > 2
-        && matches!(events[0].name, Name::LineEnding)
-        && begins_behind(&events[2..])
+    events.len() > 2 && matches!(events[0].name, Name::LineEnding) && begins_behind(&events[2..])
 }
 
 /// The last of the events that are joined with the one at `at`: the end of a line of content that goes on takes its ending.

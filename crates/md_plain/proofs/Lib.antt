@@ -1,10 +1,7 @@
-pub mod DefinitionLemmas
-pub mod PieceLemmas
-pub mod RestLemmas
-pub mod LinesLemmas
-pub mod TreeLemmas
-pub mod LabelLemmas
 pub mod PathLemmas
 pub mod ParagraphLemmas
-pub mod WordLemmas
 pub mod HeadLemmas
+pub mod GroupLemmas
+pub mod StepLemmas
+pub mod BodyLemmas
+pub mod OutlineLemmas

@@ -5,8 +5,8 @@ use Rattle.std.proofs.lemmas.List.{take-map, length-map, map-append, reverse-app
 use Rattle.md_seam.specs.Definition as d
 use Rattle.md_seam.specs.Tree as t
 use Rattle.md_seam.specs.State.{then_block, then_definitions}
-use Rattle.md_plain.specs.declared.definition.Defined.{Defined}
-use Rattle.md_plain.specs.Definitions.{defined_meaning}
+use Rattle.plain_grammars.specs.declared.definition.Defined.{Defined}
+use Rattle.plain_grammars.specs.Definitions.{defined_meaning}
 use Rattle.md_plain.specs.Paragraphs.{definitions_of}
 
 pub then_definitions_push : (bs : t.Blocks) (ds : List d.Defined) (x : d.Defined) →

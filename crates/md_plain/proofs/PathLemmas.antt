@@ -8,7 +8,7 @@ use Rattle.md_seam.specs.State as s
 use Rattle.md_seam.specs.Containers.{Taken, opens}
 use Rattle.md_seam.specs.Step.{spot_of, fresh_line, opened}
 use Rattle.md_plain.specs.declared.state.Frame.{Frame}
-use Rattle.md_plain.specs.Trees.{meanings}
+use Rattle.plain_grammars.specs.Trees.{meanings}
 use Rattle.md_plain.specs.States.{container_meaning, within}
 
 -- one container, and in it this path

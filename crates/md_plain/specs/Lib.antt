@@ -1,10 +1,6 @@
-pub mod Trees
-pub mod Rests
 pub mod States
 pub mod Markers
-pub mod Pieces
-pub mod Definitions
 pub mod Paragraphs
-pub mod Labels
-pub mod Fronts
-pub mod Words
+pub mod Groups
+pub mod Stops
+pub mod Outlined

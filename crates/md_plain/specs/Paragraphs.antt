@@ -7,8 +7,8 @@ use Rattle.md_seam.specs.Table.{delimiter_columns, row_cells}
 use Rattle.md_seam.specs.Definition as d
 use Rattle.md_seam.specs.State.{Kept, OpenTable, Spot, shut_paragraph, texts}
 use Rattle.md_seam.specs.Leaves.{is_head_of}
-use Rattle.md_plain.specs.declared.definition.Defined.{Defined}
-use Rattle.md_plain.specs.Definitions.{defined_meaning}
+use Rattle.plain_grammars.specs.declared.definition.Defined.{Defined}
+use Rattle.plain_grammars.specs.Definitions.{defined_meaning}
 
 abbrev pub block_of : d.Defined → Block
 block_of x = Definition x.label x.destination x.title

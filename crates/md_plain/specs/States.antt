@@ -1,12 +1,9 @@
 -- What the states of the program mean.
 use Rattle.std.specs.Prelude.{◌≡◌, List, [], ◌∷◌, map, Option, Some, None}
 use Rattle.std.specs.Option.{option_copied, option_map}
-use Rattle.md_seam.specs.Html as h
 use Rattle.md_seam.specs.State as s
 use Rattle.md_seam.specs.Leaves as l
 use Rattle.md_seam.specs.Containers as c
-use Rattle.md_plain.specs.declared.html.HtmlKind.{HtmlKind}
-use Rattle.md_plain.specs.declared.html.HtmlKind.TheVariants as kind
 use Rattle.md_plain.specs.declared.state.Container.{Container}
 use Rattle.md_plain.specs.declared.state.Container.TheVariants as container
 use Rattle.md_plain.specs.declared.state.Kept.{Kept}
@@ -23,17 +20,9 @@ use Rattle.md_plain.specs.declared.leaves.Went.TheVariants as went
 use Rattle.md_plain.specs.declared.state.Against.{Against}
 use Rattle.md_plain.specs.declared.state.Against.TheVariants as against
 use Rattle.md_plain.specs.declared.state.Taken.{Taken}
-use Rattle.md_plain.specs.Rests.{rest_meaning}
-use Rattle.md_plain.specs.Trees.{meaning, meanings, line_meanings}
-
-abbrev pub kind_meaning : HtmlKind → h.HtmlKind
-kind_meaning kind.Raw = h.Raw
-kind_meaning kind.Comment = h.Comment
-kind_meaning kind.Instruction = h.Instruction
-kind_meaning kind.Declaration = h.Declaration
-kind_meaning kind.Cdata = h.Cdata
-kind_meaning kind.Basic = h.Basic
-kind_meaning kind.Complete = h.Complete
+use Rattle.plain_grammars.specs.Kinds.{kind_meaning}
+use Rattle.plain_grammars.specs.Rests.{rest_meaning}
+use Rattle.plain_grammars.specs.Trees.{meaning, meanings, line_meanings}
 
 abbrev pub container_meaning : Container → s.Container
 container_meaning container.Quote = s.InQuote

@@ -4,17 +4,17 @@ ghost use Rattle.std.specs.Prelude.{◌≡◌, ◌≤◌, length, take, drop, If
 ghost use Rattle.std.specs.List.{suffix_len};
 ghost use Rattle.md_seam.specs.Rest.{is_blank};
 ghost use Rattle.md_seam.specs.State as state;
-ghost use Rattle.md_plain.specs.Trees.{meaning, meanings, line_meanings};
+ghost use Rattle.plain_grammars.specs.Trees.{meaning, meanings, line_meanings};
 ghost use Rattle.md_plain.specs.States.{container_meaning, spot_meaning, path_meaning, within};
 
-use crate::blocks::push_block;
-use crate::bytes::is_blank;
 use crate::leaves::fence_block;
 use crate::paragraph::shut_paragraph;
 use crate::state::{Container, Frame, Leaf, Path, Spot};
-use crate::tree::{Block, Line};
 use md_engine::configuration::ParseOptions;
 use md_engine::message::Message;
+use plain_grammars::blocks::push_block;
+use plain_grammars::bytes::is_blank;
+use plain_grammars::tree::{Block, Line};
 use std::alloc::Global;
 
 /// How many blank lines stand at the end.

@@ -3,16 +3,16 @@
 ghost use Rattle.std.specs.Prelude.{◌≡◌, ◌+◌, ◌≤◌, false, length, IfSome};
 ghost use Rattle.std.specs.List.{prefix_len};
 ghost use Rattle.md_seam.specs.Containers as containers;
-ghost use Rattle.md_plain.specs.Rests.{rest_meaning};
+ghost use Rattle.plain_grammars.specs.Rests.{rest_meaning};
 ghost use Rattle.md_plain.specs.States.{container_meaning, taken_option};
 ghost use Rattle.md_plain.specs.Markers.{marker_meaning, marker_option, label_split};
 
-use crate::ahead::begins_with;
-use crate::bytes::{is_blank, is_parted, is_white};
 use crate::leaves::is_rule;
-use crate::rest::Rest;
 use crate::state::{Container, Taken};
 use md_engine::configuration::ParseOptions;
+use plain_grammars::ahead::begins_with;
+use plain_grammars::bytes::{is_blank, is_parted, is_white};
+use plain_grammars::rest::Rest;
 
 /// A quote's prefix: a small indent, `>`, and one column of whitespace if there is one (CommonMark 5.1).
 #[tactic(auto, unfolding(md_seam::specs::Containers::quote_taken))]

@@ -1,8 +1,14 @@
 // Lists: neighbouring items with the same marker byte (CommonMark 5.3).
 
-use crate::memory;
-use crate::tree::Block;
+ghost use Rattle.std.specs.Prelude.{◌≡◌, ◌++◌, IfOk, OnOk};
+ghost use Rattle.md_seam.specs.Tree as tree;
+ghost use Rattle.md_seam.specs.Grouped as grouped;
+ghost use Rattle.plain_grammars.specs.Trees.{meaning, meanings};
+ghost use Rattle.md_plain.specs.Groups.{then_groups, AddsItem, Adds};
+
 use md_engine::message::Message;
+use plain_grammars::memory;
+use plain_grammars::tree::Block;
 use std::alloc::Global;
 
 /// Blocks that are done, and behind them items with one marker that may still become more.
@@ -13,16 +19,29 @@ struct Groups<'a> {
     items: Vec<Block<'a>>,
 }
 
+/// Moves these blocks to the end.
+fn append<'a>(blocks: &mut Vec<Block<'a>>, more: &mut Vec<Block<'a>>) -> Result<(), Message>
+    ensures { OnOk result (blocks.new.items ≡ blocks.old.items ++ more.old.items) }
+{
+    match blocks.append(more) {
+        Ok(()) => Ok(()),
+        Err(_) => Err(Message),
+    }
+}
+
 /// The blocks, with the items as a list.
-fn flushed<'a>(groups: Groups<'a>) -> Result<Vec<Block<'a>>, Message> {
+fn flushed<'a>(groups: Groups<'a>) -> Result<Vec<Block<'a>>, Message>
+    ensures { IfOk result (λ bs. meanings bs.items ≡ then_groups groups.entry tree.End) }
+{
     let Groups {
         mut done,
         marker,
         items,
     } = groups;
-    if !items.is_empty() {
-        memory::push(&mut done, Block::ListOf(marker, items))?;
+    if items.is_empty() {
+        return Ok(done);
     }
+    memory::push(&mut done, Block::ListOf(marker, items))?;
     Ok(done)
 }
 
@@ -32,7 +51,9 @@ fn with_item<'a>(
     groups: Groups<'a>,
     marker: u8,
     item: Block<'a>,
-) -> Result<Groups<'a>, Message> {
+) -> Result<Groups<'a>, Message>
+    ensures { IfOk result (AddsItem groups.entry marker (meaning item.entry)) }
+{
     if marker == groups.marker {
         let Groups {
             done,
@@ -62,16 +83,17 @@ fn with_list<'a>(
     groups: Groups<'a>,
     marker: u8,
     list: Vec<Block<'a>>,
-) -> Result<Groups<'a>, Message> {
+) -> Result<Groups<'a>, Message>
+    ensures { IfOk result (Adds groups.entry (tree.ListOf marker (meanings list.entry.items))) }
+{
+    let mut list = list;
     if marker == groups.marker {
         let Groups {
             mut done,
             marker,
             mut items,
         } = groups;
-        for item in list {
-            memory::push(&mut items, item)?;
-        }
+        append(&mut items, &mut list)?;
         memory::push(&mut done, Block::ListOf(marker, items))?;
         return Ok(Groups {
             done,
@@ -93,7 +115,9 @@ fn with_block<'a>(
     alloc: Global,
     groups: Groups<'a>,
     block: Block<'a>,
-) -> Result<Groups<'a>, Message> {
+) -> Result<Groups<'a>, Message>
+    ensures { IfOk result (Adds groups.entry (meaning block.entry)) }
+{
     match block {
         Block::Item(marker, digits, blocks) => {
             with_item(alloc, groups, marker, Block::Item(marker, digits, blocks))
@@ -114,7 +138,9 @@ fn with_block<'a>(
 
 /// A block with lists in it.
 #[cycle(grouping)]
-fn grouped_block<'a>(alloc: Global, block: Block<'a>) -> Result<Block<'a>, Message> {
+fn grouped_block<'a>(alloc: Global, block: Block<'a>) -> Result<Block<'a>, Message>
+    ensures { IfOk result (λ b. meaning b ≡ grouped.grouped_block (meaning block.entry)) }
+{
     match block {
         Block::Quote(blocks) => Ok(Block::Quote(grouped(alloc, blocks)?)),
         Block::Item(marker, digits, blocks) => Ok(Block::Item(
@@ -129,7 +155,9 @@ fn grouped_block<'a>(alloc: Global, block: Block<'a>) -> Result<Block<'a>, Messa
 
 /// Every longest run of neighbouring items with one marker becomes a list, in all containers.
 #[cycle(grouping)]
-pub fn grouped<'a>(alloc: Global, blocks: Vec<Block<'a>>) -> Result<Vec<Block<'a>>, Message> {
+pub fn grouped<'a>(alloc: Global, blocks: Vec<Block<'a>>) -> Result<Vec<Block<'a>>, Message>
+    ensures { IfOk result (λ bs. meanings bs.items ≡ grouped.grouped (meanings blocks.entry.items)) }
+{
     let mut groups = Groups {
         done: Vec::new(alloc),
         marker: 0,

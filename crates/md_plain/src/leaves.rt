@@ -6,19 +6,20 @@ ghost use Rattle.std.specs.Option.{option_copied};
 ghost use Rattle.md_seam.specs.Leaves as leaves;
 ghost use Rattle.md_seam.specs.Rest.{is_white, is_parted};
 ghost use Rattle.md_seam.specs.State.{fence_block, OpenCode};
-ghost use Rattle.md_plain.specs.Rests.{rest_meaning};
-ghost use Rattle.md_plain.specs.Trees.{meaning, line_meanings};
-ghost use Rattle.md_plain.specs.States.{kind_meaning, opening_meaning, came_meaning, came_option, against_meaning, leaf_meaning, went_option, HandsBack};
+ghost use Rattle.plain_grammars.specs.Rests.{rest_meaning};
+ghost use Rattle.plain_grammars.specs.Trees.{meaning, line_meanings};
+ghost use Rattle.plain_grammars.specs.Kinds.{kind_meaning};
+ghost use Rattle.md_plain.specs.States.{opening_meaning, came_meaning, came_option, against_meaning, leaf_meaning, went_option, HandsBack};
 
-use crate::bytes::{is_blank, is_parted, is_white, run_len, trim, trim_end, trim_start};
-use crate::html::{HtmlKind, html_ends, html_kind};
-use crate::memory;
-use crate::rest::Rest;
 use crate::state::{Against, Came, Leaf, Opening};
-use crate::table::row_cells;
-use crate::tree::{Block, Line};
 use md_engine::configuration::ParseOptions;
 use md_engine::message::Message;
+use plain_grammars::bytes::{is_blank, is_parted, is_white, run_len, trim, trim_end, trim_start};
+use plain_grammars::html::{HtmlKind, html_ends, html_kind};
+use plain_grammars::memory;
+use plain_grammars::rest::Rest;
+use plain_grammars::table::row_cells;
+use plain_grammars::tree::{Block, Line};
 use std::alloc::Global;
 
 /// Whether a line has only this byte, spaces and tabs.

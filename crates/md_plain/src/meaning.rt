@@ -2,19 +2,25 @@
 
 ghost use Rattle.std.specs.Prelude.{◌≡◌, ◌^◌, ◌<◌, length, IfOk};
 ghost use Rattle.md_seam.specs.Lines.{lines_of};
+ghost use Rattle.md_seam.specs.Meaning as meaning;
 ghost use Rattle.md_seam.specs.Preamble.{without_mark, first_column, rests_at};
-ghost use Rattle.md_plain.specs.Rests.{rest_meanings};
+ghost use Rattle.md_seam.specs.State as state;
+ghost use Rattle.md_seam.specs.Step as definition;
+ghost use Rattle.md_seam.specs.Tree.{End};
+ghost use Rattle.plain_grammars.specs.Rests.{rest_meanings};
+ghost use Rattle.plain_grammars.specs.Trees.{meanings};
+ghost use Rattle.plain_grammars.specs.WholeTrees.{tree_meaning};
 
 use crate::close::closed;
 use crate::grouped::grouped;
-use crate::lines::rests_of;
-use crate::preamble::{Front, front_of, has_mark};
-use crate::rest::Rest;
 use crate::state::{Leaf, Path, Spot};
 use crate::step::step;
-use crate::tree::{Block, Tree};
 use md_engine::configuration::ParseOptions;
 use md_engine::message::Message;
+use plain_grammars::lines::rests_of;
+use plain_grammars::preamble::{Front, front_of, has_mark};
+use plain_grammars::rest::Rest;
+use plain_grammars::tree::{Block, Tree};
 use std::alloc::Global;
 
 /// The lines behind a byte order mark, whose bytes are columns of the first.
@@ -34,7 +40,9 @@ fn blocks_of<'a>(
     alloc: Global,
     options: &ParseOptions,
     rests: &[Rest<'a>],
-) -> Result<Vec<Block<'a>>, Message> {
+) -> Result<Vec<Block<'a>>, Message>
+    ensures { IfOk result (λ bs. meanings bs.items ≡ state.closed options.now (definition.steps options.now (state.At (definition.spot_of End)) (rest_meanings rests.now))) }
+{
     let mut path = Path {
         frames: Vec::new(alloc),
         spot: Spot {
@@ -51,6 +59,7 @@ fn blocks_of<'a>(
 /// The block tree of a text of fewer than 2^61 bytes.
 pub fn tree<'a>(alloc: Global, text: &'a str, options: &ParseOptions) -> Result<Tree<'a>, Message>
     requires { length text.now < 2 ^ 61 }
+    ensures { IfOk result (λ t. tree_meaning t ≡ meaning.tree options.now text.now) }
 {
     let rests = rests_behind_mark(alloc, text.as_bytes())?;
     match front_of(alloc, options, &rests)? {

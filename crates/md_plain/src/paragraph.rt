@@ -3,26 +3,26 @@
 ghost use Rattle.std.specs.Prelude.{◌≡◌, ◌==◌, length, OnOk, IfOk};
 ghost use Rattle.md_seam.specs.State as state;
 ghost use Rattle.md_seam.specs.Leaves as leaves;
-ghost use Rattle.md_plain.specs.Definitions.{cut_meaning, defined_meaning};
-ghost use Rattle.md_plain.specs.Rests.{rest_meaning};
-ghost use Rattle.md_plain.specs.Trees.{meaning, meanings, slices};
+ghost use Rattle.plain_grammars.specs.Definitions.{cut_meaning, defined_meaning};
+ghost use Rattle.plain_grammars.specs.Rests.{rest_meaning};
+ghost use Rattle.plain_grammars.specs.Trees.{meaning, meanings, slices};
 ghost use Rattle.md_plain.specs.States.{kept_meaning, kept_meanings, spot_meaning};
 ghost use Rattle.md_plain.specs.Paragraphs.{block_of, definitions_of, head_of, table_spot};
 ghost use Rattle.md_seam.specs.Table as table;
 ghost use Rattle.std.specs.List.{list_all};
 ghost use Rattle.std.specs.Option.{option_map};
 
-use crate::blocks::{push_block, push_paragraph};
-use crate::bytes::trim;
-use crate::columns::is_small;
-use crate::definition::{Cut, Defined, cut_definitions};
-use crate::memory;
-use crate::rest::Rest;
 use crate::state::{Kept, Leaf, Spot};
-use crate::table::{delimiter_columns, is_head, row_cells};
-use crate::tree::Block;
 use md_engine::configuration::ParseOptions;
 use md_engine::message::Message;
+use plain_grammars::blocks::{push_block, push_paragraph};
+use plain_grammars::bytes::trim;
+use plain_grammars::columns::is_small;
+use plain_grammars::definition::{Cut, Defined, cut_definitions};
+use plain_grammars::memory;
+use plain_grammars::rest::Rest;
+use plain_grammars::table::{delimiter_columns, is_head, row_cells};
+use plain_grammars::tree::Block;
 use std::alloc::Global;
 
 /// The texts of these lines.

@@ -1,8 +1,8 @@
 // What is open between two lines: containers, and at most one leaf in the innermost (CommonMark, appendix).
 
-use crate::html::HtmlKind;
-use crate::rest::Rest;
-use crate::tree::{Block, Line};
+use plain_grammars::html::HtmlKind;
+use plain_grammars::rest::Rest;
+use plain_grammars::tree::{Block, Line};
 
 /// An open container.
 #[derive(Clone, Copy)]

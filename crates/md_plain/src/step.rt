@@ -1,28 +1,29 @@
 // The step of one line: what is open after it (CommonMark, appendix).
 
-ghost use Rattle.std.specs.Prelude.{◌≡◌, length, is_some, IfOk};
+ghost use Rattle.std.specs.Prelude.{◌≡◌, ◌<◌, length, take, drop, is_some, IfOk};
 ghost use Rattle.md_seam.specs.Tree.{End};
 ghost use Rattle.md_seam.specs.State as state;
 ghost use Rattle.md_seam.specs.Leaves.{table_at};
 ghost use Rattle.md_seam.specs.Step as definition;
-ghost use Rattle.md_plain.specs.Rests.{rest_meaning};
-ghost use Rattle.md_plain.specs.Trees.{meanings};
+ghost use Rattle.plain_grammars.specs.Rests.{rest_meaning};
+ghost use Rattle.plain_grammars.specs.Trees.{meanings};
 ghost use Rattle.md_plain.specs.States.{kept_meanings, leaf_meaning, spot_meaning, came_meaning, taken_meaning, path_meaning, within};
+ghost use Rattle.md_plain.specs.Stops.{more_text, stopped_in};
 
-use crate::blocks::push_block;
-use crate::bytes::is_blank;
 use crate::close::{close_to, shut};
 use crate::containers::{continues, opens};
 use crate::leaves::{Went, goes_on, starts};
-use crate::memory;
 use crate::paragraph::{
     head_cells, kept, shut_paragraph, underline_depth, underlined, with_line, with_table,
 };
-use crate::rest::Rest;
 use crate::state::{Against, Came, Frame, Kept, Leaf, Path, Spot, Taken};
-use crate::tree::Block;
 use md_engine::configuration::ParseOptions;
 use md_engine::message::Message;
+use plain_grammars::blocks::push_block;
+use plain_grammars::bytes::is_blank;
+use plain_grammars::memory;
+use plain_grammars::rest::Rest;
+use plain_grammars::tree::Block;
 use std::alloc::Global;
 
 /// What a leaf came to, behind these blocks.
@@ -238,7 +239,10 @@ fn stopped<'a>(
     path: Path<'a>,
     count: usize,
     rest: &Rest<'a>,
-) -> Result<Path<'a>, Message> {
+) -> Result<Path<'a>, Message>
+    requires { count < length path.frames.items }
+    ensures { IfOk result (λ p. path_meaning p ≡ within (take count path.entry.frames.items) (stopped_in options.now (drop count path.entry.frames.items) (state.At (spot_meaning path.entry.spot)) (rest_meaning rest.now))) }
+{
     if let Some(taken) = opens(options, false, rest) {
         let (frames, here) = close_to(alloc, options, path, count)?;
         return enter(alloc, options, frames, here, taken);
@@ -254,7 +258,9 @@ fn stopped<'a>(
 }
 
 /// A lazy line goes on the open paragraph.
-fn with_lazy<'a>(spot: Spot<'a>, rest: &Rest<'a>) -> Result<Spot<'a>, Message> {
+fn with_lazy<'a>(spot: Spot<'a>, rest: &Rest<'a>) -> Result<Spot<'a>, Message>
+    ensures { IfOk result (λ s. spot_meaning s ≡ more_text (spot_meaning spot.entry) (rest_meaning rest.now)) }
+{
     let Spot { here, leaf } = spot;
     match leaf {
         Leaf::Paragraph(lines) => with_line(here, lines, rest),
@@ -268,7 +274,9 @@ pub fn step<'a>(
     options: &ParseOptions,
     path: Path<'a>,
     rest: &Rest<'a>,
-) -> Result<Path<'a>, Message> {
+) -> Result<Path<'a>, Message>
+    ensures { IfOk result (λ p. path_meaning p ≡ definition.step options.now (path_meaning path.entry) (rest_meaning rest.now)) }
+{
     let mut path = path;
     let mut rest = *rest;
     for index in 0..path.frames.len() {

@@ -1,5 +1,5 @@
 -- The steps of the plain layer: over a line byte by byte, and over its ending.
-use Rattle.std.proofs.Common.{◌≡◌, ℕ, zero, suc, ◌+◌, ◌-◌, ◌%◌, ◌<◌, ◌≤◌, ◌⊎◌, inl, inr, Bool, true, false, cond, ◌&&◌, ◌||◌, List, [], ◌∷◌, ◌++◌, length, min, get_or, take, drop, refl, ap, sym, ◌∙◌, subst, append_assoc, add-one, length-drop, arith}
+use Rattle.std.proofs.Common.{◌≡◌, ℕ, zero, suc, ◌+◌, ◌-◌, ◌%◌, ◌<◌, ◌≤◌, ◌⊎◌, inl, inr, Bool, true, false, cond, ◌&&◌, ◌||◌, List, [], ◌∷◌, ◌++◌, length, min, get_or, take, drop, refl, ap, sym, ◌∙◌, subst, append_assoc, length-drop, arith}
 use Rattle.std.specs.Prelude.{◌==◌, IsTrue, not, slice_get, slice_index, slice_range}
 use Rattle.std.specs.List.{list_all, onto_first, prefix_len}
 use Rattle.std.proofs.Math.Logic.{∥∥₁_elim}
@@ -13,7 +13,7 @@ use Rattle.md_engine.specs.declared.event.Point.{Point}
 use Rattle.md_engine.specs.declared.event.Event.{Event}
 use Rattle.md_engine.specs.declared.event.Name.TheVariants as n
 use Rattle.md_engine.specs.World.{World, after, line_begun}
-use Rattle.md_engine.specs.Place.{IsPlaced, IsReached, begun_at, is_pair, next_point, stepped, walked}
+use Rattle.md_engine.specs.Place.{IsPlaced, IsReached, begun_at, is_pair, next_point, walked}
 use Rattle.md_seam.specs.Lines.{is_ending, begins_with, ends_line, without_ending}
 use Rattle.md_seam.specs.Texts.{split_lines}
 use Rattle.md_seam.specs.Places.{column_past, past_byte, past_text, same_place}

@@ -8,7 +8,6 @@ use Rattle.std.proofs.lemmas.List.Elements.{All-nil, All-cons, All-head, All-tai
 use Rattle.md_engine.specs.declared.event.Content.{Content}
 use Rattle.md_engine.specs.declared.event.Event.{Event}
 use Rattle.md_engine.specs.Place.{IsPlaced}
-use Rattle.md_seam.specs.declared.inline.Chunk.{Chunk}
 use Rattle.md_seam.specs.Parts.{AreChunks, ArePlaced, IsChunk}
 use Rattle.md_seam.specs.Substituted.{Begun, Readings, Substituted, chunk_of, chunks_behind, chunks_from, is_prefix, share, wanted}
 

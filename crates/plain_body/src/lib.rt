@@ -1,13 +1,31 @@
 // The plain program as a body of the programs that print or try outlines.
 #![tactic(auto)]
 
+ghost use Rattle.std.specs.Prelude.{IfOk};
+ghost use Rattle.md_program.specs.Listing.{listing_of};
+ghost use Rattle.plain_body.specs.Outlines.{Lists, Outlines};
+ghost use Rattle.plain_grammars.specs.WholeTrees.{tree_meaning};
+
 use md_engine::configuration::ParseOptions;
 use md_engine::message::Message;
-use md_plain::label::labels_of;
 use md_plain::meaning::tree;
 use md_plain::outline_lines::outline;
 use md_program::body::{Body, Outlined};
+use plain_grammars::label::labels_of;
+use plain_grammars::tree::Tree;
 use std::alloc::Global;
+
+/// The outline of a tree, and its labels.
+fn listed<'a>(alloc: Global, tree: &Tree<'a>) -> Result<Outlined<'a>, Message>
+    ensures { IfOk result (λ outlined. Lists (tree_meaning tree.now) (listing_of outlined)) }
+{
+    let labels = labels_of(alloc, tree)?;
+    Ok(Outlined {
+        lines: outline(alloc, tree)?,
+        definitions: labels.definitions,
+        footnotes: labels.footnotes,
+    })
+}
 
 /// The plain program: all constructs, by the line definition.
 pub struct Plain;
@@ -15,7 +33,7 @@ pub struct Plain;
 impl Body for Plain {
     ghost accepts = { λ _. Unit {0} };
 
-    ghost outlines = { λ _ _ _. Unit {0} };
+    ghost outlines = { Outlines };
 
     ghost built = { λ options. options };
 
@@ -29,11 +47,11 @@ impl Body for Plain {
         options: &'a ParseOptions,
     ) -> Result<Outlined<'a>, Message> {
         let meant = tree(alloc, text, options)?;
-        let labels = labels_of(alloc, &meant.blocks)?;
-        Ok(Outlined {
-            lines: outline(alloc, &meant)?,
-            definitions: labels.definitions,
-            footnotes: labels.footnotes,
-        })
+        listed(alloc, &meant)
     }
 }
+
+#[cfg(test)]
+mod grammar_tests;
+#[cfg(test)]
+mod tests;

@@ -1,7 +1,7 @@
 use Rattle.std.proofs.Common.{rules, refl, ◌∙◌, ap, drop}
 use Rattle.md_seam.specs.State.{At, then_block}
 use Rattle.md_seam.specs.Step.{spot_of}
-use Rattle.md_plain.specs.Trees.{meanings}
+use Rattle.plain_grammars.specs.Trees.{meanings}
 use Rattle.md_plain.specs.States.{spot_meaning}
 use Rattle.md_plain.proofs.PathLemmas.{closed-within, popped-take, popped-closed}
 use Rattle.md_plain.proofs.close.close_to.Goals as goal

@@ -1,6 +1,6 @@
 use Rattle.std.proofs.Common.{◌≡◌, false, take, drop}
 use Rattle.md_seam.specs.Containers.{footnote_label}
-use Rattle.md_plain.proofs.LabelLemmas.{label_behind}
+use Rattle.plain_grammars.proofs.LabelLemmas.{label_behind}
 use Rattle.md_plain.proofs.containers.label_len.Given as goal
 
 abbrev pub invariant-loop-index : goal.invariant-loop-index

@@ -1,7 +1,7 @@
 use Rattle.std.proofs.Common.{length, ◌∙◌, ap}
 use Rattle.md_seam.specs.Step.{fresh_line}
-use Rattle.md_plain.specs.Trees.{meanings}
-use Rattle.md_plain.specs.Rests.{rest_meaning}
+use Rattle.plain_grammars.specs.Trees.{meanings}
+use Rattle.plain_grammars.specs.Rests.{rest_meaning}
 use Rattle.md_plain.specs.States.{spot_meaning}
 use Rattle.md_plain.proofs.PathLemmas.{entered-path}
 use Rattle.md_plain.proofs.step.enter.Goals as goal

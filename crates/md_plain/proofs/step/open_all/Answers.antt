@@ -1,6 +1,6 @@
 use Rattle.std.proofs.Common.{◌-◌, length, sym, ◌∙◌, ap}
-use Rattle.md_plain.specs.Rests.{rest_meaning}
-use Rattle.md_plain.specs.Trees.{meanings}
+use Rattle.plain_grammars.specs.Rests.{rest_meaning}
+use Rattle.plain_grammars.specs.Trees.{meanings}
 use Rattle.md_plain.specs.States.{taken_option, within}
 use Rattle.md_plain.proofs.PathLemmas.{opened-none, opened-next}
 use Rattle.md_plain.proofs.step.open_all.Goals as goal

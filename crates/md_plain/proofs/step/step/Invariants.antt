@@ -1,5 +1,13 @@
-use Rattle.std.proofs.Common.{◌≡◌, length}
+use Rattle.std.proofs.Common.{◌≡◌, length, take, drop}
+use Rattle.md_seam.specs.State.{At}
+use Rattle.md_seam.specs.Step as definition
+use Rattle.plain_grammars.specs.Rests.{rest_meaning}
+use Rattle.md_plain.specs.States.{spot_meaning, path_meaning, within}
 use Rattle.md_plain.proofs.step.step.Given as goal
 
 abbrev pub invariant-loop-index : goal.invariant-loop-index
-invariant-loop-index l = length l.path.frames.items ≡ length l.initial.path.frames.items
+invariant-loop-index l = record {
+  count : length l.path.frames.items ≡ length l.initial.path.frames.items;
+  path : definition.step l.options (path_meaning l.fn.path) (rest_meaning l.fn.rest)
+      ≡ within (take l.index l.path.frames.items) (definition.step l.options (within (drop l.index l.path.frames.items) (At (spot_meaning l.path.spot))) (rest_meaning l.rest));
+}

@@ -3,8 +3,8 @@ use Rattle.std.proofs.lemmas.List.{map-append, length-map}
 use Rattle.std.specs.Option.{option_map}
 use Rattle.md_seam.specs.State as state
 use Rattle.md_seam.specs.Step as definition
-use Rattle.md_plain.specs.Rests.{rest_meaning}
-use Rattle.md_plain.specs.Trees.{meanings, slices}
+use Rattle.plain_grammars.specs.Rests.{rest_meaning}
+use Rattle.plain_grammars.specs.Trees.{meanings, slices}
 use Rattle.md_plain.specs.States.{kept_meaning, kept_meanings, spot_meaning}
 use Rattle.md_plain.proofs.HeadLemmas.{spot_with, table_at-head, table_at-empty}
 use Rattle.md_plain.proofs.step.table_or_text.Goals as goal

@@ -1,5 +1,4 @@
 use Rattle.std.proofs.Common.{◌≡◌, ap, sym, ◌∙◌, arith}
-use Rattle.md_engine.specs.Scheme.{cells_left}
 use Rattle.md_engine.specs.World.{World, world}
 use Rattle.md_engine.proofs.Points.{cells-fall}
 use Rattle.md_seam.proofs.PlainSteps.{line-consumed, line-empty, line-end, line-moved, line-read, line-stop}

@@ -1,9 +1,9 @@
-use Rattle.std.proofs.Common.{ap, arith, ◌≡◌, ◌∙◌, ◌-◌, ◌<◌, ◌^◌, suc, length}
+use Rattle.std.proofs.Common.{ap, arith, ◌≡◌, ◌∙◌, ◌-◌, suc, length}
 use Rattle.md_engine.specs.World.{Setting, World, fresh, world}
 use Rattle.md_content.specs.ContentReads.{first_of, skipping_all}
 use Rattle.md_content.proofs.ContentReadsLemmas.{end-at, first-at, part-read, small-at, skipping-more}
 use Rattle.md_content.proofs.Settings.{content_keeps}
-use Rattle.md_seam.proofs.Settings.{KeepsResolving, flushes-setting}
+use Rattle.md_seam.proofs.Settings.{flushes-setting}
 use Rattle.md_content.proofs.content.ContentReader.read_part.Goals as goal
 
 pub new-tokenizer-requires : goal.new-tokenizer-requires
@@ -12,7 +12,7 @@ new-tokenizer-requires c = (c.requires.each 0 _ c.requires.some).first
 pub loop-chunk-init : goal.loop-chunk-init
 loop-chunk-init c =
     let w : world c.new-tokenizer.result ≡ fresh c.args.self.now.bytes.now c.args.self.now.options.now (first_of c.args.chunks.now) =
-        c.new-tokenizer.ensures ∙ ap (fresh c.args.self.now.bytes.now c.args.self.now.options.now) (first-at c.args.chunks.now _ c.requires.some) in
+    c.new-tokenizer.ensures ∙ ap (fresh c.args.self.now.bytes.now c.args.self.now.options.now) (first-at c.args.chunks.now _ c.requires.some) in
     record {
       bytes = ap (λ (x : World). x.setting.bytes) w;
       scratch = ap (λ (x : World). x.scratch) w;

@@ -1,5 +1,5 @@
-use Rattle.std.proofs.Common.{◌≡◌, ap, ◌∙◌, arith}
-use Rattle.md_engine.specs.World.{Setting, World, world}
+use Rattle.std.proofs.Common.{ap, ◌∙◌, arith}
+use Rattle.md_engine.specs.World.{Setting, World}
 use Rattle.md_seam.specs.declared.inline.Chunk.{Chunk}
 use Rattle.md_seam.proofs.PlainSteps.{chunks-all, chunks-more}
 use Rattle.md_seam.proofs.plain.PlainInline.read.Goals as goal

@@ -1,0 +1,49 @@
+-- The tree of a text, with frontmatter and without.
+use Rattle.std.proofs.Common.{◌≡◌, ℕ, List, drop, Option, Some, None, sym, ◌∙◌, ap}
+use Rattle.std.specs.Option.{option_map}
+use Rattle.md_engine.specs.declared.configuration.ParseOptions.{ParseOptions}
+use Rattle.md_seam.specs.Tree as t
+use Rattle.md_seam.specs.Lines.{lines_of}
+use Rattle.md_seam.specs.Preamble as p
+use Rattle.md_seam.specs.Rest as r
+use Rattle.md_seam.specs.State.{At, closed}
+use Rattle.md_seam.specs.Step.{spot_of, steps}
+use Rattle.md_seam.specs.Grouped.{grouped}
+use Rattle.md_seam.specs.Meaning.{with_frontmatter, tree}
+use Rattle.plain_grammars.specs.declared.preamble.Front.{Front}
+use Rattle.plain_grammars.specs.declared.rest.Rest.{Rest}
+use Rattle.plain_grammars.specs.Fronts.{lines_in, front_meaning, IsEnd}
+use Rattle.plain_grammars.specs.Rests.{rest_meanings}
+use Rattle.plain_grammars.specs.Trees.{meaning}
+use Rattle.plain_grammars.proofs.FrontLemmas.{rests_behind, lines_in-rests}
+
+-- the lines of a body, read and closed
+abbrev pub body : ParseOptions → List r.Rest → t.Blocks
+body options rests = closed options (steps options (At (spot_of t.End)) rests)
+
+-- a tree by its preamble
+abbrev tree_by : ParseOptions → p.Preamble → t.Blocks
+tree_by options x = with_frontmatter x.front (grouped (body options x.body))
+
+-- These rests are the lines of the text, and this is the frontmatter that was found there.
+pub record Reads (options : ParseOptions) (text : List ℕ) (rests : List Rest) (found : Option Front) : Type 0 where
+  pub lines : rest_meanings rests ≡ p.rests_at (p.first_column text) (lines_of (p.without_mark text))
+  pub front : option_map front_meaning found ≡ p.front_of options (lines_in rests)
+
+tree-found : (options : ParseOptions) (text : List ℕ) (rests : List Rest) (found : Option Front) → Reads options text rests found →
+    tree options text ≡ tree_by options (p.preamble_by (p.first_column text) (lines_of (p.without_mark text)) (option_map front_meaning found))
+tree-found options text rests found h =
+    ap (λ o. tree_by options (p.preamble_by (p.first_column text) (lines_of (p.without_mark text)) o))
+    (sym (h.front ∙ ap (p.front_of options) (lines_in-rests (p.first_column text) (lines_of (p.without_mark text)) rests h.lines)))
+
+pub tree-some : (options : ParseOptions) (text : List ℕ) (rests : List Rest) (found : Option Front) (f : Front) (inner bs : t.Blocks) → Reads options text rests found → found ≡ Some f → IsEnd (drop 1 rests) f.after.now →
+    inner ≡ body options (rest_meanings f.after.now) → bs ≡ grouped inner → t.More (meaning f.block) bs ≡ tree options text
+tree-some options text rests found f inner bs h is end read joined =
+    ap (t.More (meaning f.block)) (joined ∙ ap grouped (read ∙ ap (body options) (rests_behind (p.first_column text) (lines_of (p.without_mark text)) rests f.after.now h.lines end)))
+    ∙ sym (tree-found options text rests found h ∙ ap (λ o. tree_by options (p.preamble_by (p.first_column text) (lines_of (p.without_mark text)) (option_map front_meaning o))) is)
+
+pub tree-none : (options : ParseOptions) (text : List ℕ) (rests : List Rest) (found : Option Front) (inner bs : t.Blocks) → Reads options text rests found → found ≡ None →
+    inner ≡ body options (rest_meanings rests) → bs ≡ grouped inner → bs ≡ tree options text
+tree-none options text rests found inner bs h is read joined =
+    joined ∙ ap grouped (read ∙ ap (body options) h.lines)
+    ∙ sym (tree-found options text rests found h ∙ ap (λ o. tree_by options (p.preamble_by (p.first_column text) (lines_of (p.without_mark text)) (option_map front_meaning o))) is)

@@ -1,0 +1,10 @@
+use Rattle.std.proofs.Common.{◌≡◌, take}
+use Rattle.md_seam.specs.State.{At}
+use Rattle.md_seam.specs.Step.{spot_of, steps}
+use Rattle.md_seam.specs.Tree.{End}
+use Rattle.plain_grammars.specs.Rests.{rest_meanings}
+use Rattle.md_plain.specs.States.{path_meaning}
+use Rattle.md_plain.proofs.meaning.blocks_of.Given as goal
+
+abbrev pub invariant-loop-rest : goal.invariant-loop-rest
+invariant-loop-rest l = path_meaning l.path ≡ steps l.options (At (spot_of End)) (rest_meanings (take l.rest-index l.rests))

@@ -1,0 +1,23 @@
+-- What a line comes to where a container does not continue.
+use Rattle.std.specs.Prelude.{List, [], ◌∷◌, ◌++◌}
+use Rattle.md_engine.specs.declared.configuration.ParseOptions.{ParseOptions}
+use Rattle.md_seam.specs.Rest.{Rest}
+use Rattle.md_seam.specs.State.{Leaf, OpenParagraph, Spot, Path, kept}
+use Rattle.md_seam.specs.Step.{stopped}
+use Rattle.plain_grammars.specs.Trees.{meanings}
+use Rattle.md_plain.specs.declared.state.Frame.{Frame}
+use Rattle.md_plain.specs.States.{container_meaning, within}
+
+-- a paragraph with this line behind its own; no other leaf takes it
+abbrev pub with_more : Leaf → Rest → Leaf
+with_more (OpenParagraph lines) r = OpenParagraph (lines ++ kept r ∷ [])
+with_more leaf r = leaf
+
+-- what is open with this line behind those of the paragraph
+abbrev pub more_text : Spot → Rest → Spot
+more_text s r = record { here = s.here; leaf = with_more s.leaf r }
+
+-- these containers, and in them this path, where the outermost does not continue
+abbrev pub stopped_in : ParseOptions → List Frame → Path → Rest → Path
+stopped_in options [] p r = p
+stopped_in options (f ∷ fs) p r = stopped options (meanings f.before.items) (container_meaning f.container) (within fs p) r

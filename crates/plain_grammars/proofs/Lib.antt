@@ -1,0 +1,9 @@
+pub mod DefinitionLemmas
+pub mod PieceLemmas
+pub mod RestLemmas
+pub mod LinesLemmas
+pub mod TreeLemmas
+pub mod LabelLemmas
+pub mod WordLemmas
+pub mod FrontLemmas
+pub mod MeaningLemmas

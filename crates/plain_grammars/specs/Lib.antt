@@ -1,0 +1,9 @@
+pub mod Trees
+pub mod Rests
+pub mod Pieces
+pub mod Definitions
+pub mod Labels
+pub mod Fronts
+pub mod Words
+pub mod Kinds
+pub mod WholeTrees
