@@ -23,9 +23,8 @@ use Rattle.md_seam.proofs.PlacesLemmas.{all-append}
 use Rattle.md_seam.proofs.TextsLemmas.{Both, Ending, LineFeed, NoEnding, Return, ending_bytes}
 use Rattle.markdown_blocks.specs.Between.{is_between}
 use Rattle.markdown_blocks.specs.Rows.{BlankRow, BreakRow, Group, Lines, Row, RowKind, Single, TextRow, behind_row, chunks_of, ending_events, groups, groups_events, last_row, line_kind, onto_groups, row_events_by}
-use Rattle.markdown_blocks.proofs.RowFacts.{AreRows, IsEnding, IsRow}
-use Rattle.markdown_blocks.proofs.SpelledRows.{slice-split}
-use Rattle.markdown_blocks.proofs.NestedRows.{behind-is, behind-none}
+use Rattle.markdown_blocks.proofs.JoinedLemmas.{behind-is, behind-none}
+use Rattle.markdown_blocks.proofs.RowFacts.{AreRows, IsEnding, IsRow, line-text}
 
 -- Bytes of ASCII.
 
@@ -242,13 +241,9 @@ line_end-alone options bytes line row is = ap (λ (l : List ℕ). past_text (wit
 
 pub line_end-ended : (options : ParseOptions) (bytes line : List ℕ) (row : Row) (q : Point) → IsRow options bytes line row → IsEnding bytes row.end q → line_end bytes (record { first = row.first; after = q }) ≡ row.end
 line_end-ended options bytes line row q is ending =
-    let size : row.end.index ≡ row.first.index + length line = is.size in
-    let more : q.index ≡ row.end.index + length (ending_bytes ending.ending) = ending.size in
-    let text : slice_range bytes row.first.index q.index ≡ line ++ ending_bytes ending.ending =
-    slice-split bytes row.first.index row.end.index q.index (omega arith) (omega arith)
-    ∙ ap (λ (l : List ℕ). l ++ slice_range bytes row.end.index q.index) is.text
-    ∙ ap (λ (l : List ℕ). line ++ l) ending.text in
-    ap (λ (l : List ℕ). past_text (without_ending l) row.first) text ∙ ap (λ (l : List ℕ). past_text l row.first) (without-one line ending.ending is.no_ending) ∙ sym is.end
+    ap (λ (l : List ℕ). past_text (without_ending l) row.first) (line-text options bytes line row q is ending)
+    ∙ ap (λ (l : List ℕ). past_text l row.first) (without-one line ending.ending is.no_ending)
+    ∙ sym is.end
 
 chunk-between : (bytes : List ℕ) (p e q : Point) → line_end bytes (record { first = p; after = q }) ≡ e → is_between bytes p.index ≡ true → is_between bytes e.index ≡ true → is_between bytes q.index ≡ true →
     AreBetween bytes (plain_chunk bytes (record { first = p; after = q }))

@@ -5,6 +5,7 @@ use Rattle.std.specs.List.{list_all}
 use Rattle.std.proofs.lemmas.Bool.{eqb-true, or_parts}
 use Rattle.std.proofs.lemmas.Bool.Decides.{nat_tests}
 use Rattle.std.proofs.lemmas.List.{drop-drop, drop_at, length-append, length-drop, take_at}
+use Rattle.std.proofs.lemmas.List.Folds.{list_all-append}
 use Rattle.std.proofs.lemmas.List.Sums.{sum_by-cons}
 use Rattle.md_engine.specs.declared.event.Point.{Point}
 use Rattle.md_engine.specs.declared.tokenizer.Line.{Line}
@@ -226,17 +227,9 @@ pub bytes-append : (xs ys : List Cell) → bytes_of (xs ++ ys) ≡ bytes_of xs +
 bytes-append [] ys = refl
 bytes-append (c ∷ xs) ys = ap (λ (l : List ℕ). c.byte ∷ l) (bytes-append xs ys)
 
-and_assoc : (x y z : Bool) → (x && (y && z)) ≡ ((x && y) && z)
-and_assoc true y z = refl
-and_assoc false y z = refl
-
 and_true : (x : Bool) → (x && true) ≡ x
 and_true true = refl
 and_true false = refl
-
-all-append : (f : ℕ → Bool) (xs ys : List ℕ) → list_all f (xs ++ ys) ≡ (list_all f xs && list_all f ys)
-all-append f [] ys = refl
-all-append f (x ∷ xs) ys = ap (λ (t : Bool). f x && t) (all-append f xs ys) ∙ and_assoc (f x) (list_all f xs) (list_all f ys)
 
 and_same : (x y : Bool) → y ≡ x → (x && y) ≡ x
 and_same true y e = e
@@ -262,7 +255,7 @@ pub all-spread : (f : ℕ → Bool) → f 32 ≡ f 9 → (line : Line) (bytes : 
 all-spread f e line [] p = refl
 all-spread f e line (b ∷ bs) p =
     ap (list_all f) (bytes-append (byte_cells line b p) (spread line bs (past_byte b p)))
-    ∙ all-append f (bytes_of (byte_cells line b p)) (bytes_of (spread line bs (past_byte b p)))
+    ∙ list_all-append f (bytes_of (byte_cells line b p)) (bytes_of (spread line bs (past_byte b p)))
     ∙ ap (λ (t : Bool). t && list_all f (bytes_of (spread line bs (past_byte b p)))) (all-byte f e line b p)
     ∙ ap (λ (t : Bool). f b && t) (all-spread f e line bs (past_byte b p))
 
@@ -426,10 +419,6 @@ is-ending bytes ending rest p e h =
     }
 
 -- behind a piece of a line
-pub past_text-index : (line : List ℕ) (p : Point) → (past_text line p).index ≡ p.index + length line
-past_text-index [] p = omega arith
-past_text-index (b ∷ bs) p = let more = past_text-index bs (past_byte b p) in omega arith
-
 pub past_text-whole : (line : List ℕ) (p : Point) → p.vs ≡ 0 → (past_text line p).vs ≡ 0
 past_text-whole [] p e = e
 past_text-whole (b ∷ bs) p e = past_text-whole bs (past_byte b p) refl

@@ -1,14 +1,11 @@
 -- Flow stands and ends in any table that has it.
-use Rattle.std.proofs.Common.{◌≡◌, ℕ, ◌+◌, ◌%◌, ◌<◌, ◌≤◌, Bool, true, false, nat_eq, Option, Some, None, List, ◌∷◌, length, refl, arith, ap, sym, ◌∙◌}
+use Rattle.std.proofs.Common.{◌≡◌, ℕ, ◌%◌, ◌<◌, Bool, true, false, nat_eq, Option, Some, None, length, refl, arith}
 use Rattle.md_engine.specs.declared.event.Name.{Name}
-use Rattle.md_engine.specs.declared.event.Name.TheVariants as parts
 use Rattle.md_engine.specs.declared.state.Name.{Name as StateName}
 use Rattle.md_engine.specs.declared.state.Name.TheVariants as n
-use Rattle.md_engine.specs.declared.state.State.{State}
-use Rattle.md_engine.specs.declared.state.State.TheVariants.{Ok, Nok, Next, Retry}
-use Rattle.md_engine.specs.declared.tokenizer.Frame.{Frame}
-use Rattle.md_engine.specs.Scheme.{After, Ends, Fits, FitsState, Scheme, Spot, Tries, after_all, frame_level, frame_rank, moved_to, seen, spot, spot_at}
-use Rattle.md_engine.specs.World.{World, after}
+use Rattle.md_engine.specs.declared.state.State.TheVariants.{Nok, Next}
+use Rattle.md_engine.specs.Scheme.{After, Fits, Scheme, Spot, Tries, after_all, seen, spot, spot_at}
+use Rattle.md_engine.specs.World.{World}
 use Rattle.md_engine.proofs.Falls.{later, later_at}
 use Rattle.md_engine.proofs.Local.{accepts, begins_try, consumes, refuses, turns}
 use Rattle.md_engine.proofs.Points.{stays, takes}
@@ -16,7 +13,7 @@ use Rattle.md_content.specs.Chunks.{chunk_scheme}
 use Rattle.md_leaves.specs.Blank.{blank_scheme}
 use Rattle.md_leaves.specs.Break.{break_scheme}
 use Rattle.md_seam.specs.Spaces.{IsRest, rest_ready}
-use Rattle.md_seam.specs.Went.{entered, exited, taken, tried}
+use Rattle.md_seam.specs.Went.{entered, exited, taken}
 use Rattle.md_seam.proofs.SpacesGoods.{Does, seen-some}
 use Rattle.markdown_blocks.specs.Flow.{before_content_went, before_thematic_break_went, blank_line_before_went, calm, ending_code, flow_scheme, start_went}
 

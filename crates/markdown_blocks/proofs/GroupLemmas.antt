@@ -1,5 +1,5 @@
 -- The events of the lines of a text, joined and read, are those of its blocks.
-use Rattle.std.proofs.Common.{◌≡◌, ◌≢◌, ℕ, ◌-◌, ◌≤◌, Bool, true, ◌&&◌, List, [], ◌∷◌, ◌++◌, take, drop, slice_range, refl, ap, sym, ◌∙◌, subst, append_assoc, append-nil, take-add, drop-drop, arith}
+use Rattle.std.proofs.Common.{◌≡◌, ℕ, ◌<◌, Bool, true, ◌&&◌, List, [], ◌∷◌, ◌++◌, length, slice_range, refl, ap, sym, ◌∙◌, subst, append_assoc, append-nil, arith}
 use Rattle.std.specs.Prelude.{◌==◌, IsTrue, Option, Some, None}
 use Rattle.std.specs.List.{list_all}
 use Rattle.std.proofs.lemmas.Bool.{and_from, eq-eqb}
@@ -26,7 +26,7 @@ use Rattle.markdown_blocks.specs.FlowReads.{NoText}
 use Rattle.markdown_blocks.specs.Rows.{BlankRow, BreakRow, Group, Lines, Row, RowKind, Single, TextRow, behind_row, chunks_of, ending_events, groups, groups_events, last_row, line_kind, onto_groups, row_events, rows_events}
 use Rattle.markdown_blocks.specs.Unread.{joined_groups, linked, unread_groups, unread_paragraph}
 use Rattle.markdown_blocks.proofs.JoinedLemmas.{EachEnds, EachNoContent, NoContent, behind-is, ending-is, ending-no_content, events-no_content, joined-rows, no_content-unlinked}
-use Rattle.markdown_blocks.proofs.RowFacts.{AreRows, IsEnding, IsRow}
+use Rattle.markdown_blocks.proofs.RowFacts.{AreRows, IsEnding, IsRow, first-is, line-text}
 use Rattle.markdown_blocks.proofs.SubstitutedLemmas.{Rest, Unlinked, passes, places, unlinked-append}
 
 -- The groups of a text.
@@ -62,13 +62,6 @@ onto-first p row TextRow [] h = h
 onto-first p row TextRow (Single first ∷ gs) h = h
 onto-first p row TextRow (Lines first rows ∷ gs) h = h
 
-rows-first : (options : ParseOptions) (bytes : List ℕ) (p : Point) (lines : List (List ℕ)) (row : Row) (rows : List Row) → AreRows options bytes p lines (row ∷ rows) → row.first ≡ p
-rows-first options bytes p [] row rows h = absurd h
-rows-first options bytes p (line ∷ []) row [] h = h.1
-rows-first options bytes p (line ∷ []) row (below ∷ rows) h = absurd h
-rows-first options bytes p (line ∷ next ∷ lines) row [] h = absurd h
-rows-first options bytes p (line ∷ next ∷ lines) row (below ∷ rows) h = h.1
-
 -- a line goes before groups
 onto-are : (options : ParseOptions) (bytes line : List ℕ) (row : Row) (q : Point) (gs : List Group) → IsRow options bytes line row → row.after ≡ Some q → IsEnding bytes row.end q → NoContent row.inside →
     FirstAt q gs → AreGroups (IsParagraph options bytes) gs → (kind : RowKind) → row.kind ≡ kind → AreGroups (IsParagraph options bytes) (onto_groups row kind gs)
@@ -92,36 +85,8 @@ groups-are options bytes p (line ∷ []) (row ∷ []) h k = last-are options byt
 groups-are options bytes p (line ∷ []) (row ∷ below ∷ rows) h k = absurd h
 groups-are options bytes p (line ∷ next ∷ lines) (row ∷ []) h k = absurd h
 groups-are options bytes p (line ∷ next ∷ lines) (row ∷ below ∷ rows) h k =
-    onto-are options bytes line row h.2 (groups (below ∷ rows)) h.0 h.3 h.4 k.0 (onto-first h.2 below below.kind (groups rows) (rows-first options bytes h.2 (next ∷ lines) below rows h.5))
+    onto-are options bytes line row h.2 (groups (below ∷ rows)) h.0 h.3 h.4 k.0 (onto-first h.2 below below.kind (groups rows) (first-is options bytes h.2 (next ∷ lines) below rows h.5))
     (groups-are options bytes h.2 (next ∷ lines) (below ∷ rows) h.5 k.1) row.kind refl
-
--- a fact of each line
-abbrev pub EachRow : (Row → Type 0) → List Row → Type 0
-EachRow F [] = Unit {0}
-EachRow F (row ∷ rows) = F row × EachRow F rows
-
--- of each line of groups
-abbrev EachGroup : (Row → Type 0) → List Group → Type 0
-EachGroup F [] = Unit {0}
-EachGroup F (Single row ∷ gs) = F row × EachGroup F gs
-EachGroup F (Lines row rows ∷ gs) = EachRow F (row ∷ rows) × EachGroup F gs
-
-onto-each : (F : Row → Type 0) (row : Row) (kind : RowKind) (gs : List Group) → F row → EachGroup F gs → EachGroup F (onto_groups row kind gs)
-onto-each F row BlankRow gs h k = (h, k)
-onto-each F row BreakRow gs h k = (h, k)
-onto-each F row TextRow [] h k = ((h, tt), tt)
-onto-each F row TextRow (Single first ∷ gs) h k = ((h, tt), k)
-onto-each F row TextRow (Lines first rows ∷ gs) h k = ((h, k.0), k.1)
-
-each-group : (F : Row → Type 0) (rows : List Row) → EachRow F rows → EachGroup F (groups rows)
-each-group F [] h = tt
-each-group F (row ∷ rows) h = onto-each F row row.kind (groups rows) h.0 (each-group F rows h.1)
-
--- a fact of each paragraph, and one of each of its lines
-groups-both : (P : Row → List Row → Type 0) (F : Row → Type 0) (gs : List Group) → AreGroups P gs → EachGroup F gs → AreGroups (λ row rows. P row rows × EachRow F (row ∷ rows)) gs
-groups-both P F [] h k = tt
-groups-both P F (Single row ∷ gs) h k = (h.0, groups-both P F gs h.1 k.1)
-groups-both P F (Lines row rows ∷ gs) h k = ((h.0, k.0), h.1, groups-both P F gs h.2 k.1)
 
 -- each line of a text but the last has an ending
 pub rows-end : (options : ParseOptions) (bytes : List ℕ) (p : Point) (lines : List (List ℕ)) (rows : List Row) → AreRows options bytes p lines rows → EachEnds rows
@@ -133,24 +98,13 @@ rows-end options bytes p (line ∷ next ∷ lines) (row ∷ below ∷ rows) h = 
 
 -- The chunks of a paragraph are lines.
 
--- a piece of a text, and the one behind it
-slice-join : (bytes : List ℕ) (a b c : ℕ) → a ≤ b → b ≤ c → slice_range bytes a c ≡ slice_range bytes a b ++ slice_range bytes b c
-slice-join bytes a b c h k =
-    ap (λ (size : ℕ). take size (drop a bytes)) (omega arith)
-    ∙ take-add (b - a) (c - b) (drop a bytes)
-    ∙ ap (λ (l : List ℕ). slice_range bytes a b ++ take (c - b) l) (drop-drop (b - a) a bytes ∙ ap (λ (size : ℕ). drop size bytes) (omega arith))
-
 -- a line of text is not empty
-abbrev NotEmpty : List ℕ → Type 0
-NotEmpty [] = ⊥
-NotEmpty (b ∷ bs) = Unit {0}
-
-text-some : (options : ParseOptions) (line : List ℕ) → line_kind options line ≡ TextRow → NotEmpty line
+pub text-some : (options : ParseOptions) (line : List ℕ) → line_kind options line ≡ TextRow → 0 < length line
 text-some options [] h = cc
-text-some options (b ∷ bs) h = tt
+text-some options (b ∷ bs) h = omega arith
 
-one-last : (line : List ℕ) → NotEmpty line → NoEnding line → (ends : Bool) → ends ≡ true → is_one_line (split_lines line) ends ≡ true
-one-last [] some h ends e = absurd some
+one-last : (line : List ℕ) → 0 < length line → NoEnding line → (ends : Bool) → ends ≡ true → is_one_line (split_lines line) ends ≡ true
+one-last [] some h ends e = absurd (omega arith)
 one-last (b ∷ bs) some h ends e = ap (λ (lines : List (List ℕ)). is_one_line lines ends) (split-line (b ∷ bs) h) ∙ e
 
 one-next : (line : List ℕ) (ending : Ending) → NoEnding line → (ends : Bool) → is_one_line (split_lines (line ++ ending_bytes ending)) ends ≡ true
@@ -167,13 +121,6 @@ one-next line ending h ends =
     go : (line : List ℕ) → is_one_line (line ∷ [] ∷ []) ends ≡ true
     go [] = refl
     go (b ∷ line) = refl
-
--- the text of a line with its ending
-line-text : (options : ParseOptions) (bytes line : List ℕ) (row : Row) (q : Point) → IsRow options bytes line row → (ending : IsEnding bytes row.end q) → slice_range bytes row.first.index q.index ≡ line ++ ending_bytes ending.ending
-line-text options bytes line row q is ending =
-    slice-join bytes row.first.index row.end.index q.index (omega (arith, is.size)) (omega (arith, ending.size))
-    ∙ ap (λ (l : List ℕ). l ++ slice_range bytes row.end.index q.index) is.text
-    ∙ ap (λ (l : List ℕ). line ++ l) ending.text
 
 pub paragraph-lines : (options : ParseOptions) (bytes : List ℕ) (row : Row) (rows : List Row) → IsParagraph options bytes row rows → are_lines bytes (last_row row rows).end (chunks_of row rows) ≡ true
 paragraph-lines options bytes row [] h =
@@ -286,10 +233,10 @@ text-read P bytes wants reads w unique (Lines row rows ∷ gs) are left out s =
 
 -- What the readers give.
 
--- a reader of content gives for each paragraph of a text, of whose lines a fact holds, its lines whose text is not read yet
-abbrev pub ReadsContent : ParseOptions → List ℕ → (Row → Type 0) → Readings → Type 0
-ReadsContent options bytes F reads =
-    (row : Row) (rows : List Row) → IsParagraph options bytes row rows → EachRow F (row ∷ rows) → (answer : List Event) → reads content.Content (chunks_of row rows) answer → answer ≡ unread_paragraph row rows
+-- a reader of content gives for each paragraph of a text its lines, whose text is not read yet
+abbrev pub ReadsContent : ParseOptions → List ℕ → Readings → Type 0
+ReadsContent options bytes reads =
+    (row : Row) (rows : List Row) → IsParagraph options bytes row rows → (answer : List Event) → reads content.Content (chunks_of row rows) answer → answer ≡ unread_paragraph row rows
 
 -- a reader of text gives for chunks that are lines, none of which ends within a tab, what the plain layer does
 abbrev pub ReadsText : List ℕ → Readings → Type 0
@@ -298,17 +245,17 @@ ReadsText bytes reads =
     answer ≡ plain_events bytes (record { kind = Text; chunks = chunks })
 
 -- The events of the lines of a text, joined, and read two times, are those of its blocks.
-pub groups-read : (options : ParseOptions) (bytes : List ℕ) (p : Point) (lines : List (List ℕ)) (rows : List Row) (F : Row → Type 0) → AreRows options bytes p lines rows → EachNoContent rows → EachRow F rows →
-    (wants_content wants_text : Content → Bool) (reads_content reads_text : Readings) → wants_content content.Content ≡ true → wants_text content.Text ≡ true → ReadsContent options bytes F reads_content → ReadsText bytes reads_text →
+pub groups-read : (options : ParseOptions) (bytes : List ℕ) (p : Point) (lines : List (List ℕ)) (rows : List Row) → AreRows options bytes p lines rows → EachNoContent rows →
+    (wants_content wants_text : Content → Bool) (reads_content reads_text : Readings) → wants_content content.Content ≡ true → wants_text content.Text ≡ true → ReadsContent options bytes reads_content → ReadsText bytes reads_text →
     (unread events : List Event) → Substituted wants_content reads_content [] 0 (joined (rows_events rows)) unread → Substituted wants_text reads_text [] 0 unread events → events ≡ groups_events bytes (groups rows)
-groups-read options bytes p lines rows F are quiet each wants_content wants_text reads_content reads_text wc wt rc rt unread events sc st =
-    let P : Row → List Row → Type 0 = λ row rows. IsParagraph options bytes row rows × EachRow F (row ∷ rows) in
-    let good : AreGroups P (groups rows) = groups-both (IsParagraph options bytes) F (groups rows) (groups-are options bytes p lines rows are quiet) (each-group F rows each) in
+groups-read options bytes p lines rows are quiet wants_content wants_text reads_content reads_text wc wt rc rt unread events sc st =
+    let P : Row → List Row → Type 0 = IsParagraph options bytes in
+    let good : AreGroups P (groups rows) = groups-are options bytes p lines rows are quiet in
     let is : unread ≡ unread_groups (groups rows) =
-    content-read P wants_content reads_content wc (λ row rows h. rc row rows h.0 h.1) (groups rows) good [] unread
+    content-read P wants_content reads_content wc rc (groups rows) good [] unread
     (subst (λ (l : List Event). Substituted wants_content reads_content [] 0 l unread) (joined-rows rows (rows-end options bytes p lines rows are) quiet) sc) in
     text-read P bytes wants_text reads_text wt
-    (λ row rows h answer r. rt (chunks_of row rows) answer r (last_row row rows).end (paragraph-lines options bytes row rows h.0) (paragraph-whole options bytes row rows h.0)) (groups rows) good [] events
+    (λ row rows h answer r. rt (chunks_of row rows) answer r (last_row row rows).end (paragraph-lines options bytes row rows h) (paragraph-whole options bytes row rows h)) (groups rows) good [] events
     (subst (λ (l : List Event). Substituted wants_text reads_text [] 0 l events) is st)
 
 -- No line is text.

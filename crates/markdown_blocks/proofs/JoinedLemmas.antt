@@ -131,8 +131,12 @@ EachEnds (row ∷ below ∷ rows) = (q : Point) × (after : row.after ≡ Some q
 pub ending-is : (name : Name) (row : Row) (q : Point) → row.after ≡ Some q → ending_events name row ≡ pair name row.end q
 ending-is name row q after = ap (λ (x : Option Point). elim x [ None ↦ [] | Some q ↦ pair name row.end q ]) after
 
+-- behind a line stands the end of its ending
 pub behind-is : (row : Row) (q : Point) → row.after ≡ Some q → behind_row row ≡ q
 behind-is row q after = ap (λ (x : Option Point). elim x [ None ↦ row.end | Some q ↦ q ]) after
+
+pub behind-none : (row : Row) → row.after ≡ None → behind_row row ≡ row.end
+behind-none row after = ap (λ (x : Option Point). elim x [ None ↦ row.end | Some q ↦ q ]) after
 
 -- a line of content that goes on takes its ending, and another keeps its end
 text-goes_on : (first end q : Point) (es : List Event) → content_behind es ≡ true →

@@ -15,6 +15,7 @@ pub mod FlowReads
 pub mod SubstitutedLemmas
 pub mod JoinedLemmas
 pub mod GroupLemmas
+pub mod SectionsLemmas
 pub mod SpelledRows
 pub mod NestedRows
 pub mod BetweenRows

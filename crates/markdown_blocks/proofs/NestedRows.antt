@@ -1,5 +1,5 @@
 -- The events of a text nest, where only breaks are on.
-use Rattle.std.proofs.Common.{◌≡◌, ℕ, suc, ◌+◌, Bool, true, false, cond, List, [], ◌∷◌, ◌++◌, length, refl, ap, sym, ◌∙◌, subst, append_assoc, arith}
+use Rattle.std.proofs.Common.{◌≡◌, ℕ, suc, ◌+◌, Bool, true, false, cond, List, [], ◌∷◌, ◌++◌, length, refl, ap, sym, ◌∙◌, subst, append_assoc, append-nil, arith}
 use Rattle.std.specs.Prelude.{IsTrue, Option, Some, None}
 use Rattle.std.proofs.lemmas.Bool.Decides.{nat_tests}
 use Rattle.md_engine.specs.declared.configuration.ParseOptions.{ParseOptions}
@@ -15,6 +15,7 @@ use Rattle.md_seam.proofs.InlineLemmas.{end-before, end-behind}
 use Rattle.md_seam.proofs.NestedLemmas.{at_or_before-refl, at_or_before-trans, balanced-append, balanced-around, balanced-insert, balanced-none, forward-append, forward-from, forward-last}
 use Rattle.md_seam.proofs.TextsLemmas.{Both, Ending, LineFeed, Return, ending_bytes}
 use Rattle.markdown_blocks.specs.Rows.{BlankRow, BreakRow, Group, Lines, Row, RowKind, Single, TextRow, behind_row, chunks_of, ending_events, groups, groups_events, last_row, onto_groups, row_events_by}
+use Rattle.markdown_blocks.proofs.JoinedLemmas.{behind-is, behind-none}
 use Rattle.markdown_blocks.proofs.RowFacts.{AreRows, IsEnding, IsRow}
 
 -- Chunks.
@@ -123,16 +124,12 @@ nests-break bytes row gs o e nests = record {
       (around-forward n.ThematicBreak n.LineEnding row row.inside (groups_events bytes gs) o.forward o.within o.ends nests.forward);
 }
 
-append-none : (es : List Event) → es ++ [] ≡ es
-append-none [] = refl
-append-none (e ∷ es) = ap (λ (l : List Event). e ∷ l) (append-none es)
-
 -- A line of text that is a paragraph.
 nests-first : (bytes : List ℕ) (row : Row) (gs : List Group) → Ordered row → Nests bytes (behind_row row) gs → Nests bytes row.first (Lines row [] ∷ gs)
 nests-first bytes row gs o nests =
     let chunk : Chunk = record { first = row.first; after = row.end } in
     let events : List Event = plain_chunk bytes chunk in
-    let none : events ++ [] ≡ events = append-none events in
+    let none : events ++ [] ≡ events = append-nil events in
     let facts : Forward row.first events × IsTrue (at_or_before (last_point row.first events) row.end) = chunk-forward bytes chunk (line-order row o) in
     record {
       balanced = around-balanced n.Paragraph n.LineEnding row.first row (events ++ []) (groups_events bytes gs) (subst Balanced (sym none) (chunk-balanced bytes chunk)) nests.balanced;
@@ -186,13 +183,6 @@ ending-order bytes p q is = go is.ending is.size
     go LineFeed e = further 0 e
     go Return e = further 0 e
     go Both e = further 1 e
-
--- behind a line stands the end of its ending
-pub behind-is : (row : Row) (q : Point) → row.after ≡ Some q → behind_row row ≡ q
-behind-is row q e = ap (λ (after : Option Point). behind_row (record row { after = after })) e
-
-pub behind-none : (row : Row) → row.after ≡ None → behind_row row ≡ row.end
-behind-none row e = ap (λ (after : Option Point). behind_row (record row { after = after })) e
 
 -- The groups of the lines of a text nest.
 pub rows-nest : (options : ParseOptions) (bytes : List ℕ) (p : Point) (lines : List (List ℕ)) (rows : List Row) → AreRows options bytes p lines rows → Nests bytes p (groups rows)

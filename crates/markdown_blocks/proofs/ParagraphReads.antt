@@ -19,11 +19,10 @@ use Rattle.md_seam.specs.declared.inline.Chunk.{Chunk}
 use Rattle.md_seam.specs.Ahead.{point_after}
 use Rattle.md_seam.specs.Places.{past_byte, past_text}
 use Rattle.md_seam.specs.Nested.{around, enter, exit}
-use Rattle.md_seam.proofs.TextsLemmas.{Both, Ending, LineFeed, Return, ending_bytes}
-use Rattle.markdown_blocks.specs.Rows.{Row, TextRow, chunks_of, last_row, line_kind}
+use Rattle.markdown_blocks.specs.Rows.{Row, TextRow, chunks_of, last_row}
 use Rattle.markdown_blocks.specs.Unread.{linked, unread_paragraph}
-use Rattle.markdown_blocks.proofs.FeedLines.{HasEnding, HasLine, NoFeed, begun-same, cell, ending-feed, feed-none, line-feed, no_feed-spread, past_ending, point_after-append, spread, spread-end}
-use Rattle.markdown_blocks.proofs.GroupLemmas.{IsParagraph, ReadsContent}
+use Rattle.markdown_blocks.proofs.FeedLines.{HasEnding, HasLine, NoFeed, begun-same, cell, ending-feed, ending-some, feed-none, line-feed, no_feed-spread, past_ending, point_after-append, spread, spread-end}
+use Rattle.markdown_blocks.proofs.GroupLemmas.{IsParagraph, ReadsContent, text-some}
 use Rattle.markdown_blocks.proofs.JoinedLemmas.{behind-is}
 use Rattle.markdown_blocks.proofs.RowFacts.{IsEnding, IsRow}
 
@@ -34,11 +33,6 @@ piece : (bytes : List ℕ) (i j : ℕ) → i ≤ j → drop i bytes ≡ slice_ra
 piece bytes i j le =
     sym (take-append-drop (j - i) (drop i bytes))
     ∙ ap (λ (l : List ℕ). slice_range bytes i j ++ l) (drop-drop (j - i) i bytes ∙ ap (λ (k : ℕ). drop k bytes) (omega arith))
-
--- a line of text is not empty
-text-some : (options : ParseOptions) (line : List ℕ) → line_kind options line ≡ TextRow → 0 < length line
-text-some options [] h = cc
-text-some options (b ∷ bs) h = omega arith
 
 row-line : (options : ParseOptions) (bytes line : List ℕ) (row : Row) → IsRow options bytes line row → drop row.first.index bytes ≡ line ++ drop row.end.index bytes
 row-line options bytes line row is = piece bytes row.first.index row.end.index (omega (arith, is.size)) ∙ ap (λ (l : List ℕ). l ++ drop row.end.index bytes) is.text
@@ -55,11 +49,6 @@ row-within options bytes line row is text =
 first-row : (options : ParseOptions) (bytes : List ℕ) (row : Row) (rows : List Row) → IsParagraph options bytes row rows → (line : List ℕ) × IsRow options bytes line row
 first-row options bytes row [] h = (h.0, h.1)
 first-row options bytes row (next ∷ rows) h = (h.0, h.1)
-
-ending-some : (ending : Ending) → 0 < length (ending_bytes ending)
-ending-some LineFeed = omega arith
-ending-some Return = omega arith
-ending-some Both = omega arith
 
 -- the first line ends where the last does, or before
 ends-grow : (options : ParseOptions) (bytes : List ℕ) (row : Row) (rows : List Row) → IsParagraph options bytes row rows → row.end.index ≤ (last_row row rows).end.index
@@ -255,5 +244,5 @@ paragraph-reads options under bytes small row rows h =
     ∙ ap (λ (p : Point). around n.Paragraph row.first p (linked n.Data text_link chunks)) read.1
 
 -- what the reader of content gives for the paragraphs of a text
-pub content-reads : (options under : ParseOptions) (bytes : List ℕ) (F : Row → Type 0) → length bytes < 2 ^ 61 → ReadsContent options bytes F (λ content chunks events. events ≡ content_events bytes under chunks)
-content-reads options under bytes F small row rows h each answer is = is ∙ paragraph-reads options under bytes small row rows h
+pub content-reads : (options under : ParseOptions) (bytes : List ℕ) → length bytes < 2 ^ 61 → ReadsContent options bytes (λ content chunks events. events ≡ content_events bytes under chunks)
+content-reads options under bytes small row rows h answer is = is ∙ paragraph-reads options under bytes small row rows h

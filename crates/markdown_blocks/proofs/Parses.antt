@@ -1,5 +1,5 @@
 -- What a text is read as, where only breaks are on: its events nest, and spell its tree.
-use Rattle.std.proofs.Common.{◌≡◌, ◌^◌, ◌-◌, ◌<◌, ◌≤◌, ◌⊎◌, inl, inr, arith, ℕ, Bool, true, false, suc, List, [], ◌∷◌, length, refl, ap, sym, ◌∙◌, subst}
+use Rattle.std.proofs.Common.{◌≡◌, ◌^◌, ◌-◌, ◌<◌, ◌≤◌, ◌⊎◌, inl, inr, arith, ℕ, Bool, true, false, suc, List, [], length, refl, ap, sym, ◌∙◌, subst}
 use Rattle.std.specs.Prelude.{◌/◌}
 use Rattle.std.specs.Str.{IsUtf8}
 use Rattle.md_engine.specs.declared.configuration.ParseOptions.{ParseOptions}
@@ -18,13 +18,13 @@ use Rattle.md_seam.specs.Preamble.{has_mark}
 use Rattle.md_seam.specs.Spelled.{spelled}
 use Rattle.md_seam.specs.Substituted.{Readings, Substituted}
 use Rattle.md_seam.specs.Texts.{split_lines}
-use Rattle.markdown_blocks.specs.FlowReads.{FlowReads, ReadsContent, ReadsNone, text_cells, text_rows, text_setting}
+use Rattle.markdown_blocks.specs.FlowReads.{FlowReads, ReadsContent, ReadsNone, text_cells, text_rows}
 use Rattle.markdown_blocks.specs.Outlined.{IsOutlined}
 use Rattle.markdown_blocks.specs.Parsed.{IsBuilt}
 use Rattle.markdown_blocks.specs.Resolved.{resolved_as}
 use Rattle.markdown_blocks.specs.Rows.{Row, groups, groups_events, rows_events}
 use Rattle.markdown_blocks.proofs.BetweenRows.{between-rows}
-use Rattle.markdown_blocks.proofs.GroupLemmas.{EachRow, ReadsText, groups-read, singles-read}
+use Rattle.markdown_blocks.proofs.GroupLemmas.{ReadsText, groups-read, singles-read}
 use Rattle.markdown_blocks.proofs.JoinedLemmas.{EachNoContent, rows_at-no_content}
 use Rattle.markdown_blocks.proofs.NestedRows.{nested-rows}
 use Rattle.markdown_blocks.proofs.ParagraphReads.{content-reads}
@@ -33,14 +33,6 @@ use Rattle.markdown_blocks.proofs.RowFacts.{AreRows}
 use Rattle.markdown_blocks.proofs.RowLemmas.{fresh-rows}
 use Rattle.markdown_blocks.proofs.SpelledRows.{spelled-rows}
 use Rattle.markdown_blocks.proofs.TreeSections.{tree-sections}
-
--- no fact of a row is asked for
-abbrev Nothing : Row → Type 0
-Nothing row = Unit {0}
-
-each-nothing : (rows : List Row) → EachRow Nothing rows
-each-nothing [] = tt
-each-nothing (row ∷ rows) = (tt, each-nothing rows)
 
 text-quiet : (options : ParseOptions) (bytes : List ℕ) → EachNoContent (text_rows options bytes)
 text-quiet options bytes = rows_at-no_content options (suc (length (text_cells bytes options))) (text_cells bytes options) first_point
@@ -66,8 +58,8 @@ events-are options bytes built small found new flow wants reads wanted text even
         let resolved : Resolves flow.at h.more new = h.resolved in
         let here : Substituted wants_content (content_readings bytes options) [] 0 (joined flow.at.events) new.events =
         subst (λ (x : Setting). Substituted wants_content (content_readings x.bytes x.options) [] 0 (joined flow.at.events) new.events) flow.setting resolved.events in
-        groups-read options bytes first_point (split_lines bytes) rows Nothing (text-are options bytes built small) (text-quiet options bytes) (each-nothing rows)
-        wants_content wants (content_readings bytes options) reads refl wanted (content-reads options options bytes Nothing small) text new.events events
+        groups-read options bytes first_point (split_lines bytes) rows (text-are options bytes built small) (text-quiet options bytes)
+        wants_content wants (content_readings bytes options) reads refl wanted (content-reads options options bytes small) text new.events events
         (subst (λ (l : List Event). Substituted wants_content (content_readings bytes options) [] 0 (joined l) new.events) flow.events here) substituted
 
     go : ReadsNone rows flow.at found new ⊎ ReadsContent resolved_as flow.at found new → events ≡ groups_events bytes (groups rows)

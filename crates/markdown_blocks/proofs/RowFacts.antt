@@ -1,15 +1,13 @@
 -- What the lines of a text are, as flow reads them: facts that the lemmas on the tree rest on.
-use Rattle.std.proofs.Common.{◌≡◌, ℕ, ◌+◌, ◌≤◌, true, List, [], ◌∷◌, length, drop, slice_range}
-use Rattle.std.specs.Prelude.{IsTrue, Option, Some, None}
-use Rattle.std.specs.List.{list_all}
+use Rattle.std.proofs.Common.{◌≡◌, ℕ, ◌+◌, ◌-◌, ◌≤◌, List, [], ◌∷◌, ◌++◌, length, take, drop, slice_range, ap, ◌∙◌, take-add, drop-drop, arith}
+use Rattle.std.specs.Prelude.{IsTrue, Some, None}
 use Rattle.md_engine.specs.declared.configuration.ParseOptions.{ParseOptions}
-use Rattle.md_engine.specs.declared.event.Event.{Event}
 use Rattle.md_engine.specs.declared.event.Point.{Point}
 use Rattle.md_seam.specs.Nested.{Balanced, Forward, last_point}
 use Rattle.md_seam.specs.Places.{at_or_before, past_text}
 use Rattle.md_seam.proofs.SpelledLemmas.{Roles, Quiet}
 use Rattle.md_seam.proofs.TextsLemmas.{Ending, EndsBefore, NoEnding, ending_bytes}
-use Rattle.markdown_blocks.specs.Rows.{BlankRow, BreakRow, Row, RowKind, TextRow, line_kind}
+use Rattle.markdown_blocks.specs.Rows.{Row, TextRow, line_kind}
 
 -- a line without its ending, as a row
 pub record IsRow (options : ParseOptions) (bytes line : List ℕ) (row : Row) : Type 0 where
@@ -47,3 +45,25 @@ AreRows options bytes p (line ∷ []) (row ∷ []) = (is : IsRow options bytes l
 AreRows options bytes p (line ∷ next ∷ lines) (row ∷ below ∷ rows) =
     (is : IsRow options bytes line row) × (first : row.first ≡ p) × (q : Point) × (after : row.after ≡ Some q) × (ending : IsEnding bytes row.end q) × AreRows options bytes q (next ∷ lines) (below ∷ rows)
 AreRows options bytes p _ _ = ⊥
+
+-- the first line begins where the lines do
+pub first-is : (options : ParseOptions) (bytes : List ℕ) (p : Point) (lines : List (List ℕ)) (row : Row) (rows : List Row) → AreRows options bytes p lines (row ∷ rows) → row.first ≡ p
+first-is options bytes p (line ∷ []) row [] are = are.1
+first-is options bytes p (line ∷ next ∷ lines) row (below ∷ rows) are = are.1
+first-is options bytes p lines row rows are = absurd are
+
+-- a slice is cut at a place inside
+pub slice-split : (bytes : List ℕ) (a b c : ℕ) → a ≤ b → b ≤ c → slice_range bytes a c ≡ slice_range bytes a b ++ slice_range bytes b c
+slice-split bytes a b c h k =
+    let size : c - a ≡ (b - a) + (c - b) = omega arith in
+    let place : a + (b - a) ≡ b = omega arith in
+    ap (λ (i : ℕ). take i (drop a bytes)) size
+    ∙ take-add (b - a) (c - b) (drop a bytes)
+    ∙ ap (λ (l : List ℕ). take (b - a) (drop a bytes) ++ take (c - b) l) (drop-drop (b - a) a bytes ∙ ap (λ (i : ℕ). drop i bytes) place)
+
+-- the text of a line with its ending
+pub line-text : (options : ParseOptions) (bytes line : List ℕ) (row : Row) (q : Point) → IsRow options bytes line row → (ending : IsEnding bytes row.end q) → slice_range bytes row.first.index q.index ≡ line ++ ending_bytes ending.ending
+line-text options bytes line row q is ending =
+    slice-split bytes row.first.index row.end.index q.index (omega (arith, is.size)) (omega (arith, ending.size))
+    ∙ ap (λ (l : List ℕ). l ++ slice_range bytes row.end.index q.index) is.text
+    ∙ ap (λ (l : List ℕ). line ++ l) ending.text

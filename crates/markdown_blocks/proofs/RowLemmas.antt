@@ -23,11 +23,12 @@ use Rattle.md_seam.specs.Places.{at_or_before, first_point, past_byte, past_text
 use Rattle.md_seam.specs.Rest.{is_white, trim_start}
 use Rattle.md_seam.specs.Spaces.{small_indent}
 use Rattle.md_seam.specs.Texts.{split_lines}
+use Rattle.md_seam.proofs.InlineLemmas.{past-index}
 use Rattle.md_seam.proofs.NestedLemmas.{at_or_before-refl, at_or_before-trans, balanced-append, balanced-none, forward-append, forward-from, last_point-append}
 use Rattle.md_seam.proofs.SpelledLemmas.{Quiet, Roles, roles-append}
 use Rattle.md_seam.proofs.TextsLemmas.{Both, Ending, EndsBefore, LineFeed, NoEnding, Return, ending_bytes, split-line, split-next}
 use Rattle.markdown_blocks.specs.Rows.{BlankRow, BreakRow, Row, RowKind, TextRow, after_ending, break_inside, first_cell, inside_of, row_at, row_kind, rows_at}
-use Rattle.markdown_blocks.proofs.FeedLines.{HasEnding, HasLine, behind_last, begun-none, byte-end, byte_cells, cell, columns_more, drop-past, ending-feed, ending-some, feed-none, front-within, is-ending, line-feed, next_column, past_ending, past_text-column, past_text-index, past_text-whole, slice-front, spread, spread-end, tab_cells}
+use Rattle.markdown_blocks.proofs.FeedLines.{HasEnding, HasLine, behind_last, begun-none, byte-end, byte_cells, cell, columns_more, drop-past, ending-feed, ending-some, feed-none, front-within, is-ending, line-feed, next_column, past_ending, past_text-column, past_text-whole, slice-front, spread, spread-end, tab_cells}
 use Rattle.markdown_blocks.proofs.LineKinds.{Stops, kind-spread, no_ending-trim, small-end, small-rest, spread-line, spread-line_end, spread-rest, white_front}
 use Rattle.markdown_blocks.proofs.RowFacts.{AreRows, IsEnding, IsRow}
 
@@ -213,7 +214,7 @@ pub is-row : (options : ParseOptions) (bytes : List ℕ) (said : Line) (line beh
 is-row options bytes said line behind p rest off short h k one vs text =
     let cells = spread said line p ++ rest in
     let end : line_end cells p ≡ past_text line p = spread-line_end said line p rest h k one in
-    let index : (line_end cells p).index ≡ p.index + length line = ap (λ (q : Point). q.index) end ∙ past_text-index line p in
+    let index : (line_end cells p).index ≡ p.index + length line = ap (λ (q : Point). q.index) end ∙ past-index line p in
     let inside = inside-row options said line p rest off short h k one (row_kind options cells) in
     record {
       kind = kind-spread options said line p rest off short h k one;
@@ -350,7 +351,7 @@ rows-are options (suc n) x p off h short = go (first_line (drop p.index x.bytes)
         let joined : drop p.index x.bytes ≡ line ++ [] = sym (append-nil line) in
         let size = front-within x.bytes p.index line [] joined h.index in
         let limit = h.limit in
-        let index = past_text-index line p in
+        let index = past-index line p in
         let has : HasLine x line [] p = record { small = small; text = joined; no_ending = none; within = omega arith; whole = h.whole; column = h.column } in
         last-rows options n x.bytes x.line line p (text_feed x p) off few none h.index h.whole h.column refl
         (line-feed x line [] p has ∙ ap (λ (l : List Cell). spread x.line line p ++ l) (feed-none x (past_text line p) small (omega arith)))
@@ -359,7 +360,7 @@ rows-are options (suc n) x p off h short = go (first_line (drop p.index x.bytes)
         let end = past_text line p in
         let q = past_ending h'.ending end in
         let limit = h.limit in
-        let index = past_text-index line p in
+        let index = past-index line p in
         let joined : drop p.index x.bytes ≡ line ++ (ending_bytes h'.ending ++ h'.rest) = h'.joined ∙ append_assoc line (ending_bytes h'.ending) h'.rest in
         let size = front-within x.bytes p.index line (ending_bytes h'.ending ++ h'.rest) joined h.index in
         let parts = length-append (ending_bytes h'.ending) h'.rest in

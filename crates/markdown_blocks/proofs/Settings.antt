@@ -1,5 +1,5 @@
 -- The states and resolvers of flow keep the setting, and find no label.
-use Rattle.std.proofs.Common.{◌≡◌, ℕ, ◌+◌, ◌-◌, ◌/◌, ◌^◌, ◌<◌, ◌≤◌, Bool, true, false, nat_eq, nat_lt, nat_le, ◌&&◌, List, [], ◌∷◌, ◌++◌, Option, Some, None, length, map, refl, ap, ◌∙◌, arith, subst, sym}
+use Rattle.std.proofs.Common.{◌≡◌, ℕ, ◌-◌, ◌/◌, ◌^◌, ◌≤◌, Bool, true, false, nat_eq, nat_lt, nat_le, ◌&&◌, List, [], ◌∷◌, Option, Some, None, length, map, refl, ap, ◌∙◌, arith}
 use Rattle.md_engine.specs.declared.event.Name.{Name}
 use Rattle.md_engine.specs.declared.event.Name.TheVariants.{BlankLineEnding, LineEnding}
 use Rattle.md_engine.specs.declared.resolve.Name.{Name as ResolveName}
@@ -13,7 +13,6 @@ use Rattle.md_engine.specs.Run.{Flushes, Resolved, Step}
 use Rattle.md_engine.specs.Run.Resolved.{More, NoneYet}
 use Rattle.md_engine.specs.World.{World}
 use Rattle.md_content.specs.Chunks.{chunk_inside_code}
-use Rattle.md_content.specs.Resolves.{found_in_content}
 use Rattle.md_leaves.specs.Blank as blank
 use Rattle.md_leaves.specs.Break as break
 use Rattle.md_seam.specs.Spaces as spaces

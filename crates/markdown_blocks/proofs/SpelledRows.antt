@@ -1,8 +1,6 @@
 -- What the events of a text are read as, where only breaks are on: its blocks, line by line.
 use Rattle.std.proofs.Common.{◌≡◌, ℕ, zero, suc, ◌+◌, ◌-◌, ◌≤◌, Bool, true, false, cond, List, [], ◌∷◌, ◌++◌, length, take, drop, slice_range, refl, ap, sym, ◌∙◌, subst, append_assoc, arith}
 use Rattle.std.specs.Prelude.{◌==◌, Option, Some, None}
-use Rattle.std.proofs.lemmas.List.{drop-drop}
-use Rattle.std.proofs.Math.Seq.{take-add}
 use Rattle.md_engine.specs.declared.configuration.ParseOptions.{ParseOptions}
 use Rattle.md_engine.specs.declared.event.Event.{Event}
 use Rattle.md_engine.specs.declared.event.Name.{Name}
@@ -15,7 +13,6 @@ use Rattle.md_seam.specs.Nested.{around, pair}
 use Rattle.md_seam.specs.Places.{same_place}
 use Rattle.md_seam.specs.Rest.{trim_start}
 use Rattle.md_seam.specs.Spelled.{IsEnding, IsQuiet, Reading, Role, add_block, begun, read, role, spelled, text_to, unread}
-use Rattle.md_seam.specs.State.{then_block}
 use Rattle.md_seam.specs.Texts.{trim_each}
 use Rattle.md_seam.specs.Tree.{Block, Blocks, Break, End, More, Paragraph}
 use Rattle.md_seam.proofs.BlocksLemmas.{read-break, read-paragraph}
@@ -24,17 +21,9 @@ use Rattle.md_seam.proofs.TextsLemmas.{Both, EndsBefore, Ending, IsOfLines, Line
 use Rattle.markdown_blocks.specs.Rows.{BlankRow, BreakRow, Group, Lines, Row, RowKind, Single, TextRow, chunks_of, ending_events, groups, groups_events, last_row, onto_groups, row_events_by}
 use Rattle.markdown_blocks.specs.Sections.{sections, with_open}
 use Rattle.markdown_blocks.proofs.RowFacts as f
+use Rattle.markdown_blocks.proofs.SectionsLemmas.{sections_by, then_block-blocks, then_blocks, then_blocks-end}
 
--- Slices.
-
--- a slice is cut at a place inside
-pub slice-split : (bytes : List ℕ) (a b c : ℕ) → a ≤ b → b ≤ c → slice_range bytes a c ≡ slice_range bytes a b ++ slice_range bytes b c
-slice-split bytes a b c h k =
-    let size : c - a ≡ (b - a) + (c - b) = omega arith in
-    let place : a + (b - a) ≡ b = omega arith in
-    ap (λ (i : ℕ). take i (drop a bytes)) size
-    ∙ take-add (b - a) (c - b) (drop a bytes)
-    ∙ ap (λ (l : List ℕ). take (b - a) (drop a bytes) ++ take (c - b) l) (drop-drop (b - a) a bytes ∙ ap (λ (i : ℕ). drop i bytes) place)
+-- Endings.
 
 -- what stands behind an ending is looked at no further than its first byte
 ends-front : (ending : Ending) (size : ℕ) (rest : List ℕ) → EndsBefore ending rest → EndsBefore ending (take size rest)
@@ -46,36 +35,23 @@ ends-front Return (suc size) (b ∷ rest) h = h
 
 -- Blocks.
 
--- blocks behind others
-abbrev pub joined_blocks : Blocks → Blocks → Blocks
-joined_blocks End cs = cs
-joined_blocks (More b bs) cs = More b (joined_blocks bs cs)
-
-joined-none : (bs : Blocks) → joined_blocks bs End ≡ bs
-joined-none End = refl
-joined-none (More b bs) = ap (More b) (joined-none bs)
-
-joined-then : (bs : Blocks) (b : Block) (cs : Blocks) → joined_blocks (then_block bs b) cs ≡ joined_blocks bs (More b cs)
-joined-then End b cs = refl
-joined-then (More a bs) b cs = ap (More a) (joined-then bs b cs)
-
 -- these events, read between blocks, add these blocks
 abbrev pub Spells : List ℕ → List Event → Blocks → Type 0
-Spells bytes events bs = (r : Reading) → r.text ≡ None → r.leaf ≡ None → read bytes r events ≡ record r { here = joined_blocks r.here bs }
+Spells bytes events bs = (r : Reading) → r.text ≡ None → r.leaf ≡ None → read bytes r events ≡ record r { here = then_blocks r.here bs }
 
 -- these events, read between blocks, add this block
 abbrev SpellsBlock : List ℕ → List Event → Block → Type 0
 SpellsBlock bytes events b = (r : Reading) → r.text ≡ None → r.leaf ≡ None → read bytes r events ≡ add_block b r
 
 spells-none : (bytes : List ℕ) → Spells bytes [] End
-spells-none bytes r t l = ap (λ (x : Blocks). record r { here = x }) (sym (joined-none r.here))
+spells-none bytes r t l = ap (λ (x : Blocks). record r { here = x }) (sym (then_blocks-end r.here))
 
 spells-behind : (bytes : List ℕ) (xs ys : List Event) (bs : Blocks) → Roles Between xs → Spells bytes ys bs → Spells bytes (xs ++ ys) bs
 spells-behind bytes xs ys bs between spells r t l = read-from bytes r r xs ys (read-between bytes r xs t l between) ∙ spells r t l
 
 spells-block : (bytes : List ℕ) (xs ys : List Event) (b : Block) (bs : Blocks) → SpellsBlock bytes xs b → Spells bytes ys bs → Spells bytes (xs ++ ys) (More b bs)
 spells-block bytes xs ys b bs is spells r t l =
-    read-from bytes r (add_block b r) xs ys (is r t l) ∙ spells (add_block b r) t l ∙ ap (λ (x : Blocks). record r { here = x }) (joined-then r.here b bs)
+    read-from bytes r (add_block b r) xs ys (is r t l) ∙ spells (add_block b r) t l ∙ ap (λ (x : Blocks). record r { here = x }) (then_block-blocks r.here b bs)
 
 -- a block, the ending of its last line, and what follows
 spells-ended : (bytes : List ℕ) (xs ys zs : List Event) (b : Block) (bs : Blocks) → SpellsBlock bytes xs b → Roles Between ys → Spells bytes zs bs → Spells bytes ((xs ++ ys) ++ zs) (More b bs)
@@ -187,12 +163,6 @@ leads-onto bytes row below TextRow [] q e ending = subst (f.IsEnding bytes row.e
 leads-onto bytes row below TextRow (Single next ∷ gs) q e ending = subst (f.IsEnding bytes row.end) (sym e) ending
 leads-onto bytes row below TextRow (Lines next rows ∷ gs) q e ending = subst (f.IsEnding bytes row.end) (sym e) ending
 
--- the blocks of a line of this kind, and of those that follow it
-abbrev by_kind : ParseOptions → List (List ℕ) → List ℕ → List (List ℕ) → RowKind → Blocks
-by_kind options held line lines BlankRow = with_open held (sections options [] lines)
-by_kind options held line lines BreakRow = with_open held (More Break (sections options [] lines))
-by_kind options held line lines TextRow = sections options (held ++ trim_start line ∷ []) lines
-
 -- A blank line ends an open paragraph.
 means-blank : (options : ParseOptions) (bytes line : List ℕ) (row : Row) (lines : List (List ℕ)) (gs : List Group) → f.IsRow options bytes line row → row.kind ≡ BlankRow → Means options bytes lines gs →
     MeansShut options bytes (line ∷ lines) (Single row ∷ gs)
@@ -203,7 +173,7 @@ means-blank options bytes line row lines gs is e m = record {
       (spells-behind bytes (row.inside ++ ending_events n.BlankLineEnding row) (groups_events bytes gs) (sections options [] lines)
       (roles-append Between row.inside (ending_events n.BlankLineEnding row) (quiet-between row.inside is.quiet) (ending-between n.BlankLineEnding row tt))
       (means-spell options bytes lines gs m));
-  means = λ held. ap (by_kind options held line lines) (sym is.kind ∙ e);
+  means = λ held. ap (sections_by options held line lines) (sym is.kind ∙ e);
 }
 
 -- A break ends an open paragraph, and is a block.
@@ -215,7 +185,7 @@ means-break options bytes line row lines gs is e m = record {
       subst (λ (k : RowKind). Spells bytes (row_events_by k row ++ groups_events bytes gs) (More Break (sections options [] lines))) (sym e)
       (spells-ended bytes (around n.ThematicBreak row.first row.end row.inside) (ending_events n.LineEnding row) (groups_events bytes gs) Break (sections options [] lines)
       (λ r t l. read-break bytes r row.first row.end row.inside l is.quiet) (ending-between n.LineEnding row tt) (means-spell options bytes lines gs m));
-  means = λ held. ap (by_kind options held line lines) (sym is.kind ∙ e);
+  means = λ held. ap (sections_by options held line lines) (sym is.kind ∙ e);
 }
 
 -- A line of text begins a paragraph.
@@ -228,7 +198,7 @@ means-first options bytes line row lines gs is e m = record {
   order = omega (arith, is.size);
   are = (is.no_ending, is.text);
   spells = m.spells;
-  means = λ held. ap (by_kind options held line lines) (sym is.kind ∙ e) ∙ m.means (held ++ trim_start line ∷ []);
+  means = λ held. ap (sections_by options held line lines) (sym is.kind ∙ e) ∙ m.means (held ++ trim_start line ∷ []);
 }
 
 -- A line of text in front of a paragraph is its first.
@@ -241,10 +211,8 @@ means-next options bytes line row lines next rows gs is e ending m =
     let more : next.first.index ≡ row.end.index + length (ending_bytes ending.ending) = ending.size in
     let order : next.first.index ≤ last = m.order in
     let text : slice_range bytes row.first.index last ≡ line ++ ending_bytes ending.ending ++ rest =
-    slice-split bytes row.first.index next.first.index last (omega arith) order
-    ∙ ap (λ (l : List ℕ). l ++ rest) (slice-split bytes row.first.index row.end.index next.first.index (omega arith) (omega arith))
-    ∙ ap (λ (l : List ℕ). (l ++ slice_range bytes row.end.index next.first.index) ++ rest) is.text
-    ∙ ap (λ (l : List ℕ). (line ++ l) ++ rest) ending.text in
+    f.slice-split bytes row.first.index next.first.index last (omega arith) order
+    ∙ ap (λ (l : List ℕ). l ++ rest) (f.line-text options bytes line row next.first is ending) in
     record {
       own = line ∷ m.own;
       blocks = m.blocks;
@@ -252,7 +220,7 @@ means-next options bytes line row lines next rows gs is e ending m =
       order = omega arith;
       are = lines-more line m.own (slice_range bytes row.first.index last) ending.ending rest is.no_ending (ends-front ending.ending (last - next.first.index) (drop next.first.index bytes) ending.before) text m.are;
       spells = m.spells;
-      means = λ held. ap (by_kind options held line lines) (sym is.kind ∙ e) ∙ m.means (held ++ trim_start line ∷ []) ∙ ap (λ (l : List (List ℕ)). with_open l m.blocks) (append_assoc held (trim_start line ∷ []) (trim_each m.own));
+      means = λ held. ap (sections_by options held line lines) (sym is.kind ∙ e) ∙ m.means (held ++ trim_start line ∷ []) ∙ ap (λ (l : List (List ℕ)). with_open l m.blocks) (append_assoc held (trim_start line ∷ []) (trim_each m.own));
     }
 
 -- a line in front of others
@@ -264,18 +232,12 @@ means-row options bytes line row lines [] is m leads TextRow e = means-first opt
 means-row options bytes line row lines (Single next ∷ gs) is m leads TextRow e = means-first options bytes line row lines (Single next ∷ gs) is e m
 means-row options bytes line row lines (Lines next rows ∷ gs) is m leads TextRow e = means-next options bytes line row lines next rows gs is e leads m
 
--- the first line begins where the lines do
-pub first-is : (options : ParseOptions) (bytes : List ℕ) (p : Point) (lines : List (List ℕ)) (row : Row) (rows : List Row) → f.AreRows options bytes p lines (row ∷ rows) → row.first ≡ p
-first-is options bytes p (line ∷ []) row [] are = are.1
-first-is options bytes p (line ∷ next ∷ lines) row (below ∷ rows) are = are.1
-first-is options bytes p lines row rows are = absurd are
-
 -- The groups of the lines of a text are read as its blocks.
 pub rows-mean : (options : ParseOptions) (bytes : List ℕ) (p : Point) (lines : List (List ℕ)) (rows : List Row) → f.AreRows options bytes p lines rows → Means options bytes lines (groups rows)
 rows-mean options bytes p (line ∷ []) (row ∷ []) are = means-row options bytes line row [] [] are.0 (record { blocks = End; spells = spells-none bytes; means = λ held. refl }) tt row.kind refl
 rows-mean options bytes p (line ∷ next ∷ lines) (row ∷ below ∷ rows) are =
     means-row options bytes line row (next ∷ lines) (groups (below ∷ rows)) are.0 (rows-mean options bytes are.2 (next ∷ lines) (below ∷ rows) are.5)
-    (leads-onto bytes row below below.kind (groups rows) are.2 (first-is options bytes are.2 (next ∷ lines) below rows are.5) are.4) row.kind refl
+    (leads-onto bytes row below below.kind (groups rows) are.2 (f.first-is options bytes are.2 (next ∷ lines) below rows are.5) are.4) row.kind refl
 rows-mean options bytes p lines rows are = absurd are
 
 -- The events of a text are read as its blocks, line by line.

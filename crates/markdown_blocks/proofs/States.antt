@@ -1,13 +1,12 @@
 -- Each state of flow keeps what its table needs.
-use Rattle.std.proofs.Common.{◌≡◌, ◌≢◌, ◌<◌, ◌&&◌, nat_lt, Bool, true, false, Option, Some, None, ℕ, refl, ap, ◌∙◌, sym}
-use Rattle.std.specs.Prelude.{nat_le}
+use Rattle.std.proofs.Common.{◌≡◌, ◌≢◌, ◌<◌, ◌&&◌, Bool, true, false, Option, Some, None, ℕ, refl, ap, ◌∙◌, sym}
 use Rattle.md_engine.specs.declared.event.Name.TheVariants as parts
 use Rattle.md_engine.specs.declared.resolve.Name.{Name as ResolveName}
 use Rattle.md_engine.specs.declared.state.Name.{Name as StateName}
 use Rattle.md_engine.specs.declared.state.Name.TheVariants as n
 use Rattle.md_engine.specs.declared.state.State.TheVariants.{Next}
-use Rattle.md_engine.specs.Scheme.{After, Grown, Grows, Spot, seen, spot, stands}
-use Rattle.md_engine.specs.World.{Setting, World, looks}
+use Rattle.md_engine.specs.Scheme.{Grows, spot, stands}
+use Rattle.md_engine.specs.World.{World, looks}
 use Rattle.md_engine.proofs.Local.{fits}
 use Rattle.md_content.proofs.Goods.{ChunkFits, good_chunk_inside, good_chunk_start}
 use Rattle.md_leaves.proofs.Goods as leaves

@@ -15,10 +15,11 @@ use Rattle.md_seam.specs.Rest.{Rest, has_small_indent, indent, is_blank, trim_st
 use Rattle.md_seam.specs.State.{At, Kept, Leaf, NoLeaf, OpenParagraph, Path, Spot, closed, kept, shut_paragraph, texts, then_block, then_leaf, then_paragraph}
 use Rattle.md_seam.specs.Step.{all_continued, all_continued_by, fresh_by, fresh_line, is_concrete, is_open_text, leaf_line, spot_of, step, steps, text_by, text_line}
 use Rattle.md_seam.specs.Texts.{split_lines}
-use Rattle.md_seam.specs.Tree.{Block, Blocks, Break, End, More, Paragraph}
+use Rattle.md_seam.specs.Tree.{Blocks, Break, End, More, Paragraph}
 use Rattle.markdown_blocks.specs.Parsed.{IsBuilt}
 use Rattle.markdown_blocks.specs.Rows.{BlankRow, BreakRow, RowKind, TextRow, line_kind}
 use Rattle.markdown_blocks.specs.Sections.{sections, with_open}
+use Rattle.markdown_blocks.proofs.SectionsLemmas.{sections_by, then_block-blocks, then_blocks, then_blocks-end}
 
 -- What is off starts nothing.
 
@@ -97,31 +98,17 @@ leaf_of (k ∷ ks) = OpenParagraph (k ∷ ks)
 abbrev spot_with : Blocks → List Kept → Spot
 spot_with bs held = record { here = bs; leaf = leaf_of held }
 
--- blocks behind others
-abbrev then_blocks : Blocks → Blocks → Blocks
-then_blocks End cs = cs
-then_blocks (More b bs) cs = More b (then_blocks bs cs)
-
--- with a paragraph of these lines, if there are any
-abbrev then_lines : Blocks → List (List ℕ) → Blocks
-then_lines bs [] = bs
-then_lines bs (line ∷ lines) = then_block bs (Paragraph (line ∷ lines))
-
 -- what is open behind a line of this kind
 abbrev spot_by : Blocks → List Kept → Rest → RowKind → Spot
-spot_by bs held r BlankRow = spot_of (then_lines bs (texts held))
-spot_by bs held r BreakRow = spot_of (then_block (then_lines bs (texts held)) Break)
+spot_by bs held r BlankRow = spot_of (then_paragraph bs (texts held))
+spot_by bs held r BreakRow = spot_of (then_block (then_paragraph bs (texts held)) Break)
 spot_by bs held r TextRow = with_line bs held r
 
-shut-lines : (options : ParseOptions) (bs : Blocks) (lines : List (List ℕ)) → options.constructs.definition ≡ false → shut_paragraph options bs lines ≡ then_lines bs lines
+shut-lines : (options : ParseOptions) (bs : Blocks) (lines : List (List ℕ)) → options.constructs.definition ≡ false → shut_paragraph options bs lines ≡ then_paragraph bs lines
 unfolding shut_paragraph
-shut-lines options bs lines off = rw off (go lines)
-  where
-    go : (ls : List (List ℕ)) → then_paragraph bs ls ≡ then_lines bs ls
-    go [] = refl
-    go (l ∷ ls) = refl
+shut-lines options bs lines off = rw off refl
 
-shut-leaf : (options : ParseOptions) (bs : Blocks) (held : List Kept) → options.constructs.definition ≡ false → then_leaf options bs (leaf_of held) ≡ then_lines bs (texts held)
+shut-leaf : (options : ParseOptions) (bs : Blocks) (held : List Kept) → options.constructs.definition ≡ false → then_leaf options bs (leaf_of held) ≡ then_paragraph bs (texts held)
 shut-leaf options bs [] off = refl
 shut-leaf options bs (k ∷ ks) off = shut-lines options bs (texts (k ∷ ks)) off
 
@@ -141,7 +128,7 @@ unfolding text_line
 text-found options bs lines k r built =
     rw (underline-off options r built.heading_setext, starts-break options Text r built, shut-leaf options bs (k ∷ lines) built.definition) (go (is_blank r.bytes) (breaks options r.bytes))
   where
-    go : (x y : Bool) → cond x (spot_of (then_lines bs (texts (k ∷ lines)))) (text_by options bs (k ∷ lines) r (break_if y)) ≡ spot_by bs (k ∷ lines) r (cond x BlankRow (cond y BreakRow TextRow))
+    go : (x y : Bool) → cond x (spot_of (then_paragraph bs (texts (k ∷ lines)))) (text_by options bs (k ∷ lines) r (break_if y)) ≡ spot_by bs (k ∷ lines) r (cond x BlankRow (cond y BreakRow TextRow))
     go true y = refl
     go false true = ap (λ (x : Blocks). spot_of (then_block x Break)) (shut-leaf options bs (k ∷ lines) built.definition)
     go false false = rw (table-off options bs (k ∷ lines) r built.gfm_table) refl
@@ -159,23 +146,9 @@ step-found options bs held r built = ap (all_continued_by options (spot_with bs 
     go [] = no_container options false r built
     go (k ∷ ks) = no_container options true r built
 
--- the blocks of lines, the first of this kind
-abbrev sections_by : ParseOptions → List (List ℕ) → List ℕ → List (List ℕ) → RowKind → Blocks
-sections_by options held line lines BlankRow = with_open held (sections options [] lines)
-sections_by options held line lines BreakRow = with_open held (More Break (sections options [] lines))
-sections_by options held line lines TextRow = sections options (held ++ trim_start line ∷ []) lines
-
-then_block-blocks : (bs : Blocks) (b : Block) (cs : Blocks) → then_blocks (then_block bs b) cs ≡ then_blocks bs (More b cs)
-then_block-blocks End b cs = refl
-then_block-blocks (More a bs) b cs = ap (More a) (then_block-blocks bs b cs)
-
-then_lines-blocks : (bs : Blocks) (lines : List (List ℕ)) (cs : Blocks) → then_blocks (then_lines bs lines) cs ≡ then_blocks bs (with_open lines cs)
-then_lines-blocks bs [] cs = refl
-then_lines-blocks bs (line ∷ lines) cs = then_block-blocks bs (Paragraph (line ∷ lines)) cs
-
-then_blocks-end : (bs : Blocks) → then_blocks bs End ≡ bs
-then_blocks-end End = refl
-then_blocks-end (More b bs) = ap (More b) (then_blocks-end bs)
+then_paragraph-blocks : (bs : Blocks) (lines : List (List ℕ)) (cs : Blocks) → then_blocks (then_paragraph bs lines) cs ≡ then_blocks bs (with_open lines cs)
+then_paragraph-blocks bs [] cs = refl
+then_paragraph-blocks bs (line ∷ lines) cs = then_block-blocks bs (Paragraph (line ∷ lines)) cs
 
 leaf_of-snoc : (ks : List Kept) (k : Kept) → leaf_of (ks ++ k ∷ []) ≡ OpenParagraph (ks ++ k ∷ [])
 leaf_of-snoc [] k = refl
@@ -186,8 +159,8 @@ steps-sections : (options : ParseOptions) (lines : List (List ℕ)) (bs : Blocks
     closed options (steps options (At (spot_with bs held)) (map (rest_at 0) lines)) ≡ then_blocks bs (sections options (texts held) lines)
 steps-sections options [] bs held built =
     shut-leaf options bs held built.definition
-    ∙ sym (then_blocks-end (then_lines bs (texts held)))
-    ∙ then_lines-blocks bs (texts held) End
+    ∙ sym (then_blocks-end (then_paragraph bs (texts held)))
+    ∙ then_paragraph-blocks bs (texts held) End
 steps-sections options (line ∷ lines) bs held built =
     ap (λ (p : Path). closed options (steps options p (map (rest_at 0) lines))) (step-found options bs held (rest_at 0 line) built)
     ∙ go (λ (cs : Blocks) (ks : List Kept). steps-sections options lines cs ks built) (line_kind options line)
@@ -195,12 +168,12 @@ steps-sections options (line ∷ lines) bs held built =
     go : ((cs : Blocks) (ks : List Kept) → closed options (steps options (At (spot_with cs ks)) (map (rest_at 0) lines)) ≡ then_blocks cs (sections options (texts ks) lines)) →
         (kind : RowKind) → closed options (steps options (At (spot_by bs held (rest_at 0 line) kind)) (map (rest_at 0) lines)) ≡ then_blocks bs (sections_by options (texts held) line lines kind)
     go further BlankRow =
-        further (then_lines bs (texts held)) []
-        ∙ then_lines-blocks bs (texts held) (sections options [] lines)
+        further (then_paragraph bs (texts held)) []
+        ∙ then_paragraph-blocks bs (texts held) (sections options [] lines)
     go further BreakRow =
-        further (then_block (then_lines bs (texts held)) Break) []
-        ∙ then_block-blocks (then_lines bs (texts held)) Break (sections options [] lines)
-        ∙ then_lines-blocks bs (texts held) (More Break (sections options [] lines))
+        further (then_block (then_paragraph bs (texts held)) Break) []
+        ∙ then_block-blocks (then_paragraph bs (texts held)) Break (sections options [] lines)
+        ∙ then_paragraph-blocks bs (texts held) (More Break (sections options [] lines))
     go further TextRow =
         ap (λ (x : Leaf). closed options (steps options (At (record { here = bs; leaf = x })) (map (rest_at 0) lines))) (sym (leaf_of-snoc held (kept (rest_at 0 line))))
         ∙ further bs (held ++ kept (rest_at 0 line) ∷ [])

@@ -3,7 +3,7 @@ use Rattle.std.specs.Prelude.{ℕ, List, [], ◌∷◌, ◌++◌}
 use Rattle.md_engine.specs.declared.configuration.ParseOptions.{ParseOptions}
 use Rattle.md_seam.specs.Rest.{trim_start}
 use Rattle.md_seam.specs.Tree.{Blocks, Break, End, More, Paragraph}
-use Rattle.markdown_blocks.specs.Rows.{BlankRow, BreakRow, RowKind, TextRow, line_kind}
+use Rattle.markdown_blocks.specs.Rows.{BlankRow, BreakRow, TextRow, line_kind}
 
 -- the open paragraph, if it has lines, before these blocks
 abbrev pub with_open : List (List ℕ) → Blocks → Blocks

@@ -64,7 +64,8 @@ impl<I: Inline> Reader for TextReader<'_, '_, I> {
         content: Content,
         chunks: &[Chunk],
     ) -> Result<Vec<Event>, Message> {
-        self.inline.read(alloc, kind_of(content), chunks, self.state)
+        self.inline
+            .read(alloc, kind_of(content), chunks, self.state)
     }
 }
 

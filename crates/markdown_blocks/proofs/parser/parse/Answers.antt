@@ -1,6 +1,5 @@
-use Rattle.std.proofs.Common.{◌≡◌, ◌^◌, ◌<◌, ℕ, List, [], length, ap, refl, sym, subst, arith}
+use Rattle.std.proofs.Common.{◌≡◌, ap, refl}
 use Rattle.std.specs.String.{string_bytes}
-use Rattle.md_engine.specs.declared.event.Event.{Event}
 use Rattle.md_engine.specs.World.{Setting}
 use Rattle.md_seam.specs.Inline.{PlainReads}
 use Rattle.md_seam.proofs.ReachedLemmas.{events-placed}
