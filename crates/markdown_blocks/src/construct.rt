@@ -3,4 +3,4 @@
 pub mod flow;
 
 pub use md_content::{content, paragraph};
-pub use md_leaves::{blank_line, thematic_break};
+pub use md_leaves::{blank_line, heading_atx, partial_bom, thematic_break};
