@@ -19,6 +19,7 @@ use Rattle.md_seam.specs.Ahead.{from_ending, line_cells, point_after}
 use Rattle.md_seam.specs.Lines.{is_ending, begins_with}
 use Rattle.md_seam.specs.Places.{past_byte, past_text}
 use Rattle.md_seam.specs.Texts.{first_byte}
+use Rattle.md_seam.proofs.PlacesLemmas.{drop-next}
 use Rattle.md_seam.proofs.TextsLemmas.{Both, Ending, EndsBefore, LineFeed, NoEnding, Return, ending_bytes}
 use Rattle.markdown_blocks.proofs.RowFacts.{IsEnding}
 
@@ -30,14 +31,8 @@ at-next zero (c ∷ bytes) b rest e = ap first_byte e
 at-next (suc index) [] b rest e = cc
 at-next (suc index) (c ∷ bytes) b rest e = at-next index bytes b rest e
 
-past-suc : (index : ℕ) (bytes : List ℕ) (b : ℕ) (rest : List ℕ) → drop index bytes ≡ b ∷ rest → drop (suc index) bytes ≡ rest
-past-suc zero [] b rest e = cc
-past-suc zero (c ∷ bytes) b rest e = ap (drop 1) e
-past-suc (suc index) [] b rest e = cc
-past-suc (suc index) (c ∷ bytes) b rest e = past-suc index bytes b rest e
-
 pub past-next : (index : ℕ) (bytes : List ℕ) (b : ℕ) (rest : List ℕ) → drop index bytes ≡ b ∷ rest → drop (index + 1) bytes ≡ rest
-past-next index bytes b rest e = ap (λ (i : ℕ). drop i bytes) (add-one index) ∙ past-suc index bytes b rest e
+past-next index bytes b rest e = ap (λ (i : ℕ). drop i bytes) (add-one index) ∙ drop-next index bytes b rest e
 
 -- One cell.
 

@@ -18,7 +18,7 @@ use Rattle.md_engine.specs.Run.{reading}
 use Rattle.md_engine.specs.Scheme.{stands}
 use Rattle.md_engine.specs.Standing.{MeansAt, StandsOn}
 use Rattle.md_engine.specs.World.{World, after}
-use Rattle.md_engine.proofs.StepOf.{Sees, ahead, begins_only, moves, passes, sees}
+use Rattle.md_engine.proofs.StepOf.{Sees, ahead, begins_only, moves, passes, sees, steps-as}
 use Rattle.md_content.specs.ChunkRule.{chunk_at}
 use Rattle.md_content.proofs.ContentSteps.{chunk_inside_steps, chunk_start_steps}
 use Rattle.md_leaves.specs.BlankRule.{blank_at}
@@ -152,9 +152,6 @@ flow_steps is_content feed name w s at = go name at
     go n.ThematicBreakAtBreak at = break.at_break_steps B _ feed w _ _ has.break s at.0.marker refl refl
     go n.ThematicBreakSequence at = break.sequence_steps B _ feed w _ _ has.break s at.0.rest at.0.marker refl refl
     go name at = absurd at
-
-steps-as : (B : Behaviour) (feed : Feed) (from to s : State) (w new v : World) → s ≡ to → v ≡ new → Steps B feed from w to new → Steps B feed from w s v
-steps-as B feed from to s w new v e k steps = rw (e, k) steps
 
 -- each state of flow takes one step of what flow means
 pub flow_means : (is_content : ResolveName → Bool) (options : ParseOptions) (is_end : Bool) → MeansAt (FlowStep is_content) flow_table_scheme options (flow_behaves options) is_end

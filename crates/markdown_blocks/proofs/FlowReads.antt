@@ -24,7 +24,7 @@ use Rattle.md_engine.specs.TextFeed.{text_feed}
 use Rattle.md_engine.specs.World.{Setting, World, fresh, reads_to, registered_before}
 use Rattle.md_engine.proofs.Keeps.{runs-setting}
 use Rattle.md_content.specs.Chunks.{chunk_inside_code, content_link}
-use Rattle.md_content.specs.ChunkRule.{enter_link}
+use Rattle.md_seam.specs.Nested.{enter_link}
 use Rattle.md_leaves.specs.Blank as blank
 use Rattle.md_leaves.specs.Break as break
 use Rattle.md_seam.specs.Spaces as spaces

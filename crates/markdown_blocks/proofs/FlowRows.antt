@@ -8,17 +8,19 @@ use Rattle.md_engine.specs.declared.event.Point.{Point}
 use Rattle.md_engine.specs.declared.tokenizer.Flags.{Flags}
 use Rattle.md_engine.specs.declared.tokenizer.Scratch.{Scratch}
 use Rattle.md_engine.specs.Meaning.{Accepts, Cell, Here, Outcome, Refuses}
-use Rattle.md_content.specs.ChunkRule.{chunk_at, enter_link, inside_chunk}
+use Rattle.md_content.specs.ChunkRule.{chunk_at, inside_chunk}
 use Rattle.md_content.specs.Chunks.{content_link}
 use Rattle.md_leaves.specs.Break.{without_marker}
 use Rattle.md_leaves.specs.BlankRule.{blank_at, blank_events}
 use Rattle.md_leaves.specs.BreakRule.{Apart, before_marker, break_at, broken, runs}
 use Rattle.md_leaves.proofs.BreakLemmas.{white-no_ending}
+use Rattle.md_leaves.proofs.BreakSteps.{at-none, at-off, at-white, entered_here}
 use Rattle.md_seam.specs.Ahead.{begins_white, from_ending, line_bytes, line_cells, line_end, white_end, white_rest}
 use Rattle.md_seam.specs.Leaves.{is_rule}
-use Rattle.md_seam.specs.Nested.{around, enter, exit, pair}
+use Rattle.md_seam.specs.Nested.{around, enter, enter_link, exit, pair}
 use Rattle.md_seam.specs.Rest.{is_blank, is_white}
-use Rattle.md_seam.specs.Spaces.{calmed, small_indent}
+use Rattle.md_seam.specs.Spaces.{small_indent}
+use Rattle.md_seam.proofs.WhiteSteps.{behind_white}
 use Rattle.markdown_blocks.specs.FlowRule.{Rule, blank_ended, calmed_at, content_of, ended, flow_at, flow_lines, line_then, nonblank_of, tried}
 use Rattle.markdown_blocks.specs.Rows.{BlankRow, BreakRow, RowKind, TextRow, after_ending, break_inside, first_cell, inside_of, is_break, row_events_by, row_kind, rows_at, rows_events}
 
@@ -109,27 +111,6 @@ unfolding before_marker
 unmarked [] h e = refl
 unmarked (c ∷ cs) h e = ap (λ (x : Bool). cond x (broken Apart c.byte (c ∷ cs) h) (Refuses (without_marker h.scratch) h.flags)) e
 
--- where a break has begun, and behind its indent
-abbrev begun : Here → Here
-begun h = record h { events = h.events ++ enter n.ThematicBreak h.point ∷ [] }
-
-abbrev indented : ℕ → List Cell → Here → Here
-indented room cells h =
-    record h { events = (h.events ++ enter n.ThematicBreak h.point ∷ []) ++ enter n.SpaceOrTab h.point ∷ exit n.SpaceOrTab (white_end room cells h.point) ∷ []; point = white_end room cells h.point; scratch = calmed h.scratch }
-
-at-off : (options : ParseOptions) (cells : List Cell) (h : Here) → options.constructs.thematic_break ≡ false → break_at options cells h ≡ Refuses h.scratch h.flags
-unfolding break_at
-at-off options cells h off = rw off refl
-
-at-white : (options : ParseOptions) (cells : List Cell) (h : Here) → options.constructs.thematic_break ≡ true → begins_white cells ≡ true →
-    break_at options cells h ≡ before_marker (white_rest (small_indent options) cells) (indented (small_indent options) cells h)
-unfolding break_at
-at-white options cells h on s = rw (on, s) refl
-
-at-none : (options : ParseOptions) (cells : List Cell) (h : Here) → options.constructs.thematic_break ≡ true → begins_white cells ≡ false → break_at options cells h ≡ before_marker cells (begun h)
-unfolding break_at
-at-none options cells h on s = rw (on, s) refl
-
 regroup : (es rs : List Event) (a d : Event) → (es ++ a ∷ []) ++ rs ++ d ∷ [] ≡ es ++ (a ∷ rs ++ d ∷ [])
 regroup es rs a d = ap (λ (xs : List Event). xs ++ d ∷ []) (append_assoc es (a ∷ []) rs) ∙ append_assoc es (a ∷ rs) (d ∷ [])
 
@@ -160,7 +141,7 @@ break-took options cells h e = go (begins_white cells) refl
 
     go : (x : Bool) → begins_white cells ≡ x → Took h (around n.ThematicBreak h.point (line_end cells h.point) (break_inside options cells h.point)) (line_end cells h.point) (from_ending cells) (break_at options cells h)
     go true s =
-        let at : Here = indented room cells h in
+        let at : Here = behind_white room cells (entered_here h) in
         let end : line_end left q ≡ p = white-line_end room cells h.point in
         let new : Here = record {
           events = at.events ++ runs Apart (first_cell left) (line_cells left) q ++ exit n.ThematicBreak (line_end left q) ∷ [];
@@ -177,7 +158,7 @@ break-took options cells h e = go (begins_white cells) refl
           point = end;
         }
     go false s =
-        let at : Here = begun h in
+        let at : Here = entered_here h in
         let new : Here = record {
           events = at.events ++ runs Apart (first_cell cells) (line_cells cells) h.point ++ exit n.ThematicBreak p ∷ [];
           point = p;
@@ -204,10 +185,10 @@ break-refused options cells h e = by options.constructs.thematic_break refl
     left = white_rest (small_indent options) cells
 
     go : options.constructs.thematic_break ≡ true → is_rule (line_bytes left) ≡ false → (x : Bool) → begins_white cells ≡ x → Refused (break_at options cells h)
-    go on rule true s = record { scratch = _; flags = _; is = at-white options cells h on s ∙ unmarked left (indented room cells h) rule }
+    go on rule true s = record { scratch = _; flags = _; is = at-white options cells h on s ∙ unmarked left (behind_white room cells (entered_here h)) rule }
     go on rule false s =
         let here' : is_rule (line_bytes cells) ≡ false = sym (ap (λ (r : List Cell). is_rule (line_bytes r)) (none-rest room cells s)) ∙ rule in
-        record { scratch = _; flags = _; is = at-none options cells h on s ∙ unmarked cells (begun h) here' }
+        record { scratch = _; flags = _; is = at-none options cells h on s ∙ unmarked cells (entered_here h) here' }
 
     by : (x : Bool) → options.constructs.thematic_break ≡ x → Refused (break_at options cells h)
     by true on = go on (second options.constructs.thematic_break (is_rule (line_bytes left)) e on) (begins_white cells) refl

@@ -7,14 +7,14 @@ use Rattle.md_engine.specs.declared.event.Name.{Name}
 use Rattle.md_engine.specs.declared.event.Name.TheVariants as n
 use Rattle.md_engine.specs.declared.event.Point.{Point}
 use Rattle.md_engine.specs.Meaning.{Cell}
-use Rattle.md_content.specs.ChunkRule.{enter_link}
 use Rattle.md_content.specs.Chunks.{content_link}
 use Rattle.md_content.specs.Joined.{content_behind, goes_on, is_content, is_enter, is_exit, joined}
 use Rattle.md_leaves.specs.BreakRule.{Apart, Marks, Run, White, runs}
 use Rattle.md_seam.specs.Ahead.{begins_white, from_ending, line_cells, line_end, white_end, white_rest}
-use Rattle.md_seam.specs.Nested.{enter, exit, pair}
+use Rattle.md_seam.specs.Nested.{enter, enter_link, exit, pair}
 use Rattle.md_seam.specs.Spaces.{small_indent}
 use Rattle.md_seam.specs.Substituted.{is_prefix}
+use Rattle.md_seam.proofs.ReachedLemmas.{and_false}
 use Rattle.markdown_blocks.specs.Rows.{BlankRow, BreakRow, Group, Lines, Row, RowKind, Single, TextRow, behind_row, ending_events, first_cell, groups, inside_of, onto_groups, row_events, row_events_by, row_kind, rows_at, rows_events}
 use Rattle.markdown_blocks.specs.Unread.{joined_groups}
 use Rattle.markdown_blocks.proofs.SubstitutedLemmas.{Unlinked}
@@ -104,14 +104,10 @@ joined-one e [] h = refl
 joined-one e (f ∷ []) h = refl
 joined-one e (f ∷ g ∷ es) h = ap (λ (x : Bool). cond (x && goes_on (f ∷ g ∷ es)) (record e { point = g.point } ∷ joined es) (e ∷ joined (f ∷ g ∷ es))) h
 
-and-no : (x y : Bool) → y ≡ false → (x && y) ≡ false
-and-no true y h = h
-and-no false y h = refl
-
 -- what is not content stays as it is
 joined-passes : (xs ys : List Event) → NoContent xs → joined (xs ++ ys) ≡ xs ++ joined ys
 joined-passes [] ys h = refl
-joined-passes (e ∷ xs) ys h = joined-one e (xs ++ ys) (and-no (is_exit e.kind) (is_content e.name) h.1) ∙ ap (λ (l : List Event). e ∷ l) (joined-passes xs ys h.2)
+joined-passes (e ∷ xs) ys h = joined-one e (xs ++ ys) (and_false (is_exit e.kind) (is_content e.name) h.1) ∙ ap (λ (l : List Event). e ∷ l) (joined-passes xs ys h.2)
 
 -- and no line of content goes on over it
 behind-passes : (xs ys : List Event) → NoContent xs → content_behind ys ≡ false → content_behind (xs ++ ys) ≡ false
@@ -120,7 +116,7 @@ behind-passes (e ∷ xs) ys h k = go (is_prefix e.name) (behind-passes xs ys h.2
   where
     go : (x : Bool) → content_behind (xs ++ ys) ≡ false → cond x (content_behind (xs ++ ys)) (is_enter e.kind && is_content e.name) ≡ false
     go true k = k
-    go false k = and-no (is_enter e.kind) (is_content e.name) h.1
+    go false k = and_false (is_enter e.kind) (is_content e.name) h.1
 
 -- each line but the last has an ending
 abbrev pub EachEnds : List Row → Type 0

@@ -11,7 +11,7 @@ use Rattle.md_seam.specs.declared.inline.Chunk.{Chunk}
 use Rattle.md_seam.specs.Inline.{line_end, pair_unless_empty, plain_chunk, plain_chunks, together}
 use Rattle.md_seam.specs.Nested.{Balanced, Forward, Nested, around, enter, exit, last_point, pair}
 use Rattle.md_seam.specs.Places.{at_or_before, first_point, same_place}
-use Rattle.md_seam.proofs.InlineLemmas.{end-before, end-behind}
+use Rattle.md_seam.proofs.InlineLemmas.{balanced-pair, end-before, end-behind}
 use Rattle.md_seam.proofs.NestedLemmas.{at_or_before-refl, at_or_before-trans, balanced-append, balanced-around, balanced-insert, balanced-none, forward-append, forward-from, forward-last}
 use Rattle.md_seam.proofs.TextsLemmas.{Both, Ending, LineFeed, Return, ending_bytes}
 use Rattle.markdown_blocks.specs.Rows.{BlankRow, BreakRow, Group, Lines, Row, RowKind, Single, TextRow, behind_row, chunks_of, ending_events, groups, groups_events, last_row, onto_groups, row_events_by}
@@ -20,17 +20,10 @@ use Rattle.markdown_blocks.proofs.RowFacts.{AreRows, IsEnding, IsRow}
 
 -- Chunks.
 
-pair-balanced : (name : Name) (p q : Point) → Balanced (pair_unless_empty name p q)
-pair-balanced name p q = go (same_place p q)
-  where
-    go : (x : Bool) → Balanced (cond x [] (pair name p q))
-    go true = balanced-none
-    go false = record { matches = (tt, (refl, tt)); closed = refl }
-
 chunk-balanced : (bytes : List ℕ) (chunk : Chunk) → Balanced (plain_chunk bytes chunk)
 chunk-balanced bytes chunk =
     let end : Point = line_end bytes chunk in
-    balanced-append (pair_unless_empty n.Data chunk.first end) (pair_unless_empty n.LineEnding end chunk.after) (pair-balanced n.Data chunk.first end) (pair-balanced n.LineEnding end chunk.after)
+    balanced-append (pair_unless_empty n.Data chunk.first end) (pair_unless_empty n.LineEnding end chunk.after) (balanced-pair n.Data chunk.first end) (balanced-pair n.LineEnding end chunk.after)
 
 -- the events of a chunk go from its first point forward, and no further than to its end
 chunk-forward : (bytes : List ℕ) (chunk : Chunk) → IsTrue (at_or_before chunk.first chunk.after) →

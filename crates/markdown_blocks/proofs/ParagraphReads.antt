@@ -10,7 +10,6 @@ use Rattle.md_engine.specs.declared.event.Point.{Point}
 use Rattle.md_engine.specs.Meaning.{Cell}
 use Rattle.md_engine.specs.TextFeed.{text_feed}
 use Rattle.md_engine.specs.World.{Setting, World, fresh, line_begun, skipping}
-use Rattle.md_content.specs.ChunkRule.{enter_link}
 use Rattle.md_content.specs.ContentReads.{content_events, end_of, first_of, paragraph_over, part_world, skipping_all}
 use Rattle.md_content.specs.Paragraph.{text_link}
 use Rattle.md_content.specs.ParagraphRule.{line_events}
@@ -18,7 +17,7 @@ use Rattle.md_content.proofs.ContentReadsLemmas.{skipping-same}
 use Rattle.md_seam.specs.declared.inline.Chunk.{Chunk}
 use Rattle.md_seam.specs.Ahead.{point_after}
 use Rattle.md_seam.specs.Places.{past_byte, past_text}
-use Rattle.md_seam.specs.Nested.{around, enter, exit}
+use Rattle.md_seam.specs.Nested.{around, enter, enter_link, exit}
 use Rattle.markdown_blocks.specs.Rows.{Row, TextRow, chunks_of, last_row}
 use Rattle.markdown_blocks.specs.Unread.{linked, unread_paragraph}
 use Rattle.markdown_blocks.proofs.FeedLines.{HasEnding, HasLine, NoFeed, begun-same, cell, ending-feed, ending-some, feed-none, line-feed, no_feed-spread, past_ending, point_after-append, spread, spread-end}

@@ -9,9 +9,8 @@ use Rattle.md_engine.specs.declared.event.Kind.{Kind}
 use Rattle.md_engine.specs.declared.event.Kind.TheVariants.{Enter, Exit}
 use Rattle.md_engine.specs.declared.event.Link.{Link}
 use Rattle.md_engine.specs.declared.event.Name.{Name}
-use Rattle.md_content.specs.ChunkRule.{enter_link}
 use Rattle.md_seam.specs.declared.inline.Chunk.{Chunk}
-use Rattle.md_seam.specs.Nested.{exit}
+use Rattle.md_seam.specs.Nested.{enter_link, exit}
 use Rattle.md_seam.specs.Substituted.{Readings, Substituted, chunk_of, chunks_behind, is_prefix, share, wanted, wanted_at}
 use Rattle.markdown_blocks.specs.Unread.{linked}
 

@@ -15,6 +15,8 @@ use Rattle.md_seam.specs.Lines.{begins_with, is_ending}
 use Rattle.md_seam.specs.Outline.{Entry, entries, entry_with}
 use Rattle.md_seam.specs.Rest.{is_white, trim_start}
 use Rattle.md_seam.specs.Texts.{split_lines, trim_each}
+use Rattle.md_seam.proofs.PlainSteps.{range-none}
+use Rattle.md_seam.proofs.TextsLemmas.{split-byte}
 use Rattle.markdown_blocks.specs.Between.{is_between}
 use Rattle.markdown_blocks.specs.Sketched.{after_ending, line_len, text_entries}
 
@@ -38,9 +40,6 @@ boundary-between bytes i u between within = go (i == 0) (i == length bytes) (nat
         let inside : i < length bytes = grind (arith, nat_tests) in
         IsCharBoundary-before_ascii bytes i inside (ltb-true _ _ h)
 
-take-none : (xs : List ℕ) (i j : ℕ) → j ≤ i → slice_range xs i j ≡ []
-take-none xs i j le = let none : j - i ≡ 0 = omega arith in rw none refl
-
 range-past : (xs : List ℕ) (i j : ℕ) → length xs ≤ j → slice_range xs i j ≡ slice_range xs i (length xs)
 range-past xs i j le =
     let left : length (drop i xs) ≡ length xs - i = length-drop i xs in
@@ -54,8 +53,8 @@ utf8-part bytes i j u a b = go (cases_lt i j) (cases_lt i (length bytes)) (cases
     none e = subst IsUtf8 (sym e) IsUtf8-nil
 
     go : (i < j) ⊎ (j ≤ i) → (i < length bytes) ⊎ (length bytes ≤ i) → (length bytes < j) ⊎ (j ≤ length bytes) → IsUtf8 (slice_range bytes i j)
-    go (inr le) x y = none (take-none bytes i j le)
-    go (inl lt) (inr past) y = none (range-past bytes i j (omega arith) ∙ take-none bytes i (length bytes) past)
+    go (inr le) x y = none (range-none bytes i j le)
+    go (inl lt) (inr past) y = none (range-past bytes i j (omega arith) ∙ range-none bytes i (length bytes) past)
     go (inl lt) (inl inside) (inl past) =
         subst IsUtf8 (sym (range-past bytes i j (omega arith))) (IsUtf8-between bytes i (length bytes) u (omega arith) (boundary-between bytes i u a (omega arith)) (IsCharBoundary-end bytes))
     go (inl lt) (inl inside) (inr within) =
@@ -121,14 +120,6 @@ text-lent (Ok s) d bytes Q h u = h.0
 text-lent (Err e) d bytes Q h u = absurd (h.0 u)
 
 -- Lines.
-
-split-byte : (b : ℕ) (bytes : List ℕ) → is_ending b ≡ false → split_lines (b ∷ bytes) ≡ onto_first b (split_lines bytes)
-split-byte b bytes h = go (b == 10) (b == 13) h
-  where
-    go : (x y : Bool) → (x || y) ≡ false → cond (x || (y && not (begins_with 10 bytes))) ([] ∷ split_lines bytes) (cond (x || y) (split_lines bytes) (onto_first b (split_lines bytes))) ≡ onto_first b (split_lines bytes)
-    go false false h = refl
-    go false true h = cc
-    go true y h = cc
 
 -- a text that is read as its first bytes and what stands behind them: nothing, or the ending of its first line
 abbrev Splits : List ℕ → ℕ → List ℕ → Type 0

@@ -6,7 +6,6 @@ use Rattle.md_engine.specs.declared.event.Name.{Name}
 use Rattle.md_engine.specs.declared.event.Name.TheVariants as n
 use Rattle.md_engine.specs.declared.event.Point.{Point}
 use Rattle.md_engine.specs.Meaning.{Cell}
-use Rattle.md_content.specs.ChunkRule.{enter_link}
 use Rattle.md_content.specs.Chunks.{content_link}
 use Rattle.md_leaves.specs.BlankRule.{blank_events}
 use Rattle.md_leaves.specs.BreakRule.{Apart, runs}
@@ -15,7 +14,7 @@ use Rattle.md_seam.specs.declared.inline.PartKind.TheVariants.{Text}
 use Rattle.md_seam.specs.Ahead.{begins_white, from_ending, line_bytes, line_cells, line_end, white_end, white_rest}
 use Rattle.md_seam.specs.Inline.{plain_events}
 use Rattle.md_seam.specs.Leaves.{is_rule}
-use Rattle.md_seam.specs.Nested.{around, exit, pair}
+use Rattle.md_seam.specs.Nested.{around, enter_link, exit, pair}
 use Rattle.md_seam.specs.Rest.{is_blank, trim_start}
 use Rattle.md_seam.specs.Spaces.{small_indent}
 

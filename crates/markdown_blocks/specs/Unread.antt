@@ -4,11 +4,10 @@ use Rattle.md_engine.specs.declared.event.Event.{Event}
 use Rattle.md_engine.specs.declared.event.Link.{Link}
 use Rattle.md_engine.specs.declared.event.Name.{Name}
 use Rattle.md_engine.specs.declared.event.Name.TheVariants as n
-use Rattle.md_content.specs.ChunkRule.{enter_link}
 use Rattle.md_content.specs.Chunks.{content_link}
 use Rattle.md_content.specs.Paragraph.{text_link}
 use Rattle.md_seam.specs.declared.inline.Chunk.{Chunk}
-use Rattle.md_seam.specs.Nested.{around, exit}
+use Rattle.md_seam.specs.Nested.{around, enter_link, exit}
 use Rattle.markdown_blocks.specs.Rows.{Group, Lines, Row, Single, chunks_of, ending_events, last_row, row_events}
 
 -- the chunks of a part that is not read yet

@@ -5,21 +5,20 @@ use Rattle.md_engine.specs.declared.event.Name.TheVariants as parts
 use Rattle.md_engine.specs.declared.resolve.Name.{Name as ResolveName}
 use Rattle.md_engine.specs.declared.state.Name.{Name as StateName}
 use Rattle.md_engine.specs.declared.state.Name.TheVariants as n
-use Rattle.md_engine.specs.declared.state.State.{State}
 use Rattle.md_engine.specs.declared.state.State.TheVariants.{Next}
 use Rattle.md_engine.specs.Meaning.{Accepts, Behaviour, Cell, Feed, Here, Steps, here}
 use Rattle.md_engine.specs.Run.{reading}
 use Rattle.md_engine.specs.Scheme.{stands}
 use Rattle.md_engine.specs.Standing.{MeansAt, StandsOn}
 use Rattle.md_engine.specs.World.{World, after}
-use Rattle.md_engine.proofs.StepOf.{Sees, ahead, cell_here, moves, passes, sees}
-use Rattle.md_content.specs.ChunkRule.{HasChunk, chunk_at, enter_link, inside_chunk}
+use Rattle.md_engine.proofs.StepOf.{Sees, ahead, cell_here, moves, passes, sees, steps-as}
+use Rattle.md_content.specs.ChunkRule.{HasChunk, chunk_at, inside_chunk}
 use Rattle.md_content.specs.Chunks.{chunk_inside_code, chunk_start_went, content_link}
 use Rattle.md_content.specs.Paragraph.{inside_code, line_start_went, start_went, text_link}
 use Rattle.md_content.specs.ParagraphRule.{HasParagraph, content_behaves, inside_paragraph, paragraph_at, paragraph_line}
 use Rattle.md_content.specs.States.{ContentStep, content_scheme, content_went}
 use Rattle.md_content.proofs.States.{content_does}
-use Rattle.md_seam.specs.Nested.{enter, exit}
+use Rattle.md_seam.specs.Nested.{enter, enter_link, exit}
 use Rattle.md_seam.specs.Spaces.{ends_line}
 use Rattle.md_seam.proofs.SpacesGoods.{does-stands}
 
@@ -94,9 +93,6 @@ paragraph_inside_steps B feed w has s = go w.current s.next
 
 has_paragraph : HasParagraph content_behaves
 has_paragraph = record { start = λ _ _. refl; line_start = λ _ _. refl; inside = λ _ _. refl }
-
-steps-as : (B : Behaviour) (feed : Feed) (from to s : State) (w new v : World) → s ≡ to → v ≡ new → Steps B feed from w to new → Steps B feed from w s v
-steps-as B feed from to s w new v e k steps = rw (e, k) steps
 
 content_steps : (feed : Feed) (name : StateName) (w : World) → Sees feed w → stands content_scheme w (Next name) → Steps content_behaves feed (Next name) w (content_went name w).to (content_went name w).world
 content_steps feed n.ParagraphStart w s at = paragraph_start_steps content_behaves feed w has_paragraph

@@ -1,20 +1,11 @@
 -- What is left of a line of content at each state, before it is read.
-use Rattle.std.specs.Prelude.{◌≡◌, true, List, [], ◌∷◌, ◌++◌, Some}
-use Rattle.md_engine.specs.declared.event.Event.{Event}
-use Rattle.md_engine.specs.declared.event.Kind.TheVariants.{Enter}
-use Rattle.md_engine.specs.declared.event.Link.{Link}
-use Rattle.md_engine.specs.declared.event.Name.{Name}
+use Rattle.std.specs.Prelude.{◌≡◌, true, List, [], ◌∷◌, ◌++◌}
 use Rattle.md_engine.specs.declared.event.Name.TheVariants as parts
-use Rattle.md_engine.specs.declared.event.Point.{Point}
 use Rattle.md_engine.specs.declared.state.Name.TheVariants.{ContentChunkStart, ContentChunkInside}
 use Rattle.md_engine.specs.Meaning.{Accepts, Behaviour, Cell, Here, Outcome}
 use Rattle.md_content.specs.Chunks.{content_link}
 use Rattle.md_seam.specs.Ahead.{from_ending, line_end}
-use Rattle.md_seam.specs.Nested.{exit}
-
--- the begin of a part that is read later
-abbrev pub enter_link : Name → Point → Link → Event
-enter_link name p link = record { kind = Enter; name = name; point = p; link = Some link }
+use Rattle.md_seam.specs.Nested.{enter_link, exit}
 
 -- the rest of the line; a paragraph is open then
 unfoldable pub inside_chunk : List Cell → Here → Outcome

@@ -10,12 +10,11 @@ use Rattle.md_engine.specs.Meaning.{Cell}
 use Rattle.md_engine.specs.Place.{first_point}
 use Rattle.md_engine.specs.TextFeed.{text_feed}
 use Rattle.md_engine.specs.World.{World, fresh, reads_to, skipping}
-use Rattle.md_content.specs.ChunkRule.{enter_link}
 use Rattle.md_content.specs.Paragraph.{text_link}
 use Rattle.md_content.specs.ParagraphRule.{line_events}
 use Rattle.md_seam.specs.declared.inline.Chunk.{Chunk}
 use Rattle.md_seam.specs.Ahead.{point_after}
-use Rattle.md_seam.specs.Nested.{enter, exit}
+use Rattle.md_seam.specs.Nested.{enter, enter_link, exit}
 use Rattle.md_seam.specs.Substituted.{Readings}
 
 -- where the first chunk begins

@@ -5,10 +5,9 @@ use Rattle.md_engine.specs.declared.event.Name.TheVariants as parts
 use Rattle.md_engine.specs.declared.event.Point.{Point}
 use Rattle.md_engine.specs.declared.state.Name.TheVariants.{ParagraphStart, ParagraphLineStart, ParagraphInside}
 use Rattle.md_engine.specs.Meaning.{Accepts, Behaviour, Cell, Here, Outcome, Refuses}
-use Rattle.md_content.specs.ChunkRule.{enter_link}
 use Rattle.md_content.specs.Paragraph.{text_link}
 use Rattle.md_seam.specs.Ahead.{point_after}
-use Rattle.md_seam.specs.Nested.{enter, exit}
+use Rattle.md_seam.specs.Nested.{enter, enter_link, exit}
 
 -- each line is one part with its ending, of which the first has begun
 abbrev pub line_events : List Cell → Point → List Event

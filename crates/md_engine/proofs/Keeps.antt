@@ -1,15 +1,15 @@
 -- A run keeps what is left: what the tokenizer comes to from its first state is what it comes to from its last.
-use Rattle.std.proofs.Common.{◌≡◌, ◌≢◌, ℕ, zero, suc, ◌<◌, ◌≤◌, Bool, true, false, cond, List, [], ◌∷◌, ◌++◌, length, take, refl, sym, ◌∙◌, ap, ap₂, subst, arith}
+use Rattle.std.proofs.Common.{◌≡◌, ℕ, zero, suc, ◌≤◌, Bool, true, false, cond, List, [], ◌∷◌, ◌++◌, length, take, refl, sym, ◌∙◌, ap, ap₂, arith}
 use Rattle.std.specs.List.{All}
 use Rattle.std.proofs.lemmas.List.{take-append-le}
 use Rattle.md_engine.specs.declared.event.Event.{Event}
 use Rattle.md_engine.specs.declared.state.State.{State}
 use Rattle.md_engine.specs.declared.state.State.TheVariants.{Error, Ok, Nok, Next, Retry}
 use Rattle.md_engine.specs.declared.tokenizer.Frame.{Frame}
-use Rattle.md_engine.specs.Meaning.{Accepts, Behaviour, Fails, Feed, Follows, Means, Outcome, Refuses, Steps, comes_to, goes, here, restored, resume, resume_all}
-use Rattle.md_engine.specs.Run.{Calls, IsEnd, Leaves, Runs, Step, goes_back, left, next_of, plain, reading}
+use Rattle.md_engine.specs.Meaning.{Accepts, Behaviour, Fails, Feed, Outcome, Refuses, Steps, comes_to, goes, here, restored, resume, resume_all}
+use Rattle.md_engine.specs.Run.{IsEnd, Leaves, Runs, Step, goes_back, left, next_of, plain}
 use Rattle.md_engine.specs.Run.Runs.{Stays, ThenCalls, ThenLeaves}
-use Rattle.md_engine.specs.World.{Setting, World}
+use Rattle.md_engine.specs.World.{World}
 
 take-none : (m : ℕ) → take m (let e : List Event = [] in e) ≡ []
 take-none zero = refl
@@ -81,12 +81,6 @@ steps-keep B feed from to old new h s =
     ∙ sym (resume_all-join B feed new.events s.begun old.frames _)
     ∙ ap (λ (x : List Frame). resume_all B feed new.events x (goes B to (feed new.point) (here new))) (sym s.frames)
 
-calls-keep : (T : Step) (B : Behaviour) (is_end : Bool) (feed : Feed) (s s' : State) (w w' : World) → Means T B is_end → Follows feed w.setting is_end →
-    Calls T is_end s w s' w' → comes_to B feed s w ≡ comes_to B feed s' w'
-calls-keep T B is_end feed s s' w w' m f c =
-    sym (plain-same B feed w s) ∙ ap (λ (x : State). comes_to B feed x w) c.names
-    ∙ steps-keep B feed (Next c.name) s' (reading w) w' c.within (m feed c.name w s' w' f c.step)
-
 -- leaving an attempt changes no setting
 leaves-setting : (s s' : State) (w w' : World) → Leaves s w s' w' → w'.setting ≡ w.setting
 leaves-setting s s' w w' l = ap (λ (x : World). x.setting) l.new ∙ go (goes_back l.frame s)
@@ -99,11 +93,3 @@ pub runs-setting : (T : Step) (is_end : Bool) (s : State) (w : World) (s' : Stat
 runs-setting T is_end s w s' w' Stays = refl
 runs-setting T is_end s w s' w' (ThenLeaves t v t' v' r l) = leaves-setting t t' v v' l ∙ runs-setting T is_end s w t v r
 runs-setting T is_end s w s' w' (ThenCalls t v t' v' r c) = c.setting ∙ runs-setting T is_end s w t v r
-
-pub runs-keep : (T : Step) (B : Behaviour) (is_end : Bool) (feed : Feed) (s : State) (w : World) → Means T B is_end → Follows feed w.setting is_end → (s' : State) (w' : World) →
-    Runs T is_end s w s' w' → comes_to B feed s w ≡ comes_to B feed s' w'
-runs-keep T B is_end feed s w m f s' w' Stays = refl
-runs-keep T B is_end feed s w m f s' w' (ThenLeaves t v t' v' r l) = runs-keep T B is_end feed s w m f t v r ∙ leaves-keep B feed t t' v v' l
-runs-keep T B is_end feed s w m f s' w' (ThenCalls t v t' v' r c) =
-    let P : Setting → Type 0 = λ x. Follows feed x is_end in
-    runs-keep T B is_end feed s w m f t v r ∙ calls-keep T B is_end feed t t' v v' m (subst P (sym (runs-setting T is_end s w t v r)) f) c

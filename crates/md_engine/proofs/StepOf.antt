@@ -28,6 +28,10 @@ pub begins_only : (B : Behaviour) (feed : Feed) (from to : State) (old new : Wor
     goes B from (feed old.point) (here old) ≡ resume B feed new.events f (goes B to (feed new.point) (here new)) → Steps B feed from old to new
 begins_only B feed from to old new f frames events same = begins B feed from to old new [] f frames (events ∙ sym (append-nil old.events)) same
 
+-- a step to what is equal
+pub steps-as : (B : Behaviour) (feed : Feed) (from to s : State) (w new v : World) → s ≡ to → v ≡ new → Steps B feed from w to new → Steps B feed from w s v
+steps-as B feed from to s w new v e k steps = rw (e, k) steps
+
 -- the cell of a byte that stands here
 abbrev pub cell_here : Feed → World → ℕ → Cell
 cell_here feed w b = record { byte = b; after = after w.setting w.point; line = line_of w.setting.line (feed w.point) }

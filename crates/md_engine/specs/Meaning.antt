@@ -1,5 +1,5 @@
 -- What the states of a construct mean: what is left of its rule, as a function of what is still to come.
-use Rattle.std.specs.Prelude.{◌≡◌, ◌^◌, ◌<◌, ◌≤◌, ℕ, Bool, true, false, List, [], ◌∷◌, ◌++◌, length, take, if◌then◌else◌}
+use Rattle.std.specs.Prelude.{◌≡◌, ◌^◌, ◌<◌, ◌≤◌, ℕ, Bool, true, List, [], ◌∷◌, ◌++◌, length, take, if◌then◌else◌}
 use Rattle.md_engine.specs.declared.event.Event.{Event}
 use Rattle.md_engine.specs.declared.event.Point.{Point}
 use Rattle.md_engine.specs.declared.state.Name.{Name as StateName}
@@ -10,7 +10,6 @@ use Rattle.md_engine.specs.declared.tokenizer.Frame.{Frame}
 use Rattle.md_engine.specs.declared.tokenizer.Line.{Line}
 use Rattle.md_engine.specs.declared.tokenizer.Scratch.{Scratch}
 use Rattle.md_engine.specs.Place.{seen_at}
-use Rattle.md_engine.specs.Run.{Step, plain, reading}
 use Rattle.md_engine.specs.World.{Setting, World, after}
 
 -- what a state is fed: a byte, `\n` for each line ending, or a column of a tab; the point behind it; and what the parent says
@@ -91,8 +90,3 @@ pub record Steps (B : Behaviour) (feed : Feed) (from : State) (old : World) (to 
   pub frames : new.frames ≡ begun ++ old.frames
   pub events : new.events ≡ old.events ++ added
   pub same : goes B from (feed old.point) (here old) ≡ resume_all B feed new.events begun (goes B to (feed new.point) (here new))
-
--- the steps of a table are steps of its behaviour, in each feed that follows the text
-abbrev pub Means : Step → Behaviour → Bool → Type 0
-Means T B is_end = (feed : Feed) (name : StateName) (w : World) (s' : State) (w' : World) → Follows feed w.setting is_end → T name (reading w) s' w' →
-    Steps B feed (Next name) (reading w) s' w'

@@ -177,19 +177,20 @@ small-some options = go options.constructs.code_indented
     go true = omega arith
     go false = omega arith
 
-abbrev entered_here : Here → Here
+-- where a break has begun
+abbrev pub entered_here : Here → Here
 entered_here h = record h { events = h.events ++ enter ThematicBreak h.point ∷ [] }
 
-at-off : (options : ParseOptions) (cells : List Cell) (h : Here) → options.constructs.thematic_break ≡ false → break_at options cells h ≡ Refuses h.scratch h.flags
+pub at-off : (options : ParseOptions) (cells : List Cell) (h : Here) → options.constructs.thematic_break ≡ false → break_at options cells h ≡ Refuses h.scratch h.flags
 unfolding break_at
 at-off options cells h off = rw off refl
 
-at-white : (options : ParseOptions) (cells : List Cell) (h : Here) → options.constructs.thematic_break ≡ true → begins_white cells ≡ true →
+pub at-white : (options : ParseOptions) (cells : List Cell) (h : Here) → options.constructs.thematic_break ≡ true → begins_white cells ≡ true →
     break_at options cells h ≡ before_marker (white_rest (small_indent options) cells) (behind_white (small_indent options) cells (entered_here h))
 unfolding break_at
 at-white options cells h on s = rw (on, s) refl
 
-at-none : (options : ParseOptions) (cells : List Cell) (h : Here) → options.constructs.thematic_break ≡ true → begins_white cells ≡ false → break_at options cells h ≡ before_marker cells (entered_here h)
+pub at-none : (options : ParseOptions) (cells : List Cell) (h : Here) → options.constructs.thematic_break ≡ true → begins_white cells ≡ false → break_at options cells h ≡ before_marker cells (entered_here h)
 unfolding break_at
 at-none options cells h on s = rw (on, s) refl
 

@@ -1,18 +1,16 @@
 -- The leaves stand and end in any table that has them.
-use Rattle.std.proofs.Common.{◌≡◌, ℕ, ◌+◌, ◌%◌, ◌<◌, ◌≤◌, Bool, true, false, cond, ◌&&◌, nat_lt, Option, Some, None, List, ◌∷◌, length, refl, arith, ap, sym, ◌∙◌}
-use Rattle.md_engine.specs.declared.event.Point.{Point}
+use Rattle.std.proofs.Common.{◌≡◌, ℕ, ◌%◌, ◌<◌, Bool, true, false, cond, Option, Some, None, refl, arith, ap, sym, ◌∙◌}
 use Rattle.md_engine.specs.declared.event.Name.TheVariants as parts
-use Rattle.md_engine.specs.declared.state.Name.{Name as StateName}
 use Rattle.md_engine.specs.declared.state.Name.TheVariants as n
 use Rattle.md_engine.specs.declared.tokenizer.Scratch.{Scratch}
-use Rattle.md_engine.specs.Scheme.{Ends, Fits, Good, Grown, Reaches, Scheme, Spot, after_all, moved_to, seen, spot, spot_at}
-use Rattle.md_engine.specs.World.{Setting, World, after}
+use Rattle.md_engine.specs.Scheme.{Fits, Grown, Scheme, after_all, seen, spot, spot_at}
+use Rattle.md_engine.specs.World.{Setting, World}
 use Rattle.md_engine.proofs.Falls.{later, later_at, seen_grows}
 use Rattle.md_engine.proofs.Local.{accepts, consumes, refuses, turns}
-use Rattle.md_engine.proofs.Points.{cells-grow, grown-same, stays, takes}
+use Rattle.md_engine.proofs.Points.{cells-grow, stays, takes}
 use Rattle.md_leaves.specs.Blank as blank
 use Rattle.md_leaves.specs.Blank.{blank_scheme}
-use Rattle.md_leaves.specs.Break.{IsMarked, at_break_code, before_code, break_ready, break_scheme, is_marker, sequence_code, start_code, without_marker}
+use Rattle.md_leaves.specs.Break.{at_break_code, before_code, break_ready, break_scheme, is_marker, sequence_code, start_code, without_marker}
 use Rattle.md_seam.specs.Spaces.{IsRest, calmed, is_current, rest_ready, sees_white, small_indent, any_size}
 use Rattle.md_seam.specs.Went.{entered, exited}
 use Rattle.md_seam.proofs.SpacesGoods.{Does, WhiteFits, seen-in, white_try}

@@ -2,7 +2,7 @@
 use Rattle.std.proofs.Common.{◌≡◌, ℕ, suc, ◌+◌, ◌-◌, ◌≤◌, Bool, true, false, cond, ◌&&◌, List, [], ◌∷◌, ◌++◌, length, take, drop, refl, ap, sym, ◌∙◌, subst, append_assoc, arith}
 use Rattle.std.specs.Prelude.{◌==◌, IsTrue, not}
 use Rattle.std.specs.List.{list_all, prefix_len}
-use Rattle.std.proofs.lemmas.List.{take-append-drop, length-take}
+use Rattle.std.proofs.lemmas.List.{append-nil, take-append-drop, length-take}
 use Rattle.std.proofs.lemmas.List.Sums.{take_while-cons}
 use Rattle.std.proofs.lemmas.Bool.{and_parts, and_from, eqb-true, eq-eqb}
 use Rattle.std.proofs.lemmas.Bool.Decides.{nat_tests}
@@ -21,7 +21,7 @@ use Rattle.md_seam.proofs.NestedLemmas.{balanced-none, balanced-append, at_or_be
 
 -- Places.
 
-same-refl : (p : Point) → same_place p p ≡ true
+pub same-refl : (p : Point) → same_place p p ≡ true
 same-refl p = and_from _ _ (eq-eqb p.index p.index refl) (eq-eqb p.vs p.vs refl)
 
 same-trans : (p q r : Point) → same_place p q ≡ true → same_place q r ≡ true → same_place p r ≡ true
@@ -104,7 +104,7 @@ end-placed bytes chunk h =
 
 -- A pair, or nothing.
 
-balanced-pair : (name : Name) (p q : Point) → Balanced (pair_unless_empty name p q)
+pub balanced-pair : (name : Name) (p q : Point) → Balanced (pair_unless_empty name p q)
 balanced-pair name p q = go (same_place p q)
   where
     go : (x : Bool) → Balanced (cond x [] (pair name p q))
@@ -124,10 +124,6 @@ inline-pair name p q h = go (same_place p q)
     go : (x : Bool) → list_all (λ (e : Event). is_inline e.name) (cond x [] (pair name p q)) ≡ true
     go true = refl
     go false = and_from (is_inline name) (is_inline name && true) h (and_from (is_inline name) true h refl)
-
-append-none : (es : List Event) → es ++ [] ≡ es
-append-none [] = refl
-append-none (e ∷ es) = ap (λ (l : List Event). e ∷ l) (append-none es)
 
 forward-pair : (o : Point) (name : Name) (p q : Point) (es : List Event) → IsTrue (at_or_before o p) → IsTrue (at_or_before p q) → Forward q es → Forward o (pair_unless_empty name p q ++ es)
 forward-pair o name p q es h k f = go (same_place p q)
@@ -178,13 +174,13 @@ plain-forward : (bytes : List ℕ) (chunk : Chunk) → IsTrue (at_or_before chun
 plain-forward bytes chunk h =
     let end : Point = line_end bytes chunk in
     forward-pair chunk.first n.Data chunk.first end (pair_unless_empty n.LineEnding end chunk.after) (at_or_before-refl chunk.first) (end-behind bytes chunk)
-    (subst (Forward end) (append-none (pair_unless_empty n.LineEnding end chunk.after)) (forward-pair end n.LineEnding end chunk.after [] (at_or_before-refl end) (end-before bytes chunk h) tt))
+    (subst (Forward end) (append-nil (pair_unless_empty n.LineEnding end chunk.after)) (forward-pair end n.LineEnding end chunk.after [] (at_or_before-refl end) (end-before bytes chunk h) tt))
 
 plain-last : (bytes : List ℕ) (chunk : Chunk) → IsTrue (at_or_before chunk.first chunk.after) → IsTrue (at_or_before (last_point chunk.first (plain_chunk bytes chunk)) chunk.after)
 plain-last bytes chunk h =
     let end : Point = line_end bytes chunk in
     last-pair chunk.first n.Data chunk.first end (at_or_before-refl chunk.first) (end-behind bytes chunk) (pair_unless_empty n.LineEnding end chunk.after) chunk.after
-    (λ o before. subst (λ (l : List Event). IsTrue (at_or_before (last_point o l) chunk.after)) (append-none (pair_unless_empty n.LineEnding end chunk.after))
+    (λ o before. subst (λ (l : List Event). IsTrue (at_or_before (last_point o l) chunk.after)) (append-nil (pair_unless_empty n.LineEnding end chunk.after))
     (last-pair o n.LineEnding end chunk.after before (end-before bytes chunk h) [] chunk.after (λ o h. h)))
 
 plain-placed : (bytes : List ℕ) (chunks : List Chunk) → list_all (chunk_placed bytes) chunks ≡ true → are_placed bytes (together (plain_chunks bytes chunks)) ≡ true

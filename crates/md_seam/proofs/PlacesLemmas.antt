@@ -103,7 +103,7 @@ take-next zero (c ∷ bytes) b rest e = ap (λ (x : ℕ). x ∷ []) (ap first_by
 take-next (suc index) [] b rest e = cc
 take-next (suc index) (c ∷ bytes) b rest e = ap (λ (l : List ℕ). c ∷ l) (take-next index bytes b rest e)
 
-drop-next : (index : ℕ) (bytes : List ℕ) (b : ℕ) (rest : List ℕ) → drop index bytes ≡ b ∷ rest → drop (suc index) bytes ≡ rest
+pub drop-next : (index : ℕ) (bytes : List ℕ) (b : ℕ) (rest : List ℕ) → drop index bytes ≡ b ∷ rest → drop (suc index) bytes ≡ rest
 drop-next zero [] b rest e = cc
 drop-next zero (c ∷ bytes) b rest e = ap (drop 1) e
 drop-next (suc index) [] b rest e = cc

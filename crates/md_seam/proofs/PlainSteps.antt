@@ -23,7 +23,7 @@ use Rattle.md_seam.specs.Parts.{IsChunk}
 use Rattle.md_seam.specs.declared.inline.PartKind.{PartKind}
 use Rattle.md_seam.specs.Inline.{PlainReads, are_lines, chunk_text, ends_whole, is_line, is_none, is_one_line, line_end, pair_unless_empty, plain_chunk, plain_chunks, together}
 use Rattle.md_seam.specs.Went.{entered, exited}
-use Rattle.md_seam.proofs.InlineLemmas.{line-length, line-no_ending, past-index, past-vs}
+use Rattle.md_seam.proofs.InlineLemmas.{line-length, line-no_ending, past-index, past-vs, same-refl}
 use Rattle.md_seam.proofs.PlacesLemmas.{Some_line, some-split}
 use Rattle.md_engine.proofs.Sound.{placed-next}
 use Rattle.md_seam.proofs.TextsLemmas.{NoEnding, Ending, LineFeed, Return, Both, ending_bytes, EndsBefore, split-next}
@@ -132,7 +132,7 @@ range-next bytes i end h k =
     let more : end - i ≡ suc (end - (i + 1)) = omega arith in
     ap (λ (l : List ℕ). take (end - i) l) (drop_more bytes i 0 (omega arith)) ∙ ap (λ (n : ℕ). take n (slice_index bytes i ∷ drop (i + 1) bytes)) more
 
-range-none : (bytes : List ℕ) (i end : ℕ) → end ≤ i → slice_range bytes i end ≡ []
+pub range-none : (bytes : List ℕ) (i end : ℕ) → end ≤ i → slice_range bytes i end ≡ []
 range-none bytes i end h = let none : end - i ≡ 0 = omega arith in ap (λ (n : ℕ). take n (drop i bytes)) none
 
 -- one byte more
@@ -209,9 +209,6 @@ line-consumed w v end is placed h k plain =
 -- nothing else changes
 pub line-moved : (w v u : World) (p : Point) → v ≡ record w { point = v.point } → u ≡ record v { point = p } → u ≡ record w { point = u.point }
 line-moved w v u p h k = k ∙ ap (λ (x : World). record x { point = p }) h ∙ ap (λ (q : Point). record w { point = q }) (sym (ap (λ (x : World). x.point) k))
-
-same-refl : (p : Point) → same_place p p ≡ true
-same-refl p = and_from _ _ (eq-eqb p.index p.index refl) (eq-eqb p.vs p.vs refl)
 
 same-not : (p q : Point) → p.index < q.index → same_place p q ≡ false
 same-not p q h = grind (arith, nat_tests)

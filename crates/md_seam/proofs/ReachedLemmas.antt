@@ -17,6 +17,7 @@ use Rattle.md_seam.specs.Parts.{ArePlaced}
 use Rattle.md_seam.specs.Places.{are_placed, columns_before, columns_from, is_placed, last_line, past_byte}
 use Rattle.md_seam.specs.Rest.{tab_columns}
 use Rattle.md_seam.specs.Texts.{first_byte, split_lines}
+use Rattle.md_seam.proofs.FilledLemmas.{not-true}
 use Rattle.md_seam.proofs.PlacesLemmas.{Placed, placed-byte, placed-from}
 use Rattle.md_seam.proofs.TextsLemmas.{Ending, Both, LineFeed, Return, ending_bytes}
 
@@ -209,7 +210,7 @@ apart-feed : (x y : Bool) → (x && y) ≡ false → y ≡ true → x ≡ false
 apart-feed false y h e = refl
 apart-feed true y h e = cc
 
-and_false : (x y : Bool) → y ≡ false → (x && y) ≡ false
+pub and_false : (x y : Bool) → y ≡ false → (x && y) ≡ false
 and_false true y e = e
 and_false false y e = refl
 
@@ -240,10 +241,6 @@ stands-both bytes p h e k = stands-ended bytes p Both (p.index + 2) h.placed (om
         ap (λ (i : ℕ). take i bytes) (sym next)
         ∙ take-next bytes (p.index + 1) 10 lt k
         ∙ ap (λ (t : List ℕ). t ++ 10 ∷ []) (take-next bytes p.index 13 (omega (arith, lt)) e)
-
-not-true : (x : Bool) → not x ≡ true → x ≡ false
-not-true false e = refl
-not-true true e = sym e
 
 -- The point behind what is seen at such a point is one.
 stands-next : (bytes : List ℕ) (p : Point) → Stands bytes p → (next_point bytes p).index ≤ length bytes → Stands bytes (next_point bytes p)

@@ -1,5 +1,5 @@
 -- Whitespace stands and ends in any table that has it.
-use Rattle.std.proofs.Common.{◌≡◌, ℕ, ◌+◌, ◌%◌, ◌<◌, ◌≤◌, Bool, true, false, nat_lt, Option, Some, None, List, ◌∷◌, length, refl, arith, ap, sym, ◌∙◌, subst}
+use Rattle.std.proofs.Common.{◌≡◌, ℕ, ◌%◌, ◌<◌, ◌≤◌, Bool, true, false, nat_lt, Option, Some, None, List, length, refl, arith, ap, sym, ◌∙◌, subst}
 use Rattle.std.specs.Prelude.{nat_le}
 use Rattle.std.proofs.lemmas.Bool.Decides.{nat_tests}
 use Rattle.md_engine.specs.declared.event.Event.{Event}
@@ -10,14 +10,14 @@ use Rattle.md_engine.specs.declared.state.State.TheVariants.{Nok, Next}
 use Rattle.md_engine.specs.declared.state.State.{State}
 use Rattle.md_engine.specs.declared.event.Name.TheVariants.{SpaceOrTab}
 use Rattle.md_engine.specs.declared.tokenizer.Scratch.{Scratch}
-use Rattle.md_engine.specs.Scheme.{After, Ends, Fits, FitsState, Good, Grown, Reaches, Scheme, Spot, after_all, moved_to, seen, spot, spot_at, stands, work}
+use Rattle.md_engine.specs.Scheme.{After, Ends, Fits, Good, Grown, Reaches, Scheme, Spot, after_all, seen, spot, spot_at, stands, work}
 use Rattle.md_engine.specs.Run.{plain}
-use Rattle.md_engine.specs.World.{Setting, World, after, looks}
-use Rattle.md_engine.proofs.Falls.{later, later_at, seen_grows}
+use Rattle.md_engine.specs.World.{Setting, World}
+use Rattle.md_engine.proofs.Falls.{later, later_at}
 use Rattle.md_engine.proofs.Local.{accepts, begins_try, consumes, refuses, turns}
 use Rattle.md_engine.proofs.Points.{cells-grow, stays, takes}
-use Rattle.md_seam.specs.Spaces.{after_code, asking, calmed, inside_code, rest_ready, sees_white, start_code, white_ready, white_scheme, white_then}
-use Rattle.md_seam.specs.Went.{Went, entered, exited, tried}
+use Rattle.md_seam.specs.Spaces.{after_code, asking, calmed, inside_code, rest_ready, start_code, white_ready, white_scheme, white_then}
+use Rattle.md_seam.specs.Went.{Went, entered, exited}
 
 -- what a state does keeps what the table needs, and falls; no state changes the setting
 abbrev pub Does : Scheme → StateName → World → Went → Type 0

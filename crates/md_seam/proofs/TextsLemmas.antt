@@ -27,7 +27,7 @@ EndsBefore LineFeed rest = Unit {0}
 EndsBefore Both rest = Unit {0}
 
 -- a byte of a line goes in front of the first line
-split-byte : (b : ℕ) (bs : List ℕ) → is_ending b ≡ false → split_lines (b ∷ bs) ≡ onto_first b (split_lines bs)
+pub split-byte : (b : ℕ) (bs : List ℕ) → is_ending b ≡ false → split_lines (b ∷ bs) ≡ onto_first b (split_lines bs)
 split-byte b bs h = go (b == 10) (b == 13) h
   where
     go : (x y : Bool) → (x || y) ≡ false → cond (x || (y && not (begins_with 10 bs))) ([] ∷ split_lines bs) (cond (x || y) (split_lines bs) (onto_first b (split_lines bs))) ≡ onto_first b (split_lines bs)

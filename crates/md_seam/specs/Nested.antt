@@ -1,9 +1,10 @@
 -- Lists of events as brackets, and the order of their points.
-use Rattle.std.specs.Prelude.{◌≡◌, IsTrue, List, [], ◌∷◌, ◌++◌, None}
+use Rattle.std.specs.Prelude.{◌≡◌, IsTrue, List, [], ◌∷◌, ◌++◌, Some, None}
 use Rattle.md_engine.specs.declared.event.Point.{Point}
 use Rattle.md_engine.specs.declared.event.Event.{Event}
 use Rattle.md_engine.specs.declared.event.Kind.{Kind}
 use Rattle.md_engine.specs.declared.event.Kind.TheVariants.{Enter, Exit}
+use Rattle.md_engine.specs.declared.event.Link.{Link}
 use Rattle.md_engine.specs.declared.event.Name.{Name}
 use Rattle.md_seam.specs.Places.{first_point, at_or_before}
 
@@ -13,6 +14,10 @@ enter name p = record { kind = Enter; name = name; point = p; link = None }
 
 abbrev pub exit : Name → Point → Event
 exit name p = record { kind = Exit; name = name; point = p; link = None }
+
+-- the begin of a part that is read later
+abbrev pub enter_link : Name → Point → Link → Event
+enter_link name p link = record { kind = Enter; name = name; point = p; link = Some link }
 
 -- a part with nothing inside, and a part around events
 abbrev pub pair : Name → Point → Point → List Event

@@ -3,11 +3,9 @@ use Rattle.std.specs.Prelude.{ℕ, ◌+◌, ◌-◌, Bool, ◌&&◌, ◌||◌, �
 use Rattle.std.specs.List.{list_all}
 use Rattle.md_engine.specs.declared.event.Point.{Point}
 use Rattle.md_engine.specs.declared.event.Event.{Event}
+pub use Rattle.md_engine.specs.Place.{first_point}
 use Rattle.md_seam.specs.Rest.{tab_columns}
 use Rattle.md_seam.specs.Texts.{split_lines, first_byte}
-
-abbrev pub first_point : Point
-first_point = record { line = 1; column = 1; index = 0; vs = 0 }
 
 -- the column behind a byte that begins in this column, both counted from 0 (CommonMark 2.2)
 abbrev pub column_past : ℕ → ℕ → ℕ
