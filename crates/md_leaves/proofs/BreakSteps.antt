@@ -10,13 +10,13 @@ use Rattle.md_engine.specs.declared.state.State.{State}
 use Rattle.md_engine.specs.declared.state.State.TheVariants.{Nok, Next, Retry}
 use Rattle.md_engine.specs.declared.tokenizer.Frame.{Frame}
 use Rattle.md_engine.specs.declared.tokenizer.Scratch.{Scratch}
-use Rattle.md_engine.specs.declared.tokenizer.Whitespace.{Whitespace}
 use Rattle.md_engine.specs.Meaning.{Accepts, Behaviour, Cell, Feed, Here, Refuses, Steps, here}
 use Rattle.md_engine.specs.World.{World, after}
 use Rattle.md_engine.proofs.StepOf.{Sees, ahead, begins, cell_here, moves, passes}
 use Rattle.md_leaves.specs.Break.{at_break_code, before_code, is_marker, sequence_code, start_code, without_marker}
 use Rattle.md_leaves.specs.BreakRule.{Apart, HasBreak, Marks, White, at_break, before_marker, break_at, in_break}
 use Rattle.md_leaves.proofs.BreakLemmas.{apart-mark, before-mark, before-other, eq-of, here_after, in_break-mark, in_break-other, marker-no_ending, marker-no_white, marks-at_none, marks-end, marks-none, marks-white, white-run}
+use Rattle.md_leaves.proofs.Goods.{marked-calm}
 use Rattle.md_seam.specs.Ahead.{begins_white, white_end, white_rest}
 use Rattle.md_seam.specs.Nested.{enter, exit}
 use Rattle.md_seam.specs.Rest.{is_white}
@@ -54,10 +54,6 @@ to-white : (cells : List Cell) (c : Cell) (cs : List Cell) (h : Here) → cells 
 to-white cells c cs h e s k = ap (λ (x : List Cell). in_break Marks x h) e ∙ marks-white c cs h s k
     ∙ ap (λ (x : List Cell). in_break White x (record h { events = h.events ++ exit parts.ThematicBreakSequence h.point ∷ [] ++ enter SpaceOrTab h.point ∷ [] })) (sym e)
 
--- whitespace at rest is as it is when calmed
-calm-same : (s : Scratch) → IsRest (without_marker s) → calmed s ≡ s
-calm-same s r = ap (λ (x : Whitespace). let t : Scratch = record s { whitespace = x } in t) (sym (ap (λ (t : Scratch). t.whitespace) r))
-
 abbrev white_frame : State → World → List Event → Frame
 white_frame ok w events = record { ok = ok; nok = Nok; is_check = false; events_len = length events; point = w.point }
 
@@ -84,7 +80,7 @@ sequence_steps B options feed w false true has s r mark e f =
     (has.sequence _ _
     ∙ to-white (feed w.point) (cell_here feed w saw.0) (feed (after w.setting w.point)) (here w) saw.1 saw.3 saw.2
     ∙ white-run any_size (feed w.point) (record h { events = h.events ++ enter SpaceOrTab h.point ∷ [] }) (omega (arith, s.short)) (marker-no_white w.scratch.marker mark)
-    ∙ ap (at_break (white_rest any_size (feed w.point))) (joined any_size (feed w.point) h (calm-same w.scratch r))
+    ∙ ap (at_break (white_rest any_size (feed w.point))) (joined any_size (feed w.point) h (marked-calm w.scratch r))
     ∙ sym (has.at_break _ _)
     ∙ white-tried B feed frame h.events (feed w.point) h 0 any_size has.white (begins-seen feed w s ∙ f) (omega arith) (omega arith) refl)
 sequence_steps B options feed w false false has s r mark e f =

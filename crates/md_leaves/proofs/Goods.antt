@@ -105,7 +105,8 @@ still-none w t up e k = go (seen (spot w)) refl e k
 marked-none : (s : Scratch) → IsRest (without_marker s) → s.whitespace.size ≡ 0
 marked-none s e = ap (λ (t : Scratch). t.whitespace.size) e
 
-marked-calm : (s : Scratch) → IsRest (without_marker s) → calmed s ≡ s
+-- whitespace at rest is as it is when calmed
+pub marked-calm : (s : Scratch) → IsRest (without_marker s) → calmed s ≡ s
 marked-calm s e = ap (λ (t : Scratch). record s { whitespace = t.whitespace }) (sym e)
 
 pub good_sequence : (T : Scheme) (w : World) (x y : Bool) → BreakFits T → break_ready n.ThematicBreakSequence (spot w) (after_all T w.frames) → is_current w.scratch.marker (seen (spot w)) ≡ x → sees_white (seen (spot w)) ≡ y → Does T n.ThematicBreakSequence w (sequence_code w x y)
