@@ -29,7 +29,7 @@ PYTHON
     (cd "$copy/crates/blocks_bench" && rt try 2>&1) || true
 }
 found() {
-    tr -d '\0' <<<"$1" | grep -o '[0-9]* tried, [0-9]* wrong' | tail -1
+    tr -d '\0' <<<"$1" | grep -o '[0-9]* tried, [0-9]* wrong' | tail -1 || true
 }
 passed=0
 failed=0
