@@ -180,7 +180,7 @@ count-white line (b ∷ bs) p rest k one = go (b == 9) refl (b == 32) refl (coun
     go : (t : Bool) → (b == 9) ≡ t → (s : Bool) → (b == 32) ≡ s → P b
     go true e s f = subst P (sym (eqb-true b 9 e)) (tab-count line bs p rest one)
     go false e true f = subst P (sym (eqb-true b 32 f)) (space-count line bs p rest one)
-    go false e false f = λ more. rw (e, f) refl
+    go false e false f = λ more. rw (e, f, e) refl
 
 -- what begins with whitespace is no heading
 white-none : (cells : List Cell) → begins_white cells ≡ true → is_heading (line_bytes cells) ≡ false
