@@ -1,13 +1,22 @@
 -- What the lines of a text are, as flow reads them: facts that the lemmas on the tree rest on.
-use Rattle.std.proofs.Common.{◌≡◌, ℕ, ◌+◌, ◌-◌, ◌≤◌, List, [], ◌∷◌, ◌++◌, length, take, drop, slice_range, ap, ◌∙◌, take-add, drop-drop, arith}
+use Rattle.std.proofs.Common.{◌≡◌, ◌≢◌, ℕ, ◌+◌, ◌-◌, ◌≤◌, List, [], ◌∷◌, ◌++◌, length, take, drop, slice_range, ap, ◌∙◌, take-add, drop-drop, arith}
 use Rattle.std.specs.Prelude.{IsTrue, Some, None}
 use Rattle.md_engine.specs.declared.configuration.ParseOptions.{ParseOptions}
 use Rattle.md_engine.specs.declared.event.Point.{Point}
+use Rattle.md_leaves.specs.HeadingRule.{Apart}
+use Rattle.md_leaves.specs.HeadingTitle.{line_runs}
 use Rattle.md_seam.specs.Nested.{Balanced, Forward, last_point}
 use Rattle.md_seam.specs.Places.{at_or_before, past_text}
 use Rattle.md_seam.proofs.SpelledLemmas.{Roles, Quiet}
 use Rattle.md_seam.proofs.TextsLemmas.{Ending, EndsBefore, NoEnding, ending_bytes}
-use Rattle.markdown_blocks.specs.Rows.{Row, TextRow, line_kind}
+use Rattle.markdown_blocks.specs.Rows.{HeadingRow, Row, TextRow, line_kind}
+
+-- what stands in a line that is no heading: nothing that the tree shows
+pub record IsInside (row : Row) : Type 0 where
+  pub quiet : Roles Quiet row.inside
+  pub balanced : Balanced row.inside
+  pub forward : Forward row.first row.inside
+  pub within : IsTrue (at_or_before (last_point row.first row.inside) row.end)
 
 -- a line without its ending, as a row
 pub record IsRow (options : ParseOptions) (bytes line : List ℕ) (row : Row) : Type 0 where
@@ -21,11 +30,10 @@ pub record IsRow (options : ParseOptions) (bytes line : List ℕ) (row : Row) : 
   pub first_column : 1 ≤ row.first.column
   pub end_whole : row.end.vs ≡ 0
   -- what stands inside
-  pub quiet : Roles Quiet row.inside
-  pub balanced : Balanced row.inside
-  pub forward : Forward row.first row.inside
-  pub within : IsTrue (at_or_before (last_point row.first row.inside) row.end)
+  pub inside : row.kind ≢ HeadingRow → IsInside row
   pub no_inside : row.kind ≡ TextRow → row.inside ≡ []
+  -- in a heading, its runs
+  pub heading : row.kind ≡ HeadingRow → row.inside ≡ line_runs Apart line row.first
 
 -- an ending stands between two points
 pub record IsEnding (bytes : List ℕ) (p q : Point) : Type 0 where

@@ -14,7 +14,10 @@ abbrev pub start_went : World → Went
 start_went w = record { to = Retry s.FlowBlankLineBefore; world = w }
 
 abbrev pub blank_line_before_went : World → Went
-blank_line_before_went w = record { to = Retry s.BlankLineStart; world = tried w (Next s.FlowBlankLineAfter) (Next s.FlowBeforeThematicBreak) }
+blank_line_before_went w = record { to = Retry s.BlankLineStart; world = tried w (Next s.FlowBlankLineAfter) (Next s.FlowBeforeHeadingAtx) }
+
+abbrev pub before_heading_atx_went : World → Went
+before_heading_atx_went w = record { to = Retry s.HeadingAtxStart; world = tried w (Next s.FlowAfter) (Next s.FlowBeforeThematicBreak) }
 
 abbrev pub before_thematic_break_went : World → Went
 before_thematic_break_went w = record { to = Retry s.ThematicBreakStart; world = tried w (Next s.FlowAfter) (Next s.FlowBeforeContent) }
@@ -42,13 +45,15 @@ abbrev pub blank_line_after_went : World → Went
 blank_line_after_went w = ending_went BlankLineEnding (calm w w.current)
 
 abbrev pub flow_rank : StateName → Spot → ℕ
-flow_rank s.FlowStart x = 9
-flow_rank s.FlowBlankLineBefore x = 8
+flow_rank s.FlowStart x = 11
+flow_rank s.FlowBlankLineBefore x = 10
+flow_rank s.FlowBeforeHeadingAtx x = 8
 flow_rank s.FlowBeforeThematicBreak x = 6
 flow_rank s.FlowBeforeContent x = 4
 flow_rank _ x = 0
 
 abbrev pub flow_tries : StateName → ℕ
+flow_tries s.FlowBeforeHeadingAtx = 9
 flow_tries s.FlowBeforeThematicBreak = 7
 flow_tries s.FlowBeforeContent = 5
 flow_tries _ = 1

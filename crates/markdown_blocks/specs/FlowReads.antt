@@ -1,33 +1,38 @@
 -- What flow has read of a text, before and after its resolvers.
 use Rattle.std.specs.Prelude.{◌≡◌, ◌≢◌, ◌⊎◌, ℕ, suc, List, [], ◌∷◌, length, Option}
 use Rattle.md_engine.specs.declared.configuration.ParseOptions.{ParseOptions}
-use Rattle.md_engine.specs.declared.resolve.Name.TheVariants.{Content}
+use Rattle.md_engine.specs.declared.event.Point.{Point}
+use Rattle.md_engine.specs.declared.resolve.Name.TheVariants.{Content, HeadingAtx}
 use Rattle.md_engine.specs.Found.{Found, nothing, with_found}
 use Rattle.md_engine.specs.Meaning.{Cell}
-use Rattle.md_engine.specs.Place.{first_point}
 use Rattle.md_engine.specs.Run.{Resolution}
 use Rattle.md_engine.specs.TextFeed.{text_feed}
 use Rattle.md_engine.specs.World.{Setting, World, fresh, reads_to}
-use Rattle.markdown_blocks.specs.Rows.{Row, TextRow, rows_at, rows_events}
+use Rattle.markdown_blocks.specs.Rows.{HeadingRow, Row, TextRow, rows_at, rows_events}
 
--- all of a text may be read
-abbrev pub text_setting : List ℕ → ParseOptions → Setting
-text_setting bytes options = (reads_to (fresh bytes options first_point) (length bytes)).setting
+-- all of a text may be read, from a point on
+abbrev pub text_setting : List ℕ → ParseOptions → Point → Setting
+text_setting bytes options p = (reads_to (fresh bytes options p) (length bytes)).setting
 
 -- its cells
-abbrev pub text_cells : List ℕ → ParseOptions → List Cell
-text_cells bytes options = text_feed (text_setting bytes options) first_point
+abbrev pub text_cells : List ℕ → ParseOptions → Point → List Cell
+text_cells bytes options p = text_feed (text_setting bytes options p) p
 
 -- its lines, as flow reads them
-abbrev pub text_rows : ParseOptions → List ℕ → List Row
-text_rows options bytes = rows_at options (suc (length (text_cells bytes options))) (text_cells bytes options) first_point
+abbrev pub text_rows : ParseOptions → List ℕ → Point → List Row
+text_rows options bytes p = rows_at options (suc (length (text_cells bytes options p))) (text_cells bytes options p) p
 
--- each line is blank or a break
+-- no line is content
 abbrev pub NoText : List Row → Type 0
 NoText [] = Unit {0}
 NoText (row ∷ rows) = (row.kind ≢ TextRow) × NoText rows
 
--- no line is content, and no resolver ran
+-- no line is a heading
+abbrev pub NoHeading : List Row → Type 0
+NoHeading [] = Unit {0}
+NoHeading (row ∷ rows) = (row.kind ≢ HeadingRow) × NoHeading rows
+
+-- no line is content, and its resolver did not run
 pub record ReadsNone (rows : List Row) (at : World) (found : Found) (new : World) : Type 0 where
   pub no_text : NoText rows
   pub same : new ≡ at
@@ -39,12 +44,28 @@ pub record ReadsContent (R : Resolution) (at : World) (found : Found) (new : Wor
   pub resolved : R Content at more new
   pub found_is : found ≡ with_found nothing more
 
--- flow has read a text to its end, and then its resolvers ran
-pub record FlowReads (R : Resolution) (bytes : List ℕ) (options : ParseOptions) (found : Found) (new : World) : Type 0 where
+-- no line is a heading, and the resolver of headings did not run
+pub record SetsNone (rows : List Row) (at : World) (was : Found) (found : Found) (new : World) : Type 0 where
+  pub no_heading : NoHeading rows
+  pub same : new ≡ at
+  pub found_is : found ≡ was
+
+-- the resolver of headings ran once
+pub record SetsHeadings (R : Resolution) (at : World) (was : Found) (found : Found) (new : World) : Type 0 where
+  pub more : Option Found
+  pub resolved : R HeadingAtx at more new
+  pub found_is : found ≡ with_found was more
+
+-- flow has read a text from a point to its end, and then its resolvers ran: that of content, and then that of headings
+pub record FlowReads (R : Resolution) (bytes : List ℕ) (options : ParseOptions) (p : Point) (found : Found) (new : World) : Type 0 where
   -- before the resolvers
   pub at : World
-  pub events : at.events ≡ rows_events (text_rows options bytes)
-  pub setting : at.setting ≡ text_setting bytes options
+  pub events : at.events ≡ rows_events (text_rows options bytes p)
+  pub setting : at.setting ≡ text_setting bytes options p
   pub frames : at.frames ≡ []
   pub resolvers : at.resolvers ≡ []
-  pub reads : ReadsNone (text_rows options bytes) at found new ⊎ ReadsContent R at found new
+  -- between them
+  pub mid : World
+  pub mid_found : Found
+  pub reads : ReadsNone (text_rows options bytes p) at mid_found mid ⊎ ReadsContent R at mid_found mid
+  pub sets : SetsNone (text_rows options bytes p) mid mid_found found new ⊎ SetsHeadings R mid mid_found found new

@@ -10,6 +10,8 @@ use Rattle.md_engine.specs.Meaning.{Accepts, Behaviour, Cell, Fails, Here, Outco
 use Rattle.md_content.specs.ChunkRule.{HasChunk, chunk_at, inside_chunk}
 use Rattle.md_leaves.specs.BlankRule.{HasBlank, after_blank, blank_at}
 use Rattle.md_leaves.specs.BreakRule.{HasBreak, Marks, at_break, before_marker, break_at, in_break}
+use Rattle.md_leaves.specs.HeadingRule as heading
+use Rattle.md_leaves.specs.HeadingRule.{HasHeading, Hashes, Text, before_opening, heading_at, in_heading, in_opening}
 use Rattle.md_seam.specs.Ahead.{after_white, inside_white, white_at}
 use Rattle.md_seam.specs.Nested.{pair}
 
@@ -37,12 +39,15 @@ tried (Accepts h rest) onward otherwise = onward rest h
 tried (Refuses s g) onward otherwise = otherwise s g
 tried Fails onward otherwise = Fails
 
--- a line that is neither blank nor a break is content
+-- a line that is neither blank, nor a heading, nor a break is content
 abbrev pub content_of : Rule → Rule
 content_of next cells h = tried (chunk_at cells h) (ended next LineEnding) Refuses
 
+abbrev pub break_of : ParseOptions → Rule → Rule
+break_of options next cells h = tried (break_at options cells h) (ended next LineEnding) (λ s g. content_of next cells (record h { scratch = s; flags = g }))
+
 abbrev pub nonblank_of : ParseOptions → Rule → Rule
-nonblank_of options next cells h = tried (break_at options cells h) (ended next LineEnding) (λ s g. content_of next cells (record h { scratch = s; flags = g }))
+nonblank_of options next cells h = tried (heading_at options cells h) (ended next LineEnding) (λ s g. break_of options next cells (record h { scratch = s; flags = g }))
 
 -- one line, and what follows it
 abbrev pub line_then : ParseOptions → Rule → Rule
@@ -59,12 +64,14 @@ flow_at options cells h = flow_lines options (suc (length cells)) cells h
 
 pub record HasFlow (B : Behaviour) (options : ParseOptions) : Type 0 where
   pub blank : HasBlank B
+  pub heading : HasHeading B options
   pub break : HasBreak B options
   pub chunk : HasChunk B
   pub start : (cells : List Cell) (h : Here) → B s.FlowStart cells h ≡ flow_at options cells h
   pub blank_line_before : (cells : List Cell) (h : Here) → B s.FlowBlankLineBefore cells h ≡ flow_at options cells h
   pub blank_line_after : (cells : List Cell) (h : Here) → B s.FlowBlankLineAfter cells h ≡ blank_ended (flow_at options) cells h
-  pub before_thematic_break : (cells : List Cell) (h : Here) → B s.FlowBeforeThematicBreak cells h ≡ nonblank_of options (flow_at options) cells h
+  pub before_heading_atx : (cells : List Cell) (h : Here) → B s.FlowBeforeHeadingAtx cells h ≡ nonblank_of options (flow_at options) cells h
+  pub before_thematic_break : (cells : List Cell) (h : Here) → B s.FlowBeforeThematicBreak cells h ≡ break_of options (flow_at options) cells h
   pub before_content : (cells : List Cell) (h : Here) → B s.FlowBeforeContent cells h ≡ content_of (flow_at options) cells h
   pub behind : (cells : List Cell) (h : Here) → B s.FlowAfter cells h ≡ ended (flow_at options) LineEnding cells h
 
@@ -76,10 +83,17 @@ flow_behaves options s.ContentChunkStart cells h = chunk_at cells h
 flow_behaves options s.ContentChunkInside cells h = inside_chunk cells h
 flow_behaves options s.FlowStart cells h = flow_at options cells h
 flow_behaves options s.FlowBlankLineBefore cells h = flow_at options cells h
-flow_behaves options s.FlowBeforeThematicBreak cells h = nonblank_of options (flow_at options) cells h
+flow_behaves options s.FlowBeforeHeadingAtx cells h = nonblank_of options (flow_at options) cells h
+flow_behaves options s.FlowBeforeThematicBreak cells h = break_of options (flow_at options) cells h
 flow_behaves options s.FlowBeforeContent cells h = content_of (flow_at options) cells h
 flow_behaves options s.FlowBlankLineAfter cells h = blank_ended (flow_at options) cells h
 flow_behaves options s.FlowAfter cells h = ended (flow_at options) LineEnding cells h
+flow_behaves options s.HeadingAtxStart cells h = heading_at options cells h
+flow_behaves options s.HeadingAtxBefore cells h = before_opening cells h
+flow_behaves options s.HeadingAtxSequenceOpen cells h = in_opening cells h
+flow_behaves options s.HeadingAtxAtBreak cells h = heading.at_break cells h
+flow_behaves options s.HeadingAtxSequenceFurther cells h = in_heading Hashes cells h
+flow_behaves options s.HeadingAtxData cells h = in_heading Text cells h
 flow_behaves options s.SpaceOrTabStart cells h = white_at cells h
 flow_behaves options s.SpaceOrTabInside cells h = inside_white cells h
 flow_behaves options s.SpaceOrTabAfter cells h = after_white cells h

@@ -11,3 +11,4 @@ pub mod Unread
 pub mod Outlined
 pub mod Sketched
 pub mod TextReads
+pub mod Document

@@ -6,7 +6,6 @@ use Rattle.md_engine.specs.declared.parse_state.ParseState.{ParseState}
 use Rattle.md_seam.specs.Meaning.{tree}
 use Rattle.md_seam.specs.Nested.{Nested}
 use Rattle.md_seam.specs.Places.{are_placed}
-use Rattle.md_seam.specs.Preamble.{has_mark}
 use Rattle.md_seam.specs.Spelled.{spelled}
 use Rattle.markdown_blocks.specs.Outlined.{IsOutlined}
 
@@ -14,7 +13,7 @@ use Rattle.markdown_blocks.specs.Outlined.{IsOutlined}
 abbrev pub IsSmall : List ℕ → Type 0
 IsSmall text = length text ≤ (2 ^ 64 - 1) / 8
 
--- the constructs that are asked for are there: breaks alone
+-- the constructs that are asked for are there: ATX headings and breaks alone
 pub record IsBuilt (options : ParseOptions) : Type 0 where
   pub block_quote : options.constructs.block_quote ≡ false
   pub code_fenced : options.constructs.code_fenced ≡ false
@@ -23,7 +22,6 @@ pub record IsBuilt (options : ParseOptions) : Type 0 where
   pub frontmatter : options.constructs.frontmatter ≡ false
   pub gfm_footnote_definition : options.constructs.gfm_footnote_definition ≡ false
   pub gfm_table : options.constructs.gfm_table ≡ false
-  pub heading_atx : options.constructs.heading_atx ≡ false
   pub heading_setext : options.constructs.heading_setext ≡ false
   pub html_flow : options.constructs.html_flow ≡ false
   pub list_item : options.constructs.list_item ≡ false
@@ -34,8 +32,7 @@ pub record IsBuilt (options : ParseOptions) : Type 0 where
   pub mdx_jsx_flow : options.constructs.mdx_jsx_flow ≡ false
   pub mdx_jsx_text : options.constructs.mdx_jsx_text ≡ false
 
--- What is known of a text that was read: its events nest, stand at its points, and spell its tree; and it defines no label. A
--- byte order mark is not yet told from the text.
+-- What is known of a text that was read: its events nest, stand at its points, and spell its tree; and it defines no label.
 pub record IsParsed (text : List ℕ) (options : ParseOptions) (events : List Event) (state : ParseState) : Type 0 where
   pub bytes : state.bytes.now ≡ text
   pub options_are : state.options.now ≡ options
@@ -43,7 +40,7 @@ pub record IsParsed (text : List ℕ) (options : ParseOptions) (events : List Ev
   pub nested : Nested events
   -- each point is one of the text, with the right line and column
   pub placed : IsTrue (are_placed text events)
-  pub tree : has_mark text ≡ false → spelled events text ≡ tree options text
+  pub tree : spelled events text ≡ tree options text
   -- `outline` shows that tree
   pub outlined : IsOutlined events text
   pub definitions : state.definitions.items ≡ []

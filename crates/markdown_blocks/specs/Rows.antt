@@ -1,5 +1,5 @@
 -- The lines of a text as flow reads them, and the events of each.
-use Rattle.std.specs.Prelude.{ℕ, zero, suc, Bool, ◌&&◌, if◌then◌else◌, List, [], ◌∷◌, ◌++◌, Option, Some, None}
+use Rattle.std.specs.Prelude.{ℕ, zero, suc, Bool, ◌&&◌, if◌then◌else◌, List, [], ◌∷◌, ◌++◌, slice_range, Option, Some, None}
 use Rattle.md_engine.specs.declared.configuration.ParseOptions.{ParseOptions}
 use Rattle.md_engine.specs.declared.event.Event.{Event}
 use Rattle.md_engine.specs.declared.event.Name.{Name}
@@ -9,6 +9,8 @@ use Rattle.md_engine.specs.Meaning.{Cell}
 use Rattle.md_content.specs.Chunks.{content_link}
 use Rattle.md_leaves.specs.BlankRule.{blank_events}
 use Rattle.md_leaves.specs.BreakRule.{Apart, runs}
+use Rattle.md_leaves.specs.HeadingRule.{heading_inside, is_heading, is_heading_line}
+use Rattle.md_leaves.specs.HeadingTitle.{Title, title_of}
 use Rattle.md_seam.specs.declared.inline.Chunk.{Chunk}
 use Rattle.md_seam.specs.declared.inline.PartKind.TheVariants.{Text}
 use Rattle.md_seam.specs.Ahead.{begins_white, from_ending, line_bytes, line_cells, line_end, white_end, white_rest}
@@ -18,13 +20,14 @@ use Rattle.md_seam.specs.Nested.{around, enter_link, exit, pair}
 use Rattle.md_seam.specs.Rest.{is_blank, trim_start}
 use Rattle.md_seam.specs.Spaces.{small_indent}
 
--- what a line is where only breaks are on
+-- what a line is where only headings and breaks are on
 pub data RowKind : Type 0 where
   BlankRow : RowKind
+  HeadingRow : RowKind
   BreakRow : RowKind
   TextRow : RowKind
 
--- A line that was read: where it begins, what stands in it if it is blank or a break, where its ending begins, and where it
+-- A line that was read: where it begins, what stands in it unless it is text, where its ending begins, and where it
 -- has ended, if it has an ending.
 pub record Row : Type 0 where
   pub kind : RowKind
@@ -37,6 +40,7 @@ pub record Row : Type 0 where
 abbrev pub line_kind : ParseOptions → List ℕ → RowKind
 line_kind options line =
     if is_blank line then BlankRow
+    else if options.constructs.heading_atx && is_heading (trim_start line) then HeadingRow
     else if options.constructs.thematic_break && is_rule (trim_start line) then BreakRow
     else TextRow
 
@@ -52,7 +56,11 @@ abbrev pub is_break : ParseOptions → List Cell → Bool
 is_break options cells = options.constructs.thematic_break && is_rule (line_bytes (white_rest (small_indent options) cells))
 
 abbrev pub row_kind : ParseOptions → List Cell → RowKind
-row_kind options cells = if is_blank (line_bytes cells) then BlankRow else if is_break options cells then BreakRow else TextRow
+row_kind options cells =
+    if is_blank (line_bytes cells) then BlankRow
+    else if is_heading_line options cells then HeadingRow
+    else if is_break options cells then BreakRow
+    else TextRow
 
 -- what stands in a break: its indent, and its runs
 abbrev pub break_inside : ParseOptions → List Cell → Point → List Event
@@ -64,6 +72,7 @@ break_inside options cells p =
 
 abbrev pub inside_of : ParseOptions → List Cell → Point → RowKind → List Event
 inside_of options cells p BlankRow = blank_events cells p
+inside_of options cells p HeadingRow = heading_inside options cells p
 inside_of options cells p BreakRow = break_inside options cells p
 inside_of options cells p TextRow = []
 
@@ -94,6 +103,7 @@ ending_events name row = elim row.after [ None ↦ [] | Some q ↦ pair name row
 
 abbrev pub row_events_by : RowKind → Row → List Event
 row_events_by BlankRow row = row.inside ++ ending_events n.BlankLineEnding row
+row_events_by HeadingRow row = around n.HeadingAtx row.first row.end row.inside ++ ending_events n.LineEnding row
 row_events_by BreakRow row = around n.ThematicBreak row.first row.end row.inside ++ ending_events n.LineEnding row
 row_events_by TextRow row = enter_link n.Content row.first content_link ∷ exit n.Content row.end ∷ ending_events n.LineEnding row
 
@@ -105,9 +115,32 @@ abbrev pub rows_events : List Row → List Event
 rows_events [] = []
 rows_events (row ∷ rows) = row_events row ++ rows_events rows
 
+-- Headings.
+
+-- the bytes of a line
+abbrev pub row_line : List ℕ → Row → List ℕ
+row_line bytes row = slice_range bytes row.first.index row.end.index
+
+-- the parts of a heading
+abbrev pub row_title : List ℕ → Row → Title
+row_title bytes row = title_of (row_line bytes row) row.first
+
+-- the text of a heading, once it is read
+abbrev pub read_text : List ℕ → Option Chunk → List Event
+read_text bytes None = []
+read_text bytes (Some chunk) = around n.HeadingAtxText chunk.first chunk.after (plain_events bytes (record { kind = Text; chunks = chunk ∷ [] }))
+
+abbrev pub read_title : List ℕ → Title → List Event
+read_title bytes title = title.front ++ read_text bytes title.text ++ title.back
+
+-- the events of a line that is no text, once its parts are read
+abbrev pub single_events_by : List ℕ → RowKind → Row → List Event
+single_events_by bytes HeadingRow row = around n.HeadingAtx row.first row.end (read_title bytes (row_title bytes row)) ++ ending_events n.LineEnding row
+single_events_by bytes kind row = row_events_by kind row
+
 -- Paragraphs.
 
--- a line that is blank or a break, or the lines of a paragraph
+-- a line that is no text, or the lines of a paragraph
 pub data Group : Type 0 where
   Single : Row → Group
   Lines : Row → List Row → Group
@@ -142,7 +175,7 @@ paragraph_events bytes row rows =
     around n.Paragraph row.first last.end (plain_events bytes (record { kind = Text; chunks = chunks_of row rows })) ++ ending_events n.LineEnding last
 
 abbrev pub group_events : List ℕ → Group → List Event
-group_events bytes (Single row) = row_events row
+group_events bytes (Single row) = single_events_by bytes row.kind row
 group_events bytes (Lines row rows) = paragraph_events bytes row rows
 
 -- the events of a text, once all its parts are read

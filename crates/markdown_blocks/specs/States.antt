@@ -1,6 +1,7 @@
 -- The table of flow: which construct has each state, and what each does.
 use Rattle.std.specs.Prelude.{◌≡◌, Bool}
 use Rattle.md_engine.specs.declared.resolve.Name.{Name as ResolveName}
+use Rattle.md_engine.specs.declared.resolve.Name.TheVariants as r
 use Rattle.md_engine.specs.declared.state.Name.{Name as StateName}
 use Rattle.md_engine.specs.declared.state.Name.TheVariants as s
 use Rattle.md_engine.specs.declared.state.State.{State}
@@ -12,6 +13,8 @@ use Rattle.md_leaves.specs.Blank as blank
 use Rattle.md_leaves.specs.Blank.{blank_scheme}
 use Rattle.md_leaves.specs.Break as break
 use Rattle.md_leaves.specs.Break.{break_scheme}
+use Rattle.md_leaves.specs.Heading as heading
+use Rattle.md_leaves.specs.Heading.{heading_scheme}
 use Rattle.md_seam.specs.Spaces as spaces
 use Rattle.md_seam.specs.Spaces.{ends_line, white_scheme}
 use Rattle.md_seam.specs.Went.{Went}
@@ -25,10 +28,17 @@ flow_owner s.ContentChunkStart = chunk_scheme
 flow_owner s.ContentChunkInside = chunk_scheme
 flow_owner s.FlowStart = flow_scheme
 flow_owner s.FlowBlankLineBefore = flow_scheme
+flow_owner s.FlowBeforeHeadingAtx = flow_scheme
 flow_owner s.FlowBeforeThematicBreak = flow_scheme
 flow_owner s.FlowBeforeContent = flow_scheme
 flow_owner s.FlowBlankLineAfter = flow_scheme
 flow_owner s.FlowAfter = flow_scheme
+flow_owner s.HeadingAtxStart = heading_scheme
+flow_owner s.HeadingAtxBefore = heading_scheme
+flow_owner s.HeadingAtxSequenceOpen = heading_scheme
+flow_owner s.HeadingAtxAtBreak = heading_scheme
+flow_owner s.HeadingAtxSequenceFurther = heading_scheme
+flow_owner s.HeadingAtxData = heading_scheme
 flow_owner s.SpaceOrTabStart = white_scheme
 flow_owner s.SpaceOrTabInside = white_scheme
 flow_owner s.SpaceOrTabAfter = white_scheme
@@ -41,28 +51,35 @@ flow_owner _ = nowhere
 abbrev pub flow_table_scheme : Scheme
 flow_table_scheme = of_owners flow_owner
 
--- `is_content` finds the resolver of content among those that are registered
-abbrev pub flow_went : (ResolveName → Bool) → StateName → World → Went
-flow_went is_content s.BlankLineStart w = blank.start_went w
-flow_went is_content s.BlankLineAfter w = blank.after_went w
-flow_went is_content s.ContentChunkStart w = chunk_start_went w
-flow_went is_content s.ContentChunkInside w = chunk_inside_code is_content w (ends_line w.current)
-flow_went is_content s.FlowStart w = flow.start_went w
-flow_went is_content s.FlowBlankLineBefore w = flow.blank_line_before_went w
-flow_went is_content s.FlowBeforeThematicBreak w = flow.before_thematic_break_went w
-flow_went is_content s.FlowBeforeContent w = flow.before_content_went w
-flow_went is_content s.FlowBlankLineAfter w = flow.blank_line_after_went w
-flow_went is_content s.FlowAfter w = flow.after_went w
-flow_went is_content s.SpaceOrTabStart w = spaces.start_went w
-flow_went is_content s.SpaceOrTabInside w = spaces.inside_went w
-flow_went is_content s.SpaceOrTabAfter w = spaces.after_went w
-flow_went is_content s.ThematicBreakStart w = break.start_went w
-flow_went is_content s.ThematicBreakBefore w = break.before_went w
-flow_went is_content s.ThematicBreakAtBreak w = break.at_break_went w
-flow_went is_content s.ThematicBreakSequence w = break.sequence_went w
-flow_went is_content _ w = record { to = Nok; world = w }
+-- `is_name` finds a resolver among those that are registered
+abbrev pub flow_went : (ResolveName → ResolveName → Bool) → StateName → World → Went
+flow_went is_name s.BlankLineStart w = blank.start_went w
+flow_went is_name s.BlankLineAfter w = blank.after_went w
+flow_went is_name s.ContentChunkStart w = chunk_start_went w
+flow_went is_name s.ContentChunkInside w = chunk_inside_code (is_name r.Content) w (ends_line w.current)
+flow_went is_name s.FlowStart w = flow.start_went w
+flow_went is_name s.FlowBlankLineBefore w = flow.blank_line_before_went w
+flow_went is_name s.FlowBeforeHeadingAtx w = flow.before_heading_atx_went w
+flow_went is_name s.FlowBeforeThematicBreak w = flow.before_thematic_break_went w
+flow_went is_name s.FlowBeforeContent w = flow.before_content_went w
+flow_went is_name s.FlowBlankLineAfter w = flow.blank_line_after_went w
+flow_went is_name s.FlowAfter w = flow.after_went w
+flow_went is_name s.HeadingAtxStart w = heading.start_went w
+flow_went is_name s.HeadingAtxBefore w = heading.before_went w
+flow_went is_name s.HeadingAtxSequenceOpen w = heading.sequence_open_went w
+flow_went is_name s.HeadingAtxAtBreak w = heading.at_break_went (is_name r.HeadingAtx) w
+flow_went is_name s.HeadingAtxSequenceFurther w = heading.sequence_further_went w
+flow_went is_name s.HeadingAtxData w = heading.data_went w
+flow_went is_name s.SpaceOrTabStart w = spaces.start_went w
+flow_went is_name s.SpaceOrTabInside w = spaces.inside_went w
+flow_went is_name s.SpaceOrTabAfter w = spaces.after_went w
+flow_went is_name s.ThematicBreakStart w = break.start_went w
+flow_went is_name s.ThematicBreakBefore w = break.before_went w
+flow_went is_name s.ThematicBreakAtBreak w = break.at_break_went w
+flow_went is_name s.ThematicBreakSequence w = break.sequence_went w
+flow_went is_name _ w = record { to = Nok; world = w }
 
 -- what a call of a state does, where there is memory
-pub record FlowStep (is_content : ResolveName → Bool) (name : StateName) (w : World) (to : State) (new : World) : Type 0 where
-  pub to_is : to ≡ (flow_went is_content name w).to
-  pub new_is : new ≡ (flow_went is_content name w).world
+pub record FlowStep (is_name : ResolveName → ResolveName → Bool) (name : StateName) (w : World) (to : State) (new : World) : Type 0 where
+  pub to_is : to ≡ (flow_went is_name name w).to
+  pub new_is : new ≡ (flow_went is_name name w).world

@@ -1,5 +1,5 @@
--- The events of a text where only breaks are on, before all its parts are read.
-use Rattle.std.specs.Prelude.{List, [], ◌∷◌, ◌++◌}
+-- The events of a text where only headings and breaks are on, before all its parts are read.
+use Rattle.std.specs.Prelude.{ℕ, List, [], ◌∷◌, ◌++◌}
 use Rattle.md_engine.specs.declared.event.Event.{Event}
 use Rattle.md_engine.specs.declared.event.Link.{Link}
 use Rattle.md_engine.specs.declared.event.Name.{Name}
@@ -8,7 +8,8 @@ use Rattle.md_content.specs.Chunks.{content_link}
 use Rattle.md_content.specs.Paragraph.{text_link}
 use Rattle.md_seam.specs.declared.inline.Chunk.{Chunk}
 use Rattle.md_seam.specs.Nested.{around, enter_link, exit}
-use Rattle.markdown_blocks.specs.Rows.{Group, Lines, Row, Single, chunks_of, ending_events, last_row, row_events}
+use Rattle.md_leaves.specs.HeadingTitle.{unread_title}
+use Rattle.markdown_blocks.specs.Rows.{Group, HeadingRow, Lines, Row, RowKind, Single, chunks_of, ending_events, last_row, row_events, row_events_by, row_title}
 
 -- the chunks of a part that is not read yet
 abbrev pub linked : Name → Link → List Chunk → List Event
@@ -35,3 +36,17 @@ unread_group (Lines row rows) = unread_paragraph row rows ++ ending_events n.Lin
 abbrev pub unread_groups : List Group → List Event
 unread_groups [] = []
 unread_groups (group ∷ groups) = unread_group group ++ unread_groups groups
+
+-- Headings whose text is set, and not read yet.
+
+abbrev pub titled_row_by : List ℕ → RowKind → Row → List Event
+titled_row_by bytes HeadingRow row = around n.HeadingAtx row.first row.end (unread_title (row_title bytes row)) ++ ending_events n.LineEnding row
+titled_row_by bytes kind row = row_events_by kind row
+
+abbrev pub titled_group : List ℕ → Group → List Event
+titled_group bytes (Single row) = titled_row_by bytes row.kind row
+titled_group bytes (Lines row rows) = unread_group (Lines row rows)
+
+abbrev pub titled_groups : List ℕ → List Group → List Event
+titled_groups bytes [] = []
+titled_groups bytes (group ∷ groups) = titled_group bytes group ++ titled_groups bytes groups

@@ -9,24 +9,30 @@ use Rattle.md_engine.specs.declared.event.Point.{Point}
 use Rattle.md_engine.specs.declared.tokenizer.Frame.{Frame}
 use Rattle.md_engine.specs.Place.{IsPlaced}
 use Rattle.md_engine.specs.Sound.{IsSaved, IsSound}
-use Rattle.md_leaves.specs.HeadingText.{Before, Outside, Place, Within, around, begins, ends, headings_resolved, is_data, is_heading, resolved}
+use Rattle.md_leaves.specs.HeadingText.{Before, Opened, Outside, Place, Within, begins, ends, headings_resolved, is_data, is_heading, is_run, is_sequence, linked_text, resolved, text_between}
 use Rattle.md_leaves.specs.HeadingWalk.{Walked, finished, in_all, stepped, stepped_from}
-use Rattle.md_seam.specs.Nested.{enter, exit}
+use Rattle.md_leaves.specs.Heading.{heading_link}
+use Rattle.md_seam.specs.Nested.{enter, enter_link, exit}
 use Rattle.md_seam.specs.Parts.{ArePlaced}
 
 step-from : (all : List Event) (p : Place) (e : Event) (es : List Event) → in_all (stepped_from all p e) es ≡ all ++ resolved p (e ∷ es)
 step-from all Outside e es = append_assoc all (e ∷ []) _
-step-from all Before e es = go (begins is_data e) refl
+step-from all Before e es = append_assoc all (e ∷ []) _
+step-from all Opened e es = go (begins is_run e) refl
   where
-    go : (x : Bool) → begins is_data e ≡ x → in_all (stepped_from all Before e) es ≡ all ++ resolved Before (e ∷ es)
+    go : (x : Bool) → begins is_run e ≡ x → in_all (stepped_from all Opened e) es ≡ all ++ resolved Opened (e ∷ es)
     go true k = rw k refl
     go false k = rw k (append_assoc all (e ∷ []) _)
-step-from all (Within first last behind) e es = go (ends is_data e) (ends is_heading e) refl refl
+step-from all (Within first after last closing since) e es = go (ends is_data e) (ends is_sequence e) (ends is_heading e) refl refl refl
   where
-    go : (x y : Bool) → ends is_data e ≡ x → ends is_heading e ≡ y → in_all (stepped_from all (Within first last behind) e) es ≡ all ++ resolved (Within first last behind) (e ∷ es)
-    go true y k m = rw k refl
-    go false true k m = rw (k, m) (simp append_assoc)
-    go false false k m = rw (k, m) refl
+    place : Place
+    place = Within first after last closing since
+
+    go : (x y z : Bool) → ends is_data e ≡ x → ends is_sequence e ≡ y → ends is_heading e ≡ z → in_all (stepped_from all place e) es ≡ all ++ resolved place (e ∷ es)
+    go true y z k l m = rw k refl
+    go false true z k l m = rw (k, l) refl
+    go false false true k l m = rw (k, l, m) (simp append_assoc)
+    go false false false k l m = rw (k, l, m) refl
 
 -- one event more
 pub walk-next : (w new : Walked) (events all : List Event) (i : ℕ) (e : Event) → drop i events ≡ e ∷ drop (i + 1) events → new ≡ stepped w e → in_all w (drop i events) ≡ all → in_all new (drop (i + 1) events) ≡ all
@@ -39,71 +45,94 @@ walk-ends w all is = go w.place refl
     go : (p : Place) → w.place ≡ p → finished w ≡ all
     go Outside e = let same : in_all w [] ≡ w.given = rw e (append-nil w.given) in rw e (sym same ∙ is)
     go Before e = let same : in_all w [] ≡ w.given = rw e (append-nil w.given) in rw e (sym same ∙ is)
-    go (Within first last behind) e = let same : in_all w [] ≡ w.given ++ around first last ++ behind = rw e (sym (append_assoc w.given (around first last) behind)) in rw e (sym same ∙ is)
+    go Opened e = let same : in_all w [] ≡ w.given = rw e (append-nil w.given) in rw e (sym same ∙ is)
+    go (Within first after last closing since) e = let same : in_all w [] ≡ w.given ++ text_between first after ++ closing ++ since = rw e (simp append_assoc) in rw e (sym same ∙ is)
 
 -- Events that stand at places of the text still do.
 
 abbrev Stands : List ℕ → Event → Type 0
 Stands bytes e = IsPlaced bytes e.point
 
-around-placed : (bytes : List ℕ) (first : Event) (last : Option Event) → Stands bytes first → IfSome last (Stands bytes) → ArePlaced bytes (around first last)
-around-placed bytes first None a b = All-cons (Stands bytes) first [] a (All-nil (Stands bytes))
-around-placed bytes first (Some last) a b =
-    let begin = enter n.HeadingAtxText first.point in
-    let end = exit n.HeadingAtxText last.point in
-    All-cons (Stands bytes) begin (first ∷ last ∷ end ∷ []) a (All-cons (Stands bytes) first (last ∷ end ∷ []) a
+linked-placed : (bytes : List ℕ) (first after : Point) → IsPlaced bytes first → IsPlaced bytes after → ArePlaced bytes (linked_text (Some (record { first = first; after = after })))
+linked-placed bytes first after a b =
+    let begin = enter_link n.Data first heading_link in
+    let last = exit n.Data after in
+    let end = exit n.HeadingAtxText after in
+    All-cons (Stands bytes) (enter n.HeadingAtxText first) (begin ∷ last ∷ end ∷ []) a (All-cons (Stands bytes) begin (last ∷ end ∷ []) a
     (All-cons (Stands bytes) last (end ∷ []) b (All-cons (Stands bytes) end [] b (All-nil (Stands bytes)))))
 
-record IsHeld (bytes : List ℕ) (first : Event) (last : Option Event) (behind : List Event) : Type 0 where
-  first_is : Stands bytes first
-  last_is : IfSome last (Stands bytes)
-  behind_is : ArePlaced bytes behind
+text-placed : (bytes : List ℕ) (first : Point) (after : Option Point) → IsPlaced bytes first → IfSome after (IsPlaced bytes) → ArePlaced bytes (text_between first after)
+text-placed bytes first None a b = All-nil (Stands bytes)
+text-placed bytes first (Some after) a b = linked-placed bytes first after a b
+
+record IsHeld (bytes : List ℕ) (first : Point) (after last : Option Point) (closing since : List Event) : Type 0 where
+  first_is : IsPlaced bytes first
+  after_is : IfSome after (IsPlaced bytes)
+  last_is : IfSome last (IsPlaced bytes)
+  closing_is : ArePlaced bytes closing
+  since_is : ArePlaced bytes since
 
 abbrev HoldsPlaced : List ℕ → Place → Type 0
-HoldsPlaced bytes (Within first last behind) = IsHeld bytes first last behind
+HoldsPlaced bytes (Within first after last closing since) = IsHeld bytes first after last closing since
 HoldsPlaced bytes Outside = Unit {0}
 HoldsPlaced bytes Before = Unit {0}
+HoldsPlaced bytes Opened = Unit {0}
 
-free : (bytes : List ℕ) (x : Bool) → HoldsPlaced bytes (cond x Before Outside)
-free bytes true = tt
-free bytes false = tt
+either : (bytes : List ℕ) (x : Bool) (p q : Place) → HoldsPlaced bytes p → HoldsPlaced bytes q → HoldsPlaced bytes (cond x p q)
+either bytes true p q h k = h
+either bytes false p q h k = k
 
-free-ends : (bytes : List ℕ) (x : Bool) → HoldsPlaced bytes (cond x Outside Before)
-free-ends bytes true = tt
-free-ends bytes false = tt
+given : (bytes : List ℕ) (first : Point) (after last : Option Point) (closing since : List Event) → IsHeld bytes first after last closing since → ArePlaced bytes (text_between first after ++ closing ++ since)
+given bytes first after last closing since h =
+    All-append (Stands bytes) (text_between first after ++ closing) since (All-append (Stands bytes) (text_between first after) closing (text-placed bytes first after h.first_is h.after_is) h.closing_is) h.since_is
 
 resolved-placed : (bytes : List ℕ) (p : Place) (es : List Event) → HoldsPlaced bytes p → ArePlaced bytes es → ArePlaced bytes (resolved p es)
 resolved-placed bytes Outside [] h k = k
 resolved-placed bytes Before [] h k = k
-resolved-placed bytes (Within first last behind) [] h k = All-append (Stands bytes) (around first last) behind (around-placed bytes first last h.first_is h.last_is) h.behind_is
+resolved-placed bytes Opened [] h k = k
+resolved-placed bytes (Within first after last closing since) [] h k = given bytes first after last closing since h
 resolved-placed bytes Outside (e ∷ es) h k =
     let p : Place = cond (begins is_heading e) Before Outside in
-    All-cons (Stands bytes) e (resolved p es) (All-head (Stands bytes) e es k) (resolved-placed bytes p es (free bytes (begins is_heading e)) (All-tail (Stands bytes) e es k))
+    All-cons (Stands bytes) e (resolved p es) (All-head (Stands bytes) e es k) (resolved-placed bytes p es (either bytes (begins is_heading e) Before Outside tt tt) (All-tail (Stands bytes) e es k))
 resolved-placed bytes Before (e ∷ es) h k =
+    let q : Place = cond (ends is_heading e) Outside Before in
+    let p : Place = cond (ends is_sequence e) Opened q in
+    All-cons (Stands bytes) e (resolved p es) (All-head (Stands bytes) e es k)
+    (resolved-placed bytes p es (either bytes (ends is_sequence e) Opened q tt (either bytes (ends is_heading e) Outside Before tt tt)) (All-tail (Stands bytes) e es k))
+resolved-placed bytes Opened (e ∷ es) h k =
     let here = All-head (Stands bytes) e es k in
     let rest = All-tail (Stands bytes) e es k in
-    go (begins is_data e) refl here
-    (resolved-placed bytes (Within e None []) es (record { first_is = here; last_is = tt; behind_is = All-nil (Stands bytes) }) rest)
-    (resolved-placed bytes (cond (ends is_heading e) Outside Before) es (free-ends bytes (ends is_heading e)) rest)
+    let q : Place = cond (ends is_heading e) Outside Opened in
+    go (begins is_run e) refl here
+    (resolved-placed bytes (Within e.point None None [] (e ∷ [])) es
+    (record { first_is = here; after_is = tt; last_is = tt; closing_is = All-nil (Stands bytes); since_is = All-cons (Stands bytes) e [] here (All-nil (Stands bytes)) }) rest)
+    (resolved-placed bytes q es (either bytes (ends is_heading e) Outside Opened tt tt) rest)
   where
-    go : (x : Bool) → begins is_data e ≡ x → Stands bytes e → ArePlaced bytes (resolved (Within e None []) es) → ArePlaced bytes (resolved (cond (ends is_heading e) Outside Before) es) → ArePlaced bytes (resolved Before (e ∷ es))
+    go : (x : Bool) → begins is_run e ≡ x → Stands bytes e → ArePlaced bytes (resolved (Within e.point None None [] (e ∷ [])) es) → ArePlaced bytes (resolved (cond (ends is_heading e) Outside Opened) es) → ArePlaced bytes (resolved Opened (e ∷ es))
     go true is here a b = rw is a
-    go false is here a b = rw is (All-cons (Stands bytes) e (resolved (cond (ends is_heading e) Outside Before) es) here b)
-resolved-placed bytes (Within first last behind) (e ∷ es) h k =
+    go false is here a b = rw is (All-cons (Stands bytes) e (resolved (cond (ends is_heading e) Outside Opened) es) here b)
+resolved-placed bytes (Within first after last closing since) (e ∷ es) h k =
     let here = All-head (Stands bytes) e es k in
     let rest = All-tail (Stands bytes) e es k in
-    go (ends is_data e) (ends is_heading e) refl refl here
-    (resolved-placed bytes (Within first (Some e) []) es (record { first_is = h.first_is; last_is = here; behind_is = All-nil (Stands bytes) }) rest)
+    let more = All-push (Stands bytes) since e h.since_is here in
+    let nil = All-nil (Stands bytes) in
+    go (ends is_data e) (ends is_sequence e) (ends is_heading e) refl refl refl here
+    (resolved-placed bytes (Within first (Some e.point) (Some e.point) [] []) es (record { first_is = h.first_is; after_is = here; last_is = here; closing_is = nil; since_is = nil }) rest)
+    (resolved-placed bytes (Within first last (Some e.point) (since ++ e ∷ []) []) es (record { first_is = h.first_is; after_is = h.last_is; last_is = here; closing_is = more; since_is = nil }) rest)
     (resolved-placed bytes Outside es tt rest)
-    (resolved-placed bytes (Within first last (behind ++ e ∷ [])) es (record { first_is = h.first_is; last_is = h.last_is; behind_is = All-push (Stands bytes) behind e h.behind_is here }) rest)
+    (resolved-placed bytes (Within first after last closing (since ++ e ∷ [])) es (record { first_is = h.first_is; after_is = h.after_is; last_is = h.last_is; closing_is = h.closing_is; since_is = more }) rest)
   where
-    go : (x y : Bool) → ends is_data e ≡ x → ends is_heading e ≡ y → Stands bytes e → ArePlaced bytes (resolved (Within first (Some e) []) es) → ArePlaced bytes (resolved Outside es) →
-        ArePlaced bytes (resolved (Within first last (behind ++ e ∷ [])) es) → ArePlaced bytes (resolved (Within first last behind) (e ∷ es))
-    go true y is has here a b c = rw is a
-    go false true is has here a b c = rw (is, has) (All-append (Stands bytes) (around first last ++ behind) (e ∷ resolved Outside es)
-        (All-append (Stands bytes) (around first last) behind (around-placed bytes first last h.first_is h.last_is) h.behind_is)
-        (All-cons (Stands bytes) e (resolved Outside es) here b))
-    go false false is has here a b c = rw (is, has) c
+    place : Place
+    place = Within first after last closing since
+
+    go : (x y z : Bool) → ends is_data e ≡ x → ends is_sequence e ≡ y → ends is_heading e ≡ z → Stands bytes e → ArePlaced bytes (resolved (Within first (Some e.point) (Some e.point) [] []) es) →
+        ArePlaced bytes (resolved (Within first last (Some e.point) (since ++ e ∷ []) []) es) → ArePlaced bytes (resolved Outside es) →
+        ArePlaced bytes (resolved (Within first after last closing (since ++ e ∷ [])) es) → ArePlaced bytes (resolved place (e ∷ es))
+    go true y z is run has here a b c d = rw is a
+    go false true z is run has here a b c d = rw (is, run) b
+    go false false true is run has here a b c d = rw (is, run, has)
+        (All-append (Stands bytes) (text_between first after ++ closing ++ since) (e ∷ resolved Outside es) (given bytes first after last closing since h) (All-cons (Stands bytes) e (resolved Outside es) here c))
+    go false false false is run has here a b c d = rw (is, run, has) d
 
 pub headings-placed : (bytes : List ℕ) (events : List Event) → ArePlaced bytes events → ArePlaced bytes (headings_resolved events)
 headings-placed bytes events h = resolved-placed bytes Outside events tt h

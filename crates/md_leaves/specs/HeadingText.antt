@@ -1,11 +1,15 @@
--- The text of an ATX heading, among the events: one part from its first `Data` to its last.
-use Rattle.std.specs.Prelude.{Bool, true, false, ◌&&◌, if◌then◌else◌, List, [], ◌∷◌, ◌++◌, Option, Some, None}
+-- The text of an ATX heading, among the events: one part from the run behind its opening sequence to the last run that is
+-- no closing sequence (CommonMark 4.2).
+use Rattle.std.specs.Prelude.{Bool, true, false, ◌&&◌, ◌||◌, if◌then◌else◌, List, [], ◌∷◌, ◌++◌, Option, Some, None}
 use Rattle.md_engine.specs.declared.event.Event.{Event}
 use Rattle.md_engine.specs.declared.event.Kind.{Kind}
 use Rattle.md_engine.specs.declared.event.Kind.TheVariants.{Enter, Exit}
 use Rattle.md_engine.specs.declared.event.Name.{Name}
 use Rattle.md_engine.specs.declared.event.Name.TheVariants as n
-use Rattle.md_seam.specs.Nested.{enter, exit}
+use Rattle.md_engine.specs.declared.event.Point.{Point}
+use Rattle.md_leaves.specs.Heading.{heading_link}
+use Rattle.md_seam.specs.declared.inline.Chunk.{Chunk}
+use Rattle.md_seam.specs.Nested.{around, enter_link, exit}
 
 abbrev pub is_heading : Name → Bool
 is_heading n.HeadingAtx = true
@@ -14,6 +18,14 @@ is_heading _ = false
 abbrev pub is_data : Name → Bool
 is_data n.Data = true
 is_data _ = false
+
+abbrev pub is_sequence : Name → Bool
+is_sequence n.HeadingAtxSequence = true
+is_sequence _ = false
+
+-- a run of `#`, or text
+abbrev pub is_run : Name → Bool
+is_run name = is_data name || is_sequence name
 
 abbrev pub is_enter : Kind → Bool
 is_enter Enter = true
@@ -30,32 +42,43 @@ begins is_name e = is_enter e.kind && is_name e.name
 abbrev pub ends : (Name → Bool) → Event → Bool
 ends is_name e = is_exit e.kind && is_name e.name
 
--- the text of a heading: one `Data` from the begin of the first to the end of the last, if one has ended
-abbrev pub around : Event → Option Event → List Event
-around first None = first ∷ []
-around first (Some last) = enter n.HeadingAtxText first.point ∷ first ∷ last ∷ exit n.HeadingAtxText last.point ∷ []
+-- the text of a heading, as one part that is read later
+abbrev pub linked_text : Option Chunk → List Event
+linked_text None = []
+linked_text (Some chunk) = around n.HeadingAtxText chunk.first chunk.after (enter_link n.Data chunk.first heading_link ∷ exit n.Data chunk.after ∷ [])
 
--- where a walk over the events stands
+-- the text between two points, if it has an end
+abbrev pub text_between : Point → Option Point → List Event
+text_between first None = []
+text_between first (Some after) = linked_text (Some (record { first = first; after = after }))
+
+-- Where a walk over the events stands.
 pub data Place : Type 0 where
   Outside : Place
-  -- in a heading, before its first `Data`
+  -- in a heading, before the end of its opening sequence
   Before : Place
-  -- behind the begin of its first `Data` and the end of the last so far, with the events behind that
-  Within : Event → Option Event → List Event → Place
+  -- behind it, before a further run
+  Opened : Place
+  -- behind the begin of a further run: where the first such run begins; where the text ends, if there is text; where the last
+  -- run has ended; the events behind the text up to that end; and the events behind that end
+  Within : Point → Option Point → Option Point → List Event → List Event → Place
 
--- what is left of the events from a place on; those between the first `Data` and the last are dropped
+-- what is left of the events from a place on: a run of `#` closes the heading, until another run begins behind it
 abbrev pub resolved : Place → List Event → List Event
 resolved Outside [] = []
 resolved Before [] = []
-resolved (Within first last behind) [] = around first last ++ behind
+resolved Opened [] = []
+resolved (Within first after last closing since) [] = text_between first after ++ closing ++ since
 resolved Outside (e ∷ es) = e ∷ resolved (if begins is_heading e then Before else Outside) es
-resolved Before (e ∷ es) =
-    if begins is_data e then resolved (Within e None []) es
-    else e ∷ resolved (if ends is_heading e then Outside else Before) es
-resolved (Within first last behind) (e ∷ es) =
-    if ends is_data e then resolved (Within first (Some e) []) es
-    else if ends is_heading e then around first last ++ behind ++ e ∷ resolved Outside es
-    else resolved (Within first last (behind ++ e ∷ [])) es
+resolved Before (e ∷ es) = e ∷ resolved (if ends is_sequence e then Opened else if ends is_heading e then Outside else Before) es
+resolved Opened (e ∷ es) =
+    if begins is_run e then resolved (Within e.point None None [] (e ∷ [])) es
+    else e ∷ resolved (if ends is_heading e then Outside else Opened) es
+resolved (Within first after last closing since) (e ∷ es) =
+    if ends is_data e then resolved (Within first (Some e.point) (Some e.point) [] []) es
+    else if ends is_sequence e then resolved (Within first last (Some e.point) (since ++ e ∷ []) []) es
+    else if ends is_heading e then text_between first after ++ closing ++ since ++ e ∷ resolved Outside es
+    else resolved (Within first after last closing (since ++ e ∷ [])) es
 
 -- the events with the text of each heading set
 abbrev pub headings_resolved : List Event → List Event

@@ -4,38 +4,41 @@ use Rattle.md_engine.specs.declared.event.Event.{Event}
 use Rattle.md_leaves.specs.declared.heading_text.Stage.{Stage}
 use Rattle.md_leaves.specs.declared.heading_text.Stage.TheVariants as stage
 use Rattle.md_leaves.specs.declared.heading_text.Walk.{Walk}
-use Rattle.md_leaves.specs.HeadingText.{Before, Outside, Place, Within, around, begins, ends, is_data, is_heading, resolved}
+use Rattle.md_leaves.specs.HeadingText.{Before, Opened, Outside, Place, Within, begins, ends, is_data, is_heading, is_run, is_sequence, resolved, text_between}
 
 -- what is given so far, and where the walk stands
 pub record Walked : Type 0 where
   pub given : List Event
   pub place : Place
 
-abbrev pub place_of : Stage → List Event → Place
-place_of stage.Outside behind = Outside
-place_of stage.Before behind = Before
-place_of (stage.Within first last) behind = Within first last behind
+abbrev pub place_of : Stage → List Event → List Event → Place
+place_of stage.Outside closing since = Outside
+place_of stage.Before closing since = Before
+place_of stage.Opened closing since = Opened
+place_of (stage.Within text) closing since = Within text.first text.after text.last closing since
 
 abbrev pub walk_of : Walk → Walked
-walk_of w = record { given = w.all.items; place = place_of w.stage w.behind.items }
+walk_of w = record { given = w.all.items; place = place_of w.stage w.closing.items w.since.items }
 
 -- the walk with one event more
 abbrev pub stepped_from : List Event → Place → Event → Walked
 stepped_from all Outside e = record { given = all ++ e ∷ []; place = if begins is_heading e then Before else Outside }
-stepped_from all Before e =
-    if begins is_data e then record { given = all; place = Within e None [] }
-    else record { given = all ++ e ∷ []; place = if ends is_heading e then Outside else Before }
-stepped_from all (Within first last behind) e =
-    if ends is_data e then record { given = all; place = Within first (Some e) [] }
-    else if ends is_heading e then record { given = all ++ around first last ++ behind ++ e ∷ []; place = Outside }
-    else record { given = all; place = Within first last (behind ++ e ∷ []) }
+stepped_from all Before e = record { given = all ++ e ∷ []; place = if ends is_sequence e then Opened else if ends is_heading e then Outside else Before }
+stepped_from all Opened e =
+    if begins is_run e then record { given = all; place = Within e.point None None [] (e ∷ []) }
+    else record { given = all ++ e ∷ []; place = if ends is_heading e then Outside else Opened }
+stepped_from all (Within first after last closing since) e =
+    if ends is_data e then record { given = all; place = Within first (Some e.point) (Some e.point) [] [] }
+    else if ends is_sequence e then record { given = all; place = Within first last (Some e.point) (since ++ e ∷ []) [] }
+    else if ends is_heading e then record { given = all ++ text_between first after ++ closing ++ since ++ e ∷ []; place = Outside }
+    else record { given = all; place = Within first after last closing (since ++ e ∷ []) }
 
 abbrev pub stepped : Walked → Event → Walked
 stepped w e = stepped_from w.given w.place e
 
 -- what is given at the end
 abbrev pub finished_from : List Event → Place → List Event
-finished_from all (Within first last behind) = all ++ around first last ++ behind
+finished_from all (Within first after last closing since) = all ++ text_between first after ++ closing ++ since
 finished_from all _ = all
 
 abbrev pub finished : Walked → List Event

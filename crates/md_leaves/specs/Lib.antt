@@ -8,3 +8,4 @@ pub mod BlankRule
 pub mod BomRule
 pub mod BreakRule
 pub mod HeadingRule
+pub mod HeadingTitle

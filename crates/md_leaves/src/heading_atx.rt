@@ -3,7 +3,8 @@
 //     heading_atx ::= small_indent 1*6'#' [ 1*space_or_tab line [ 1*space_or_tab 1*'#' ] ] *space_or_tab
 //
 // The states add `HeadingAtx` around runs of the line: `HeadingAtxSequence`, `SpaceOrTab` and linked `Data`. When all of it
-// is read, `resolve` puts `HeadingAtxText` around what lies between the first `Data` and the last, as one `Data`.
+// is read, `resolve` puts `HeadingAtxText` around what lies behind the opening sequence, up to the last run that does not
+// close the heading, as one `Data`.
 
 ghost use Rattle.std.specs.Prelude.{◌≡◌, ◌≢◌, [], IfOk, None};
 ghost use Rattle.std.specs.Option.{option_map};
@@ -28,6 +29,13 @@ use md_seam::space_or_tab::{is_space_or_tab, small_indent, space_or_tab, space_o
 
 /// An opening sequence has at most so many `#`.
 const OPENING: usize = 6;
+
+/// What is text of a heading is read later.
+pub(crate) const TEXT_LINK: Link = Link {
+    previous: None,
+    next: None,
+    content: Content::Text,
+};
 
 /// Before a heading.
 ///
@@ -144,12 +152,7 @@ pub fn at_break(tokenizer: &mut Tokenizer) -> State
             State::Retry(StateName::HeadingAtxSequenceFurther)
         }
         Some(_) => {
-            let link = Link {
-                previous: None,
-                next: None,
-                content: Content::Text,
-            };
-            or_error!(tokenizer.enter_link(Name::Data, link));
+            or_error!(tokenizer.enter_link(Name::Data, TEXT_LINK));
             State::Retry(StateName::HeadingAtxData)
         }
     }
@@ -198,7 +201,7 @@ pub fn data(tokenizer: &mut Tokenizer) -> State
     }
 }
 
-/// Sets the text of each heading: from its first `Data` to its last.
+/// Sets the text of each heading: what follows its opening sequence, without a closing one and the whitespace around it.
 ///
 /// After an `Err` the parse has failed, and the tokenizer is only dropped.
 pub fn resolve(tokenizer: &mut Tokenizer) -> Result<Option<Subresult>, Message>

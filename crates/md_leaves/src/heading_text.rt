@@ -1,10 +1,11 @@
 // The text of each ATX heading, in one walk over the events.
 
-ghost use Rattle.std.specs.Prelude.{◌≡◌, ℕ, List, [], ◌∷◌, ◌++◌, ◌&&◌, IfOk, OnOk};
-ghost use Rattle.md_leaves.specs.HeadingText.{around, begins, ends, headings_resolved, is_data, is_heading};
+ghost use Rattle.std.specs.Prelude.{◌≡◌, ℕ, List, [], ◌∷◌, ◌++◌, IfOk, OnOk};
+ghost use Rattle.md_leaves.specs.HeadingText.{begins, ends, headings_resolved, is_data, is_heading, is_run, is_sequence, text_between};
 ghost use Rattle.md_seam.specs.Parts.{ArePlaced};
 
-use md_engine::event::{Event, Kind, Name};
+use crate::heading_atx::TEXT_LINK;
+use md_engine::event::{Event, Kind, Name, Point};
 use md_engine::message::Message;
 use std::alloc::Global;
 
@@ -22,14 +23,21 @@ fn ends_heading(event: &Event) -> bool
     matches!(event.kind, Kind::Exit) && matches!(event.name, Name::HeadingAtx)
 }
 
-/// Whether a `Data` begins here.
-fn begins_data(event: &Event) -> bool
-    ensures { result ≡ begins is_data event.now }
+/// Whether a run of `#` or of text begins here.
+fn begins_run(event: &Event) -> bool
+    ensures { result ≡ begins is_run event.now }
 {
-    matches!(event.kind, Kind::Enter) && matches!(event.name, Name::Data)
+    matches!(event.kind, Kind::Enter) && matches!(event.name, Name::Data | Name::HeadingAtxSequence)
 }
 
-/// Whether a `Data` ends here.
+/// Whether a run of `#` ends here.
+fn ends_sequence(event: &Event) -> bool
+    ensures { result ≡ ends is_sequence event.now }
+{
+    matches!(event.kind, Kind::Exit) && matches!(event.name, Name::HeadingAtxSequence)
+}
+
+/// Whether a run of text ends here.
 fn ends_data(event: &Event) -> bool
     ensures { result ≡ ends is_data event.now }
 {
@@ -46,39 +54,69 @@ fn push(events: &mut Vec<Event>, event: Event) -> Result<(), Message>
     Ok(())
 }
 
-/// Appends the text of a heading: one `Data` from the first to the last.
-fn push_text(events: &mut Vec<Event>, first: Event, last: Option<Event>) -> Result<(), Message>
-    ensures { OnOk result (events.new.items ≡ events.old.items ++ around first last) }
+/// Appends the events of another list, and leaves that empty.
+fn append(events: &mut Vec<Event>, more: &mut Vec<Event>) -> Result<(), Message>
+    ensures items { OnOk result (events.new.items ≡ events.old.items ++ more.old.items) }
+    ensures more { OnOk result (more.new.items ≡ []) }
 {
-    let Some(last) = last else {
-        return push(events, first);
-    };
-    let begin = Event {
-        kind: Kind::Enter,
-        name: Name::HeadingAtxText,
-        point: first.point,
-        link: None,
-    };
-    let end = Event {
-        kind: Kind::Exit,
-        name: Name::HeadingAtxText,
-        point: last.point,
-        link: None,
-    };
-    push(events, begin)?;
-    push(events, first)?;
-    push(events, last)?;
-    push(events, end)
+    if events.append(more).is_err() {
+        return Err(Message);
+    }
+    Ok(())
 }
 
-/// How far a walk has come in a heading.
+/// An event without a link.
+fn plain(kind: Kind, name: Name, point: Point) -> Event
+    ensures { result ≡ record { kind = kind; name = name; point = point; link = None } }
+{
+    Event {
+        kind,
+        name,
+        point,
+        link: None,
+    }
+}
+
+/// Appends the text between two points, as one part that is read later; nothing if it has no end.
+fn push_text(events: &mut Vec<Event>, first: Point, after: Option<Point>) -> Result<(), Message>
+    ensures { OnOk result (events.new.items ≡ events.old.items ++ text_between first after) }
+{
+    let Some(after) = after else {
+        return Ok(());
+    };
+    let data = Event {
+        kind: Kind::Enter,
+        name: Name::Data,
+        point: first,
+        link: Some(TEXT_LINK),
+    };
+    push(events, plain(Kind::Enter, Name::HeadingAtxText, first))?;
+    push(events, data)?;
+    push(events, plain(Kind::Exit, Name::Data, after))?;
+    push(events, plain(Kind::Exit, Name::HeadingAtxText, after))
+}
+
+/// Where a walk over the events stands.
 #[derive(Clone, Copy)]
 enum Stage {
     Outside,
-    /// In a heading, before its first `Data`.
+    /// In a heading, before the end of its opening sequence.
     Before,
-    /// From the first `Data` on, with the end of the last.
-    Within(Event, Option<Event>),
+    /// Behind it, before a further run.
+    Opened,
+    /// Behind the begin of a further run.
+    Within(Text),
+}
+
+/// The text of a heading, as far as it is known.
+#[derive(Clone, Copy)]
+struct Text {
+    /// Where the first run begins.
+    first: Point,
+    /// Where the text ends, if there is some: behind the last run, or behind the one before if the last is of `#`.
+    after: Option<Point>,
+    /// Where the last run has ended.
+    last: Option<Point>,
 }
 
 /// A walk over the events.
@@ -87,8 +125,10 @@ struct Walk {
     /// What is given for the events so far, up to the text that is open.
     all: Vec<Event>,
     stage: Stage,
-    /// What stands behind that text.
-    behind: Vec<Event>,
+    /// What stands behind that text up to the end of the last run: a run of `#`, which may close the heading.
+    closing: Vec<Event>,
+    /// What stands behind that end.
+    since: Vec<Event>,
 }
 
 impl Walk {
@@ -105,15 +145,33 @@ impl Walk {
         push(&mut self.all, event)
     }
 
-    /// Goes on with an event of a heading before its text.
+    /// Goes on with an event of a heading up to the end of its opening sequence.
     fn step_before(&mut self, event: Event) -> Result<(), Message>
         requires { self.old.stage ≡ Stage.Before }
         ensures { OnOk result (walk_of self.new ≡ stepped (walk_of self.old) event) }
     {
-        if begins_data(&event) {
-            self.stage = Stage::Within(event, None);
-            self.behind.clear();
-            return Ok(());
+        if ends_sequence(&event) {
+            self.stage = Stage::Opened;
+        } else if ends_heading(&event) {
+            self.stage = Stage::Outside;
+        }
+        push(&mut self.all, event)
+    }
+
+    /// Goes on with an event of a heading between its opening sequence and a further run.
+    fn step_opened(&mut self, event: Event) -> Result<(), Message>
+        requires { self.old.stage ≡ Stage.Opened }
+        ensures { OnOk result (walk_of self.new ≡ stepped (walk_of self.old) event) }
+    {
+        if begins_run(&event) {
+            self.stage = Stage::Within(Text {
+                first: event.point,
+                after: None,
+                last: None,
+            });
+            self.closing.clear();
+            self.since.clear();
+            return push(&mut self.since, event);
         }
         if ends_heading(&event) {
             self.stage = Stage::Outside;
@@ -122,36 +180,44 @@ impl Walk {
     }
 
     /// Gives the text that is open, and what stands behind it.
-    fn give_text(&mut self, first: Event, last: Option<Event>) -> Result<(), Message>
-        ensures all { OnOk result (self.new.all.items ≡ self.old.all.items ++ around first last ++ self.old.behind.items) }
+    fn give_text(&mut self, text: Text) -> Result<(), Message>
+        ensures all { OnOk result (self.new.all.items ≡ self.old.all.items ++ text_between text.first text.after ++ self.old.closing.items ++ self.old.since.items) }
         ensures stage { self.new.stage ≡ self.old.stage }
     {
-        push_text(&mut self.all, first, last)?;
-        if self.all.append(&mut self.behind).is_err() {
-            return Err(Message);
-        }
-        Ok(())
+        push_text(&mut self.all, text.first, text.after)?;
+        append(&mut self.all, &mut self.closing)?;
+        append(&mut self.all, &mut self.since)
     }
 
-    /// Goes on with an event from the first `Data` of a heading on.
-    fn step_within(
-        &mut self,
-        first: Event,
-        last: Option<Event>,
-        event: Event,
-    ) -> Result<(), Message>
-        requires { self.old.stage ≡ Stage.Within first last }
+    /// Goes on with an event of a heading from its first further run on.
+    fn step_within(&mut self, text: Text, event: Event) -> Result<(), Message>
+        requires { self.old.stage ≡ Stage.Within text }
         ensures { OnOk result (walk_of self.new ≡ stepped (walk_of self.old) event) }
     {
         if ends_data(&event) {
-            self.stage = Stage::Within(first, Some(event));
-            self.behind.clear();
+            self.stage = Stage::Within(Text {
+                first: text.first,
+                after: Some(event.point),
+                last: Some(event.point),
+            });
+            self.closing.clear();
+            self.since.clear();
             return Ok(());
         }
-        if !ends_heading(&event) {
-            return push(&mut self.behind, event);
+        if ends_sequence(&event) {
+            self.stage = Stage::Within(Text {
+                first: text.first,
+                after: text.last,
+                last: Some(event.point),
+            });
+            self.closing.clear();
+            append(&mut self.closing, &mut self.since)?;
+            return push(&mut self.closing, event);
         }
-        self.give_text(first, last)?;
+        if !ends_heading(&event) {
+            return push(&mut self.since, event);
+        }
+        self.give_text(text)?;
         self.stage = Stage::Outside;
         push(&mut self.all, event)
     }
@@ -163,7 +229,8 @@ impl Walk {
         match self.stage {
             Stage::Outside => self.step_outside(event),
             Stage::Before => self.step_before(event),
-            Stage::Within(first, last) => self.step_within(first, last, event),
+            Stage::Opened => self.step_opened(event),
+            Stage::Within(text) => self.step_within(text, event),
         }
     }
 
@@ -171,14 +238,14 @@ impl Walk {
     fn finish(mut self) -> Result<Vec<Event>, Message>
         ensures { IfOk result (λ events. events.items ≡ finished (walk_of self)) }
     {
-        if let Stage::Within(first, last) = self.stage {
-            self.give_text(first, last)?;
+        if let Stage::Within(text) = self.stage {
+            self.give_text(text)?;
         }
         Ok(self.all)
     }
 }
 
-/// The events with the text of each heading set: from its first `Data` to its last.
+/// The events with the text of each heading set: from the run behind its opening sequence to the last that does not close it.
 pub fn put_texts(alloc: Global, events: &[Event]) -> Result<Vec<Event>, Message>
     ensures events { IfOk result (λ all. all.items ≡ headings_resolved events.now) }
     ensures placed { IfOk result (λ all. (bytes : List ℕ) → ArePlaced bytes events.now → ArePlaced bytes all.items) }
@@ -186,7 +253,8 @@ pub fn put_texts(alloc: Global, events: &[Event]) -> Result<Vec<Event>, Message>
     let mut walk = Walk {
         all: Vec::new(alloc),
         stage: Stage::Outside,
-        behind: Vec::new(alloc),
+        closing: Vec::new(alloc),
+        since: Vec::new(alloc),
     };
     for event in events {
         walk.step(*event)?;

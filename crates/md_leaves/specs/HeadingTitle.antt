@@ -1,0 +1,57 @@
+-- What stands in an ATX heading, by the bytes of its line (CommonMark 4.2).
+use Rattle.std.specs.Prelude.{ℕ, ◌+◌, ◌==◌, if◌then◌else◌, List, [], ◌∷◌, ◌++◌, length, take, drop, Option, Some, None}
+use Rattle.std.specs.List.{prefix_len}
+use Rattle.md_engine.specs.declared.event.Event.{Event}
+use Rattle.md_engine.specs.declared.event.Point.{Point}
+use Rattle.md_leaves.specs.HeadingRule.{Apart, Run, begun, closes, goes_on, opens}
+use Rattle.md_leaves.specs.HeadingText.{linked_text}
+use Rattle.md_seam.specs.declared.inline.Chunk.{Chunk}
+use Rattle.md_seam.specs.Leaves.{heading_text}
+use Rattle.md_seam.specs.Places.{past_byte, past_text}
+use Rattle.md_seam.specs.Rest.{is_white, run_len}
+
+-- the runs that are left of a line: each is one part, as long as it can be
+abbrev pub line_runs : Run → List ℕ → Point → List Event
+line_runs run [] p = closes run p
+line_runs run (b ∷ bs) p = if goes_on run b then line_runs run bs (past_byte b p) else closes run p ++ opens (begun b) p ++ line_runs (begun b) bs (past_byte b p)
+
+-- The parts of a heading: its opening sequence with the whitespace around it, its text, and what stands behind that.
+pub record Title : Type 0 where
+  pub front : List Event
+  pub text : Option Chunk
+  pub back : List Event
+
+-- how many bytes stand before the text
+abbrev pub front_len : List ℕ → ℕ
+front_len line =
+    let indent = prefix_len is_white line in
+    let depth = run_len 35 (drop indent line) in
+    indent + depth + prefix_len is_white (drop (indent + depth) line)
+
+-- the text of a heading on this line
+abbrev pub text_of : List ℕ → List ℕ
+text_of line =
+    let indent = prefix_len is_white line in
+    let depth = run_len 35 (drop indent line) in
+    heading_text (drop (indent + depth) line)
+
+-- the chunk of a text of so many bytes, unless it is empty
+abbrev pub chunk_unless_empty : ℕ → Point → Point → Option Chunk
+chunk_unless_empty size p q = if size == 0 then None else Some (record { first = p; after = q })
+
+-- the parts of a heading on a line that begins at this point
+abbrev pub title_of : List ℕ → Point → Title
+title_of line p =
+    let first = front_len line in
+    let size = length (text_of line) in
+    let begin = past_text (take first line) p in
+    let end = past_text (take (first + size) line) p in
+    record {
+      front = line_runs Apart (take first line) p;
+      text = chunk_unless_empty size begin end;
+      back = line_runs Apart (drop (first + size) line) end;
+    }
+
+-- its events, with a text that is not read yet
+abbrev pub unread_title : Title → List Event
+unread_title title = title.front ++ linked_text title.text ++ title.back
