@@ -25,3 +25,4 @@ pub mod TextCuts
 pub mod Sketches
 pub mod PlainEvents
 pub mod ParagraphReads
+pub mod TitleFacts
