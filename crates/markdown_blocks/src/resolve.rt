@@ -11,6 +11,7 @@ use md_engine::message::Message;
 pub use md_engine::resolve::Name;
 use md_engine::subtokenize::Subresult;
 use md_engine::tokenizer::Tokenizer;
+use md_leaves::heading_atx;
 
 /// Runs the resolver of this name; changes nothing for names of the inline layer.
 ///
@@ -22,6 +23,7 @@ pub fn call(tokenizer: &mut Tokenizer, name: Name) -> Result<Option<Subresult>, 
 {
     match name {
         Name::Content => content::resolve(tokenizer),
+        Name::HeadingAtx => heading_atx::resolve(tokenizer),
         _ => Ok(None),
     }
 }

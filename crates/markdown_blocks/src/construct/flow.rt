@@ -1,6 +1,6 @@
 // Flow: the leaf blocks of a document or a container (CommonMark 4).
 //
-//     flow ::= *( blank_line | thematic_break | content ) with an ending after each
+//     flow ::= *( blank_line | heading_atx | thematic_break | content ) with an ending after each
 //
 // Each line is tried in this order. It adds `BlankLineEnding` behind a blank line, and `LineEnding` behind any other.
 
@@ -11,7 +11,7 @@ ghost use Rattle.md_engine.specs.declared.resolve.Name.{Name as ResolveName};
 ghost use Rattle.markdown_blocks.specs.States.{flow_table_scheme, flow_went};
 ghost use Rattle.md_engine.specs.declared.state.Name.{Name as StateName};
 ghost use Rattle.md_engine.specs.declared.state.State.{State};
-ghost use Rattle.markdown_blocks.specs.Flow.{after_went, before_content_went, before_thematic_break_went, blank_line_after_went, blank_line_before_went, ending_went, start_went};
+ghost use Rattle.markdown_blocks.specs.Flow.{after_went, before_content_went, before_heading_atx_went, before_thematic_break_went, blank_line_after_went, blank_line_before_went, ending_went, start_went};
 ghost use Rattle.md_seam.specs.Went.{IsAt, NeedsNothing};
 
 use crate::resolve;
@@ -24,7 +24,7 @@ use md_engine::state::{Name as StateName, State};
 use md_engine::subtokenize::Subresult;
 use md_engine::table::Table;
 use md_engine::tokenizer::Tokenizer;
-use md_leaves::{blank_line, thematic_break};
+use md_leaves::{blank_line, heading_atx, thematic_break};
 use md_seam::space_or_tab;
 
 /// At the start of a line.
@@ -54,9 +54,27 @@ pub fn blank_line_before(tokenizer: &mut Tokenizer) -> State
 {
     or_error!(tokenizer.attempt(
         State::Next(StateName::FlowBlankLineAfter),
-        State::Next(StateName::FlowBeforeThematicBreak)
+        State::Next(StateName::FlowBeforeHeadingAtx)
     ));
     State::Retry(StateName::BlankLineStart)
+}
+
+/// Before an ATX heading.
+///
+/// ```markdown
+/// > | # a
+///     ^
+/// ```
+pub fn before_heading_atx(tokenizer: &mut Tokenizer) -> State
+    requires { IsAt NeedsNothing StateName.FlowBeforeHeadingAtx (world tokenizer.old) }
+    ensures to { result ≢ State.Error → result ≡ (before_heading_atx_went (world tokenizer.old)).to }
+    ensures world { result ≢ State.Error → world tokenizer.new ≡ (before_heading_atx_went (world tokenizer.old)).world }
+{
+    or_error!(tokenizer.attempt(
+        State::Next(StateName::FlowAfter),
+        State::Next(StateName::FlowBeforeThematicBreak)
+    ));
+    State::Retry(StateName::HeadingAtxStart)
 }
 
 /// Before a thematic break.
@@ -145,8 +163,8 @@ pub fn after(tokenizer: &mut Tokenizer) -> State
 fn call_state(tokenizer: &mut Tokenizer, name: StateName) -> State
     requires current { (world tokenizer.old).current ≡ looks (world tokenizer.old) }
     requires stands { stands flow_table_scheme (world tokenizer.old) (State.Next name) }
-    ensures to { result ≢ State.Error → result ≡ (flow_went (λ other. ⟦<ResolveName as PartialEq>⟧.eq other ResolveName.Content) name (world tokenizer.old)).to }
-    ensures world { result ≢ State.Error → world tokenizer.new ≡ (flow_went (λ other. ⟦<ResolveName as PartialEq>⟧.eq other ResolveName.Content) name (world tokenizer.old)).world }
+    ensures to { result ≢ State.Error → result ≡ (flow_went (λ target other. ⟦<ResolveName as PartialEq>⟧.eq other target) name (world tokenizer.old)).to }
+    ensures world { result ≢ State.Error → world tokenizer.new ≡ (flow_went (λ target other. ⟦<ResolveName as PartialEq>⟧.eq other target) name (world tokenizer.old)).world }
 {
     match name {
         StateName::BlankLineStart => blank_line::start(tokenizer),
@@ -155,10 +173,17 @@ fn call_state(tokenizer: &mut Tokenizer, name: StateName) -> State
         StateName::ContentChunkInside => content::chunk_inside(tokenizer),
         StateName::FlowStart => start(tokenizer),
         StateName::FlowBlankLineBefore => blank_line_before(tokenizer),
+        StateName::FlowBeforeHeadingAtx => before_heading_atx(tokenizer),
         StateName::FlowBeforeThematicBreak => before_thematic_break(tokenizer),
         StateName::FlowBeforeContent => before_content(tokenizer),
         StateName::FlowBlankLineAfter => blank_line_after(tokenizer),
         StateName::FlowAfter => after(tokenizer),
+        StateName::HeadingAtxStart => heading_atx::start(tokenizer),
+        StateName::HeadingAtxBefore => heading_atx::before(tokenizer),
+        StateName::HeadingAtxSequenceOpen => heading_atx::sequence_open(tokenizer),
+        StateName::HeadingAtxAtBreak => heading_atx::at_break(tokenizer),
+        StateName::HeadingAtxSequenceFurther => heading_atx::sequence_further(tokenizer),
+        StateName::HeadingAtxData => heading_atx::data(tokenizer),
         StateName::SpaceOrTabStart => space_or_tab::start(tokenizer),
         StateName::SpaceOrTabInside => space_or_tab::inside(tokenizer),
         StateName::SpaceOrTabAfter => space_or_tab::after(tokenizer),
@@ -177,7 +202,7 @@ impl Table for FlowTable {
     ghost use Rattle.markdown_blocks.specs.Resolved.{resolved_as};
     ghost use Rattle.markdown_blocks.specs.States.{FlowStep};
 
-    ghost step = { FlowStep (λ other. ⟦<ResolveName as PartialEq>⟧.eq other ResolveName.Content) };
+    ghost step = { FlowStep (λ target other. ⟦<ResolveName as PartialEq>⟧.eq other target) };
 
     ghost scheme = { flow_table_scheme };
 
