@@ -10,6 +10,7 @@ use Rattle.md_engine.specs.Meaning.{Accepts, Cell, Fails, Here, Outcome, Refuses
 use Rattle.md_content.specs.ChunkRule.{chunk_at, inside_chunk}
 use Rattle.md_leaves.specs.BlankRule.{blank_at}
 use Rattle.md_leaves.specs.BreakRule.{before_marker, break_at}
+use Rattle.md_leaves.specs.HeadingRule.{before_opening, heading_at, in_heading, is_heading}
 use Rattle.md_seam.specs.Ahead.{begins_white, from_ending, line_bytes}
 use Rattle.md_seam.specs.Leaves.{is_rule}
 use Rattle.md_seam.specs.Rest.{is_blank}
@@ -60,6 +61,15 @@ unfolding break_at
 break_at-took options cells h = cond-took _ (not options.constructs.thematic_break) _ _ tt
     (cond-took _ (begins_white cells) _ _ (before_marker-took _ _ _ (white_rest-shrinks (small_indent options) cells)) (before_marker-took _ cells _ (omega arith)))
 
+before_opening-took : (n : ℕ) (cells : List Cell) (h : Here) → length cells ≤ n → Took n (before_opening cells h)
+unfolding before_opening in_heading
+before_opening-took n cells h le = cond-took n (is_heading (line_bytes cells)) _ _ (from_ending-at cells, omega (arith, from_ending-shrinks cells)) tt
+
+heading_at-took : (options : ParseOptions) (cells : List Cell) (h : Here) → Took (length cells) (heading_at options cells h)
+unfolding heading_at
+heading_at-took options cells h = cond-took _ (not options.constructs.heading_atx) _ _ tt
+    (cond-took _ (begins_white cells) _ _ (before_opening-took _ _ _ (white_rest-shrinks (small_indent options) cells)) (before_opening-took _ cells _ (omega arith)))
+
 -- a rule that takes shorter texts to their end
 abbrev Ends : ℕ → Rule → Type 0
 Ends n next = (cells : List Cell) (h : Here) → length cells < n → Finishes (next cells h)
@@ -81,8 +91,9 @@ content-finishes next cells h ends = ended-finishes _ next ends LineEnding (from
 line-finishes : (options : ParseOptions) (next : Rule) (cells : List Cell) (h : Here) → Ends (length cells) next → Finishes (line_then options next cells h)
 line-finishes options next cells h ends =
     tried-finishes _ (blank_ended next) _ (blank_at cells h) (blank_at-took cells h) (λ rest k at le. ended-finishes _ next ends BlankLineEnding rest (calmed_at rest k) at le) (λ s g.
-    tried-finishes _ (ended next LineEnding) _ (break_at options cells (record h { scratch = s; flags = g })) (break_at-took options cells _) (ended-finishes _ next ends LineEnding) (λ s' g'.
-    content-finishes next cells (record h { scratch = s'; flags = g' }) ends))
+    tried-finishes _ (ended next LineEnding) _ (heading_at options cells (record h { scratch = s; flags = g })) (heading_at-took options cells _) (ended-finishes _ next ends LineEnding) (λ s' g'.
+    tried-finishes _ (ended next LineEnding) _ (break_at options cells (record h { scratch = s'; flags = g' })) (break_at-took options cells _) (ended-finishes _ next ends LineEnding) (λ s'' g''.
+    content-finishes next cells (record h { scratch = s''; flags = g'' }) ends)))
 
 lines-finish : (options : ParseOptions) (n : ℕ) → Ends n (flow_lines options n)
 unfolding flow_lines

@@ -10,6 +10,7 @@ use Rattle.md_engine.specs.Meaning.{Accepts, Cell, Fails, Here, Outcome, Refuses
 use Rattle.md_content.specs.ChunkRule.{chunk_at, inside_chunk}
 use Rattle.md_leaves.specs.BlankRule.{blank_at}
 use Rattle.md_leaves.specs.BreakRule.{before_marker, break_at}
+use Rattle.md_leaves.specs.HeadingRule.{before_opening, heading_at, in_heading, is_heading}
 use Rattle.md_seam.specs.Ahead.{begins_white, from_ending, line_bytes, white_rest}
 use Rattle.md_seam.specs.Leaves.{is_rule}
 use Rattle.md_seam.specs.Rest.{is_blank, is_white}
@@ -57,6 +58,15 @@ unfolding break_at
 break_at-shrinks options cells h = cond-shrinks _ (not options.constructs.thematic_break) _ _ tt
     (cond-shrinks _ (begins_white cells) _ _ (before_marker-shrinks _ _ _ (white_rest-shrinks (small_indent options) cells)) (before_marker-shrinks _ cells _ (omega arith)))
 
+before_opening-shrinks : (n : ℕ) (cells : List Cell) (h : Here) → length cells ≤ n → Shrinks n (before_opening cells h)
+unfolding before_opening in_heading
+before_opening-shrinks n cells h le = cond-shrinks n (is_heading (line_bytes cells)) _ _ (omega (arith, from_ending-shrinks cells)) tt
+
+heading_at-shrinks : (options : ParseOptions) (cells : List Cell) (h : Here) → Shrinks (length cells) (heading_at options cells h)
+unfolding heading_at
+heading_at-shrinks options cells h = cond-shrinks _ (not options.constructs.heading_atx) _ _ tt
+    (cond-shrinks _ (begins_white cells) _ _ (before_opening-shrinks _ _ _ (white_rest-shrinks (small_indent options) cells)) (before_opening-shrinks _ cells _ (omega arith)))
+
 chunk_at-shrinks : (cells : List Cell) (h : Here) → Shrinks (length cells) (chunk_at cells h)
 unfolding chunk_at inside_chunk
 chunk_at-shrinks cells h = from_ending-shrinks cells
@@ -81,8 +91,9 @@ tried-same n f g agree Fails a b le same = refl
 line_then-same : (options : ParseOptions) (f g : Rule) (cells : List Cell) (h : Here) → Agree (length cells) f g → line_then options f cells h ≡ line_then options g cells h
 line_then-same options f g cells h agree =
     tried-same _ (blank_ended f) (blank_ended g) (λ rest k le. ended-same _ f g agree BlankLineEnding rest (calmed_at rest k) le) (blank_at cells h) _ _ (blank_at-shrinks cells h) (λ s t.
-    tried-same _ (ended f LineEnding) (ended g LineEnding) (ended-same _ f g agree LineEnding) (break_at options cells (record h { scratch = s; flags = t })) _ _ (break_at-shrinks options cells _) (λ s' t'.
-    tried-same _ (ended f LineEnding) (ended g LineEnding) (ended-same _ f g agree LineEnding) (chunk_at cells (record h { scratch = s'; flags = t' })) _ _ (chunk_at-shrinks cells _) (λ _ _. refl)))
+    tried-same _ (ended f LineEnding) (ended g LineEnding) (ended-same _ f g agree LineEnding) (heading_at options cells (record h { scratch = s; flags = t })) _ _ (heading_at-shrinks options cells _) (λ s' t'.
+    tried-same _ (ended f LineEnding) (ended g LineEnding) (ended-same _ f g agree LineEnding) (break_at options cells (record h { scratch = s'; flags = t' })) _ _ (break_at-shrinks options cells _) (λ s'' t''.
+    tried-same _ (ended f LineEnding) (ended g LineEnding) (ended-same _ f g agree LineEnding) (chunk_at cells (record h { scratch = s''; flags = t'' })) _ _ (chunk_at-shrinks cells _) (λ _ _. refl))))
 
 -- more lines than cells change nothing
 enough : (options : ParseOptions) (n m : ℕ) (cells : List Cell) (h : Here) → length cells < n → length cells < m → flow_lines options n cells h ≡ flow_lines options m cells h

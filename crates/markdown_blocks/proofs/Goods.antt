@@ -12,14 +12,16 @@ use Rattle.md_engine.proofs.Points.{stays, takes}
 use Rattle.md_content.specs.Chunks.{chunk_scheme}
 use Rattle.md_leaves.specs.Blank.{blank_scheme}
 use Rattle.md_leaves.specs.Break.{break_scheme}
+use Rattle.md_leaves.specs.Heading.{heading_scheme}
 use Rattle.md_seam.specs.Spaces.{IsRest, rest_ready}
 use Rattle.md_seam.specs.Went.{entered, exited, taken}
 use Rattle.md_seam.proofs.SpacesGoods.{Does, seen-some}
-use Rattle.markdown_blocks.specs.Flow.{before_content_went, before_thematic_break_went, blank_line_before_went, calm, ending_code, flow_scheme, start_went}
+use Rattle.markdown_blocks.specs.Flow.{before_content_went, before_heading_atx_went, before_thematic_break_went, blank_line_before_went, calm, ending_code, flow_scheme, start_went}
 
 pub record FlowFits (T : Scheme) : Type 1 where
   pub start : Fits T flow_scheme n.FlowStart
   pub blank_line_before : Fits T flow_scheme n.FlowBlankLineBefore
+  pub before_heading_atx : Fits T flow_scheme n.FlowBeforeHeadingAtx
   pub before_thematic_break : Fits T flow_scheme n.FlowBeforeThematicBreak
   pub before_content : Fits T flow_scheme n.FlowBeforeContent
   pub blank_line_after : Fits T flow_scheme n.FlowBlankLineAfter
@@ -43,8 +45,15 @@ flow_tries ok nok w K r low_ok low_nok same_ok same_nok = record {
 
 pub good_blank_line_before : (T : Scheme) (w : World) → FlowFits T → Fits T blank_scheme n.BlankLineStart → rest_ready (spot w) (after_all T w.frames) → Does T n.FlowBlankLineBefore w (blank_line_before_went w)
 good_blank_line_before T w has inner r = (
-  begins_try T flow_scheme blank_scheme n.FlowBlankLineBefore n.BlankLineStart w IsRest IsRest w.events w.scratch _ has.blank_line_before inner has.blank_line_after has.before_thematic_break refl
-      (flow_tries n.FlowBlankLineAfter n.FlowBeforeThematicBreak w (after_all T w.frames) r (omega arith) (omega arith) (λ x. refl) (λ x. refl)) (λ K e. (r.0, e)) (omega arith) (omega arith) (omega arith),
+  begins_try T flow_scheme blank_scheme n.FlowBlankLineBefore n.BlankLineStart w IsRest IsRest w.events w.scratch _ has.blank_line_before inner has.blank_line_after has.before_heading_atx refl
+      (flow_tries n.FlowBlankLineAfter n.FlowBeforeHeadingAtx w (after_all T w.frames) r (omega arith) (omega arith) (λ x. refl) (λ x. refl)) (λ K e. (r.0, e)) (omega arith) (omega arith) (omega arith),
+  refl,
+)
+
+pub good_before_heading_atx : (T : Scheme) (w : World) → FlowFits T → Fits T heading_scheme n.HeadingAtxStart → rest_ready (spot w) (after_all T w.frames) → Does T n.FlowBeforeHeadingAtx w (before_heading_atx_went w)
+good_before_heading_atx T w has inner r = (
+  begins_try T flow_scheme heading_scheme n.FlowBeforeHeadingAtx n.HeadingAtxStart w IsRest IsRest w.events w.scratch _ has.before_heading_atx inner has.behind has.before_thematic_break refl
+      (flow_tries n.FlowAfter n.FlowBeforeThematicBreak w (after_all T w.frames) r (omega arith) (omega arith) (λ x. refl) (λ x. refl)) (λ K e. (r.0, e)) (omega arith) (omega arith) (omega arith),
   refl,
 )
 

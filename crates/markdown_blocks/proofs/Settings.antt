@@ -15,6 +15,8 @@ use Rattle.md_engine.specs.World.{World}
 use Rattle.md_content.specs.Chunks.{chunk_inside_code}
 use Rattle.md_leaves.specs.Blank as blank
 use Rattle.md_leaves.specs.Break as break
+use Rattle.md_leaves.specs.Heading as heading
+use Rattle.md_leaves.specs.Heading.{sees_text}
 use Rattle.md_seam.specs.Spaces as spaces
 use Rattle.md_seam.specs.Spaces.{ends_line, is_current, sees_white}
 use Rattle.md_seam.proofs.Settings.{Keeps, KeepsResolving}
@@ -81,28 +83,67 @@ break-sequence w true b = refl
 break-sequence w false true = refl
 break-sequence w false false = refl
 
-went-setting : (is_content : ResolveName → Bool) (name : StateName) (w : World) → (flow_went is_content name w).world.setting ≡ w.setting
-went-setting is_content s.BlankLineStart w = blank-start w (sees_white w.current)
-went-setting is_content s.BlankLineAfter w = blank-after w (ends_line w.current)
-went-setting is_content s.ContentChunkStart w = refl
-went-setting is_content s.ContentChunkInside w = chunk-inside is_content w (ends_line w.current)
-went-setting is_content s.FlowStart w = refl
-went-setting is_content s.FlowBlankLineBefore w = refl
-went-setting is_content s.FlowBeforeThematicBreak w = refl
-went-setting is_content s.FlowBeforeContent w = refl
-went-setting is_content s.FlowBlankLineAfter w = ending BlankLineEnding (flow.calm w w.current) (flow.calm w w.current).current ∙ calm-setting w w.current
-went-setting is_content s.FlowAfter w = ending LineEnding w w.current
-went-setting is_content s.SpaceOrTabStart w = white-start w (sees_white w.current && nat_lt 0 w.scratch.whitespace.max)
-went-setting is_content s.SpaceOrTabInside w = white-inside w (sees_white w.current && nat_lt w.scratch.whitespace.size w.scratch.whitespace.max)
-went-setting is_content s.SpaceOrTabAfter w = white-after w (nat_le w.scratch.whitespace.min w.scratch.whitespace.size)
-went-setting is_content s.ThematicBreakStart w = break-start w w.setting.options.constructs.thematic_break (sees_white w.current)
-went-setting is_content s.ThematicBreakBefore w = break-before w w.current
-went-setting is_content s.ThematicBreakAtBreak w = break-at w (is_current w.scratch.marker w.current) (ends_line w.current && nat_le 3 w.scratch.size)
-went-setting is_content s.ThematicBreakSequence w = break-sequence w (is_current w.scratch.marker w.current) (sees_white w.current)
-went-setting is_content _ w = refl
+heading-start : (w : World) (a b : Bool) → (heading.start_code w a b).world.setting ≡ w.setting
+heading-start w false b = refl
+heading-start w true true = refl
+heading-start w true false = refl
 
-pub flow_keeps : (is_content : ResolveName → Bool) → Keeps (FlowStep is_content)
-flow_keeps is_content = record { setting = λ name w to new step. ap (λ (x : World). x.setting) step.new_is ∙ went-setting is_content name w }
+heading-before : (w : World) (b : Bool) → (heading.before_code w b).world.setting ≡ w.setting
+heading-before w true = refl
+heading-before w false = refl
+
+heading-behind : (w : World) (b : Bool) → (heading.behind_part w b).world.setting ≡ w.setting
+heading-behind w true = refl
+heading-behind w false = refl
+
+heading-open : (w : World) (a b c : Bool) → (heading.sequence_open_code w a b c).world.setting ≡ w.setting
+heading-open w true b c = refl
+heading-open w false true c = refl
+heading-open w false false c = heading-behind _ c
+
+heading-at : (is_name : ResolveName → Bool) (w : World) (a b c : Bool) → (heading.at_break_code is_name w a b c).world.setting ≡ w.setting
+heading-at is_name w true true c = refl
+heading-at is_name w true false c = refl
+heading-at is_name w false b true = refl
+heading-at is_name w false b false = refl
+
+heading-further : (w : World) (a b : Bool) → (heading.sequence_further_code w a b).world.setting ≡ w.setting
+heading-further w true b = refl
+heading-further w false b = heading-behind _ b
+
+heading-data : (w : World) (a b : Bool) → (heading.data_code w a b).world.setting ≡ w.setting
+heading-data w true b = refl
+heading-data w false b = heading-behind _ b
+
+went-setting : (is_name : ResolveName → ResolveName → Bool) (name : StateName) (w : World) → (flow_went is_name name w).world.setting ≡ w.setting
+went-setting is_name s.BlankLineStart w = blank-start w (sees_white w.current)
+went-setting is_name s.BlankLineAfter w = blank-after w (ends_line w.current)
+went-setting is_name s.ContentChunkStart w = refl
+went-setting is_name s.ContentChunkInside w = chunk-inside (is_name r.Content) w (ends_line w.current)
+went-setting is_name s.FlowStart w = refl
+went-setting is_name s.FlowBlankLineBefore w = refl
+went-setting is_name s.FlowBeforeHeadingAtx w = refl
+went-setting is_name s.FlowBeforeThematicBreak w = refl
+went-setting is_name s.FlowBeforeContent w = refl
+went-setting is_name s.FlowBlankLineAfter w = ending BlankLineEnding (flow.calm w w.current) (flow.calm w w.current).current ∙ calm-setting w w.current
+went-setting is_name s.FlowAfter w = ending LineEnding w w.current
+went-setting is_name s.HeadingAtxStart w = heading-start w w.setting.options.constructs.heading_atx (sees_white w.current)
+went-setting is_name s.HeadingAtxBefore w = heading-before w (is_current 35 w.current)
+went-setting is_name s.HeadingAtxSequenceOpen w = heading-open w (is_current 35 w.current && nat_lt w.scratch.size 6) (sees_text w.current) (sees_white w.current)
+went-setting is_name s.HeadingAtxAtBreak w = heading-at (is_name r.HeadingAtx) w (sees_text w.current) (is_current 35 w.current) (ends_line w.current)
+went-setting is_name s.HeadingAtxSequenceFurther w = heading-further w (is_current 35 w.current) (sees_white w.current)
+went-setting is_name s.HeadingAtxData w = heading-data w (sees_text w.current) (sees_white w.current)
+went-setting is_name s.SpaceOrTabStart w = white-start w (sees_white w.current && nat_lt 0 w.scratch.whitespace.max)
+went-setting is_name s.SpaceOrTabInside w = white-inside w (sees_white w.current && nat_lt w.scratch.whitespace.size w.scratch.whitespace.max)
+went-setting is_name s.SpaceOrTabAfter w = white-after w (nat_le w.scratch.whitespace.min w.scratch.whitespace.size)
+went-setting is_name s.ThematicBreakStart w = break-start w w.setting.options.constructs.thematic_break (sees_white w.current)
+went-setting is_name s.ThematicBreakBefore w = break-before w w.current
+went-setting is_name s.ThematicBreakAtBreak w = break-at w (is_current w.scratch.marker w.current) (ends_line w.current && nat_le 3 w.scratch.size)
+went-setting is_name s.ThematicBreakSequence w = break-sequence w (is_current w.scratch.marker w.current) (sees_white w.current)
+went-setting is_name _ w = refl
+
+pub flow_keeps : (is_name : ResolveName → ResolveName → Bool) → Keeps (FlowStep is_name)
+flow_keeps is_name = record { setting = λ name w to new step. ap (λ (x : World). x.setting) step.new_is ∙ went-setting is_name name w }
 
 resolved-setting : (name : ResolveName) (w : World) (found : Option Found) (new : World) → resolved_as name w found new → new.setting ≡ w.setting
 resolved-setting r.Content w found new h = ap (λ (x : World). x.setting) h.rest

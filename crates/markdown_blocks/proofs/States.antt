@@ -1,7 +1,8 @@
 -- Each state of flow keeps what its table needs.
-use Rattle.std.proofs.Common.{◌≡◌, ◌≢◌, ◌<◌, ◌&&◌, Bool, true, false, Option, Some, None, ℕ, refl, ap, ◌∙◌, sym}
+use Rattle.std.proofs.Common.{◌≡◌, ◌≢◌, ◌<◌, ◌&&◌, Bool, true, false, nat_lt, Option, Some, None, ℕ, refl, ap, ◌∙◌, sym}
 use Rattle.md_engine.specs.declared.event.Name.TheVariants as parts
 use Rattle.md_engine.specs.declared.resolve.Name.{Name as ResolveName}
+use Rattle.md_engine.specs.declared.resolve.Name.TheVariants as r
 use Rattle.md_engine.specs.declared.state.Name.{Name as StateName}
 use Rattle.md_engine.specs.declared.state.Name.TheVariants as n
 use Rattle.md_engine.specs.declared.state.State.TheVariants.{Next}
@@ -9,8 +10,11 @@ use Rattle.md_engine.specs.Scheme.{Grows, spot, stands}
 use Rattle.md_engine.specs.World.{World, looks}
 use Rattle.md_engine.proofs.Local.{fits}
 use Rattle.md_content.proofs.Goods.{ChunkFits, good_chunk_inside, good_chunk_start}
+use Rattle.md_leaves.specs.Heading.{sees_text}
 use Rattle.md_leaves.proofs.Goods as leaves
 use Rattle.md_leaves.proofs.Goods.{BlankFits, BreakFits}
+use Rattle.md_leaves.proofs.HeadingGoods as heading
+use Rattle.md_leaves.proofs.HeadingGoods.{HeadingFits}
 use Rattle.md_seam.specs.Spaces.{ends_line, is_current, sees_white}
 use Rattle.md_seam.proofs.SpacesGoods as spaces
 use Rattle.md_seam.proofs.SpacesGoods.{Does, WhiteFits, ends-grow, rest-grows, seen-some}
@@ -34,6 +38,17 @@ break_fits = record {
   sequence = fits flow_owner n.ThematicBreakSequence;
 }
 
+heading_fits : HeadingFits flow_table_scheme
+heading_fits = record {
+  white = white_fits;
+  start = fits flow_owner n.HeadingAtxStart;
+  before = fits flow_owner n.HeadingAtxBefore;
+  sequence_open = fits flow_owner n.HeadingAtxSequenceOpen;
+  at_break = fits flow_owner n.HeadingAtxAtBreak;
+  sequence_further = fits flow_owner n.HeadingAtxSequenceFurther;
+  text = fits flow_owner n.HeadingAtxData;
+}
+
 chunk_fits : ChunkFits flow_table_scheme
 chunk_fits = record { start = fits flow_owner n.ContentChunkStart; inside = fits flow_owner n.ContentChunkInside }
 
@@ -41,6 +56,7 @@ flow_fits : FlowFits flow_table_scheme
 flow_fits = record {
   start = fits flow_owner n.FlowStart;
   blank_line_before = fits flow_owner n.FlowBlankLineBefore;
+  before_heading_atx = fits flow_owner n.FlowBeforeHeadingAtx;
   before_thematic_break = fits flow_owner n.FlowBeforeThematicBreak;
   before_content = fits flow_owner n.FlowBeforeContent;
   blank_line_after = fits flow_owner n.FlowBlankLineAfter;
@@ -63,25 +79,32 @@ white-here w b c e = go w.current c e
     go None k e = cc
     go (Some x) k e = seen-some (spot w) x (sym k)
 
-pub flow_does : (is_content : ResolveName → Bool) (name : StateName) (w : World) → w.current ≡ looks w → stands flow_table_scheme w (Next name) → Does flow_table_scheme name w (flow_went is_content name w)
-flow_does is_content n.BlankLineStart w c r = leaves.good_blank_start flow_table_scheme w _ blank_fits r
-flow_does is_content n.BlankLineAfter w c r = leaves.good_blank_after flow_table_scheme w _ blank_fits r
-flow_does is_content n.ContentChunkStart w c r = good_chunk_start flow_table_scheme w chunk_fits r
-flow_does is_content n.ContentChunkInside w c r = good_chunk_inside flow_table_scheme w is_content (ends_line w.current) chunk_fits r (goes-on w c)
-flow_does is_content n.FlowStart w c r = flow.good_start flow_table_scheme w flow_fits r
-flow_does is_content n.FlowBlankLineBefore w c r = flow.good_blank_line_before flow_table_scheme w flow_fits (fits flow_owner n.BlankLineStart) r
-flow_does is_content n.FlowBeforeThematicBreak w c r = flow.good_before_thematic_break flow_table_scheme w flow_fits (fits flow_owner n.ThematicBreakStart) r
-flow_does is_content n.FlowBeforeContent w c r = flow.good_before_content flow_table_scheme w flow_fits (fits flow_owner n.ContentChunkStart) r
-flow_does is_content n.FlowBlankLineAfter w c r = flow.good_ending flow_table_scheme n.FlowBlankLineAfter parts.BlankLineEnding w (calm w w.current) _ flow_fits (fits flow_owner n.FlowBlankLineAfter) r (sym c ∙ sym (ap (λ (v : World). v.current) (calm-same w w.current))) (calm-same w w.current)
-flow_does is_content n.FlowAfter w c r = flow.good_ending flow_table_scheme n.FlowAfter parts.LineEnding w w w.current flow_fits (fits flow_owner n.FlowAfter) r (sym c) refl
-flow_does is_content n.SpaceOrTabStart w c r = spaces.good_start flow_table_scheme w _ white_fits r
-flow_does is_content n.SpaceOrTabInside w c r = spaces.good_inside flow_table_scheme w _ white_fits r (white-here w _ c)
-flow_does is_content n.SpaceOrTabAfter w c r = spaces.good_after flow_table_scheme w _ white_fits r refl
-flow_does is_content n.ThematicBreakStart w c r = leaves.good_start flow_table_scheme w _ _ break_fits r
-flow_does is_content n.ThematicBreakBefore w c r = leaves.good_before flow_table_scheme w w.current break_fits r
-flow_does is_content n.ThematicBreakAtBreak w c r = leaves.good_at_break flow_table_scheme w _ _ break_fits r (ap (is_current w.scratch.marker) (sym c))
-flow_does is_content n.ThematicBreakSequence w c r = leaves.good_sequence flow_table_scheme w _ _ break_fits r (ap (is_current w.scratch.marker) (sym c)) (ap sees_white (sym c))
-flow_does is_content name w c r = absurd r
+pub flow_does : (is_name : ResolveName → ResolveName → Bool) (name : StateName) (w : World) → w.current ≡ looks w → stands flow_table_scheme w (Next name) → Does flow_table_scheme name w (flow_went is_name name w)
+flow_does is_name n.BlankLineStart w c at = leaves.good_blank_start flow_table_scheme w _ blank_fits at
+flow_does is_name n.BlankLineAfter w c at = leaves.good_blank_after flow_table_scheme w _ blank_fits at
+flow_does is_name n.ContentChunkStart w c at = good_chunk_start flow_table_scheme w chunk_fits at
+flow_does is_name n.ContentChunkInside w c at = good_chunk_inside flow_table_scheme w (is_name r.Content) (ends_line w.current) chunk_fits at (goes-on w c)
+flow_does is_name n.FlowStart w c at = flow.good_start flow_table_scheme w flow_fits at
+flow_does is_name n.FlowBlankLineBefore w c at = flow.good_blank_line_before flow_table_scheme w flow_fits (fits flow_owner n.BlankLineStart) at
+flow_does is_name n.FlowBeforeHeadingAtx w c at = flow.good_before_heading_atx flow_table_scheme w flow_fits (fits flow_owner n.HeadingAtxStart) at
+flow_does is_name n.FlowBeforeThematicBreak w c at = flow.good_before_thematic_break flow_table_scheme w flow_fits (fits flow_owner n.ThematicBreakStart) at
+flow_does is_name n.FlowBeforeContent w c at = flow.good_before_content flow_table_scheme w flow_fits (fits flow_owner n.ContentChunkStart) at
+flow_does is_name n.FlowBlankLineAfter w c at = flow.good_ending flow_table_scheme n.FlowBlankLineAfter parts.BlankLineEnding w (calm w w.current) _ flow_fits (fits flow_owner n.FlowBlankLineAfter) at (sym c ∙ sym (ap (λ (v : World). v.current) (calm-same w w.current))) (calm-same w w.current)
+flow_does is_name n.FlowAfter w c at = flow.good_ending flow_table_scheme n.FlowAfter parts.LineEnding w w w.current flow_fits (fits flow_owner n.FlowAfter) at (sym c) refl
+flow_does is_name n.HeadingAtxStart w c at = heading.good_heading_start flow_table_scheme w _ _ heading_fits at
+flow_does is_name n.HeadingAtxBefore w c at = heading.good_heading_before flow_table_scheme w _ heading_fits at
+flow_does is_name n.HeadingAtxSequenceOpen w c at = heading.good_sequence_open flow_table_scheme w _ _ _ heading_fits at (ap (λ (o : Option ℕ). is_current 35 o && nat_lt w.scratch.size 6) (sym c)) (ap sees_text (sym c)) (ap sees_white (sym c))
+flow_does is_name n.HeadingAtxAtBreak w c at = heading.good_heading_at_break flow_table_scheme w (is_name r.HeadingAtx) _ _ _ heading_fits at (ap sees_text (sym c)) (ap (is_current 35) (sym c))
+flow_does is_name n.HeadingAtxSequenceFurther w c at = heading.good_sequence_further flow_table_scheme w _ _ heading_fits at (ap (is_current 35) (sym c)) (ap sees_white (sym c))
+flow_does is_name n.HeadingAtxData w c at = heading.good_data flow_table_scheme w _ _ heading_fits at (ap sees_text (sym c)) (ap sees_white (sym c))
+flow_does is_name n.SpaceOrTabStart w c at = spaces.good_start flow_table_scheme w _ white_fits at
+flow_does is_name n.SpaceOrTabInside w c at = spaces.good_inside flow_table_scheme w _ white_fits at (white-here w _ c)
+flow_does is_name n.SpaceOrTabAfter w c at = spaces.good_after flow_table_scheme w _ white_fits at refl
+flow_does is_name n.ThematicBreakStart w c at = leaves.good_start flow_table_scheme w _ _ break_fits at
+flow_does is_name n.ThematicBreakBefore w c at = leaves.good_before flow_table_scheme w w.current break_fits at
+flow_does is_name n.ThematicBreakAtBreak w c at = leaves.good_at_break flow_table_scheme w _ _ break_fits at (ap (is_current w.scratch.marker) (sym c))
+flow_does is_name n.ThematicBreakSequence w c at = leaves.good_sequence flow_table_scheme w _ _ break_fits at (ap (is_current w.scratch.marker) (sym c)) (ap sees_white (sym c))
+flow_does is_name name w c at = absurd at
 
 -- the table has no other states
 pub no_other : (name : StateName) (w : World) → stands flow_table_scheme w (Next name)
@@ -91,10 +114,17 @@ pub no_other : (name : StateName) (w : World) → stands flow_table_scheme w (Ne
     → name ≢ n.ContentChunkInside
     → name ≢ n.FlowStart
     → name ≢ n.FlowBlankLineBefore
+    → name ≢ n.FlowBeforeHeadingAtx
     → name ≢ n.FlowBeforeThematicBreak
     → name ≢ n.FlowBeforeContent
     → name ≢ n.FlowBlankLineAfter
     → name ≢ n.FlowAfter
+    → name ≢ n.HeadingAtxStart
+    → name ≢ n.HeadingAtxBefore
+    → name ≢ n.HeadingAtxSequenceOpen
+    → name ≢ n.HeadingAtxAtBreak
+    → name ≢ n.HeadingAtxSequenceFurther
+    → name ≢ n.HeadingAtxData
     → name ≢ n.SpaceOrTabStart
     → name ≢ n.SpaceOrTabInside
     → name ≢ n.SpaceOrTabAfter
@@ -102,42 +132,56 @@ pub no_other : (name : StateName) (w : World) → stands flow_table_scheme w (Ne
     → name ≢ n.ThematicBreakBefore
     → name ≢ n.ThematicBreakAtBreak
     → name ≢ n.ThematicBreakSequence → ⊥
-no_other n.BlankLineStart w r h _ _ _ _ _ _ _ _ _ _ _ _ _ _ _ _ = h refl
-no_other n.BlankLineAfter w r _ h _ _ _ _ _ _ _ _ _ _ _ _ _ _ _ = h refl
-no_other n.ContentChunkStart w r _ _ h _ _ _ _ _ _ _ _ _ _ _ _ _ _ = h refl
-no_other n.ContentChunkInside w r _ _ _ h _ _ _ _ _ _ _ _ _ _ _ _ _ = h refl
-no_other n.FlowStart w r _ _ _ _ h _ _ _ _ _ _ _ _ _ _ _ _ = h refl
-no_other n.FlowBlankLineBefore w r _ _ _ _ _ h _ _ _ _ _ _ _ _ _ _ _ = h refl
-no_other n.FlowBeforeThematicBreak w r _ _ _ _ _ _ h _ _ _ _ _ _ _ _ _ _ = h refl
-no_other n.FlowBeforeContent w r _ _ _ _ _ _ _ h _ _ _ _ _ _ _ _ _ = h refl
-no_other n.FlowBlankLineAfter w r _ _ _ _ _ _ _ _ h _ _ _ _ _ _ _ _ = h refl
-no_other n.FlowAfter w r _ _ _ _ _ _ _ _ _ h _ _ _ _ _ _ _ = h refl
-no_other n.SpaceOrTabStart w r _ _ _ _ _ _ _ _ _ _ h _ _ _ _ _ _ = h refl
-no_other n.SpaceOrTabInside w r _ _ _ _ _ _ _ _ _ _ _ h _ _ _ _ _ = h refl
-no_other n.SpaceOrTabAfter w r _ _ _ _ _ _ _ _ _ _ _ _ h _ _ _ _ = h refl
-no_other n.ThematicBreakStart w r _ _ _ _ _ _ _ _ _ _ _ _ _ h _ _ _ = h refl
-no_other n.ThematicBreakBefore w r _ _ _ _ _ _ _ _ _ _ _ _ _ _ h _ _ = h refl
-no_other n.ThematicBreakAtBreak w r _ _ _ _ _ _ _ _ _ _ _ _ _ _ _ h _ = h refl
-no_other n.ThematicBreakSequence w r _ _ _ _ _ _ _ _ _ _ _ _ _ _ _ _ h = h refl
-no_other name w r _ _ _ _ _ _ _ _ _ _ _ _ _ _ _ _ _ = r
+no_other n.BlankLineStart w at h _ _ _ _ _ _ _ _ _ _ _ _ _ _ _ _ _ _ _ _ _ _ _ = h refl
+no_other n.BlankLineAfter w at _ h _ _ _ _ _ _ _ _ _ _ _ _ _ _ _ _ _ _ _ _ _ _ = h refl
+no_other n.ContentChunkStart w at _ _ h _ _ _ _ _ _ _ _ _ _ _ _ _ _ _ _ _ _ _ _ _ = h refl
+no_other n.ContentChunkInside w at _ _ _ h _ _ _ _ _ _ _ _ _ _ _ _ _ _ _ _ _ _ _ _ = h refl
+no_other n.FlowStart w at _ _ _ _ h _ _ _ _ _ _ _ _ _ _ _ _ _ _ _ _ _ _ _ = h refl
+no_other n.FlowBlankLineBefore w at _ _ _ _ _ h _ _ _ _ _ _ _ _ _ _ _ _ _ _ _ _ _ _ = h refl
+no_other n.FlowBeforeHeadingAtx w at _ _ _ _ _ _ h _ _ _ _ _ _ _ _ _ _ _ _ _ _ _ _ _ = h refl
+no_other n.FlowBeforeThematicBreak w at _ _ _ _ _ _ _ h _ _ _ _ _ _ _ _ _ _ _ _ _ _ _ _ = h refl
+no_other n.FlowBeforeContent w at _ _ _ _ _ _ _ _ h _ _ _ _ _ _ _ _ _ _ _ _ _ _ _ = h refl
+no_other n.FlowBlankLineAfter w at _ _ _ _ _ _ _ _ _ h _ _ _ _ _ _ _ _ _ _ _ _ _ _ = h refl
+no_other n.FlowAfter w at _ _ _ _ _ _ _ _ _ _ h _ _ _ _ _ _ _ _ _ _ _ _ _ = h refl
+no_other n.HeadingAtxStart w at _ _ _ _ _ _ _ _ _ _ _ h _ _ _ _ _ _ _ _ _ _ _ _ = h refl
+no_other n.HeadingAtxBefore w at _ _ _ _ _ _ _ _ _ _ _ _ h _ _ _ _ _ _ _ _ _ _ _ = h refl
+no_other n.HeadingAtxSequenceOpen w at _ _ _ _ _ _ _ _ _ _ _ _ _ h _ _ _ _ _ _ _ _ _ _ = h refl
+no_other n.HeadingAtxAtBreak w at _ _ _ _ _ _ _ _ _ _ _ _ _ _ h _ _ _ _ _ _ _ _ _ = h refl
+no_other n.HeadingAtxSequenceFurther w at _ _ _ _ _ _ _ _ _ _ _ _ _ _ _ h _ _ _ _ _ _ _ _ = h refl
+no_other n.HeadingAtxData w at _ _ _ _ _ _ _ _ _ _ _ _ _ _ _ _ h _ _ _ _ _ _ _ = h refl
+no_other n.SpaceOrTabStart w at _ _ _ _ _ _ _ _ _ _ _ _ _ _ _ _ _ h _ _ _ _ _ _ = h refl
+no_other n.SpaceOrTabInside w at _ _ _ _ _ _ _ _ _ _ _ _ _ _ _ _ _ _ h _ _ _ _ _ = h refl
+no_other n.SpaceOrTabAfter w at _ _ _ _ _ _ _ _ _ _ _ _ _ _ _ _ _ _ _ h _ _ _ _ = h refl
+no_other n.ThematicBreakStart w at _ _ _ _ _ _ _ _ _ _ _ _ _ _ _ _ _ _ _ _ h _ _ _ = h refl
+no_other n.ThematicBreakBefore w at _ _ _ _ _ _ _ _ _ _ _ _ _ _ _ _ _ _ _ _ _ h _ _ = h refl
+no_other n.ThematicBreakAtBreak w at _ _ _ _ _ _ _ _ _ _ _ _ _ _ _ _ _ _ _ _ _ _ h _ = h refl
+no_other n.ThematicBreakSequence w at _ _ _ _ _ _ _ _ _ _ _ _ _ _ _ _ _ _ _ _ _ _ _ h = h refl
+no_other name w at _ _ _ _ _ _ _ _ _ _ _ _ _ _ _ _ _ _ _ _ _ _ _ _ = at
 
 -- what each state needs still holds when more may be read
 pub flow_grows : Grows flow_table_scheme
-flow_grows n.BlankLineStart x K t r up = rest-grows x K t r up
-flow_grows n.BlankLineAfter x K t r up = rest-grows x K t r up
-flow_grows n.ContentChunkStart x K t r up = rest-grows x K t r up
-flow_grows n.ContentChunkInside x K t r up = rest-grows x K t r up
-flow_grows n.FlowStart x K t r up = rest-grows x K t r up
-flow_grows n.FlowBlankLineBefore x K t r up = rest-grows x K t r up
-flow_grows n.FlowBeforeThematicBreak x K t r up = rest-grows x K t r up
-flow_grows n.FlowBeforeContent x K t r up = rest-grows x K t r up
-flow_grows n.FlowBlankLineAfter x K t r up = rest-grows x K t r up
-flow_grows n.FlowAfter x K t r up = rest-grows x K t r up
-flow_grows n.SpaceOrTabStart x K t r up = (r.0, ends-grow _ _ x K t r.1 up)
-flow_grows n.SpaceOrTabInside x K t r up = (r.0, ends-grow _ _ x K t r.1 up)
-flow_grows n.SpaceOrTabAfter x K t r up = (r.0, ends-grow _ _ x K t r.1 up)
-flow_grows n.ThematicBreakStart x K t r up = rest-grows x K t r up
-flow_grows n.ThematicBreakBefore x K t r up = rest-grows x K t r up
-flow_grows n.ThematicBreakAtBreak x K t r up = (record { marker = r.0.marker; size = r.0.size; rest = r.0.rest }, ends-grow _ _ x K t r.1 up)
-flow_grows n.ThematicBreakSequence x K t r up = (record { marker = r.0.marker; size = r.0.size; rest = r.0.rest }, ends-grow _ _ x K t r.1 up)
-flow_grows name x K t r up = absurd r
+flow_grows n.BlankLineStart x K t at up = rest-grows x K t at up
+flow_grows n.BlankLineAfter x K t at up = rest-grows x K t at up
+flow_grows n.ContentChunkStart x K t at up = rest-grows x K t at up
+flow_grows n.ContentChunkInside x K t at up = rest-grows x K t at up
+flow_grows n.FlowStart x K t at up = rest-grows x K t at up
+flow_grows n.FlowBlankLineBefore x K t at up = rest-grows x K t at up
+flow_grows n.FlowBeforeHeadingAtx x K t at up = rest-grows x K t at up
+flow_grows n.FlowBeforeThematicBreak x K t at up = rest-grows x K t at up
+flow_grows n.FlowBeforeContent x K t at up = rest-grows x K t at up
+flow_grows n.FlowBlankLineAfter x K t at up = rest-grows x K t at up
+flow_grows n.FlowAfter x K t at up = rest-grows x K t at up
+flow_grows n.HeadingAtxStart x K t at up = rest-grows x K t at up
+flow_grows n.HeadingAtxBefore x K t at up = rest-grows x K t at up
+flow_grows n.HeadingAtxSequenceOpen x K t at up = (record { size = at.0.size; rest = at.0.rest }, ends-grow _ _ x K t at.1 up)
+flow_grows n.HeadingAtxAtBreak x K t at up = rest-grows x K t at up
+flow_grows n.HeadingAtxSequenceFurther x K t at up = rest-grows x K t at up
+flow_grows n.HeadingAtxData x K t at up = rest-grows x K t at up
+flow_grows n.SpaceOrTabStart x K t at up = (at.0, ends-grow _ _ x K t at.1 up)
+flow_grows n.SpaceOrTabInside x K t at up = (at.0, ends-grow _ _ x K t at.1 up)
+flow_grows n.SpaceOrTabAfter x K t at up = (at.0, ends-grow _ _ x K t at.1 up)
+flow_grows n.ThematicBreakStart x K t at up = rest-grows x K t at up
+flow_grows n.ThematicBreakBefore x K t at up = rest-grows x K t at up
+flow_grows n.ThematicBreakAtBreak x K t at up = (record { marker = at.0.marker; size = at.0.size; rest = at.0.rest }, ends-grow _ _ x K t at.1 up)
+flow_grows n.ThematicBreakSequence x K t at up = (record { marker = at.0.marker; size = at.0.size; rest = at.0.rest }, ends-grow _ _ x K t at.1 up)
+flow_grows name x K t at up = absurd at
