@@ -1,5 +1,6 @@
 // The constructs, one module each.
 
+pub mod document;
 pub mod flow;
 
 pub use md_content::{content, paragraph};

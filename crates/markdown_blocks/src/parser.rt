@@ -1,13 +1,16 @@
 // From a text to events.
 
-ghost use Rattle.std.specs.Prelude.{◌≡◌, IfOk};
+ghost use Rattle.std.specs.Prelude.{◌≡◌, ◌++◌, IfOk};
 ghost use Rattle.md_engine.specs.Found.{found_in};
+ghost use Rattle.md_engine.specs.Place.{IsPlaced};
 ghost use Rattle.md_engine.specs.World.{world};
+ghost use Rattle.markdown_blocks.specs.Document.{ReadsMark};
 ghost use Rattle.markdown_blocks.specs.FlowReads.{FlowReads};
 ghost use Rattle.markdown_blocks.specs.Parsed.{IsBuilt, IsParsed, IsSmall};
 ghost use Rattle.markdown_blocks.specs.Resolved.{resolved_as};
 ghost use Rattle.markdown_blocks.specs.TextReads.{text_kind, wants_text};
 
+use crate::construct::document::DocumentTable;
 use crate::construct::flow::FlowTable;
 use md_engine::configuration::ParseOptions;
 use md_engine::event::{Content, Event, Point};
@@ -69,18 +72,41 @@ impl<I: Inline> Reader for TextReader<'_, '_, I> {
     }
 }
 
-/// Reads the lines of a text by flow, and then its content.
+/// Takes the byte order mark at the front of a text, if there is one.
+///
+/// An `Err` says that memory ran out.
+fn read_mark<'a>(
+    alloc: Global,
+    bytes: &'a [u8],
+    options: &'a ParseOptions,
+) -> Result<Tokenizer<'a>, Message>
+    requires { IsSmall bytes.now }
+    ensures { IfOk result (λ tokenizer. ReadsMark bytes.now (world tokenizer)) }
+{
+    let mut tokenizer = Tokenizer::new(alloc, FIRST_POINT, bytes, options);
+    let start = State::Next(StateName::DocumentStart);
+    let end = match push::<DocumentTable>(&mut tokenizer, bytes.len(), start) {
+        State::Error => return Err(Message),
+        end => end,
+    };
+    flush::<DocumentTable>(&mut tokenizer, end, true)?;
+    Ok(tokenizer)
+}
+
+/// Reads the lines of a text from a point on by flow, and then its content.
 ///
 /// An `Err` says that memory ran out.
 fn read_flow<'a>(
     alloc: Global,
     bytes: &'a [u8],
     options: &'a ParseOptions,
+    start: Point,
 ) -> Result<(Tokenizer<'a>, Subresult), Message>
-    requires { IsSmall bytes.now }
-    ensures { IfOk result (λ read. FlowReads resolved_as bytes.now options.now (found_in read.1) (world read.0)) }
+    requires small { IsSmall bytes.now }
+    requires placed { IsPlaced bytes.now start }
+    ensures { IfOk result (λ read. FlowReads resolved_as bytes.now options.now start (found_in read.1) (world read.0)) }
 {
-    let mut tokenizer = Tokenizer::new(alloc, FIRST_POINT, bytes, options);
+    let mut tokenizer = Tokenizer::new(alloc, start, bytes, options);
     let start = State::Next(StateName::FlowStart);
     let end = match push::<FlowTable>(&mut tokenizer, bytes.len(), start) {
         State::Error => return Err(Message),
@@ -90,10 +116,23 @@ fn read_flow<'a>(
     Ok((tokenizer, found))
 }
 
+/// The events of a text: those of its mark, and behind them all others.
+fn behind_mark(mut mark: Vec<Event>, mut body: Vec<Event>) -> Result<Vec<Event>, Message>
+    ensures { IfOk result (λ events. events.items ≡ mark.items ++ body.items) }
+{
+    if mark.is_empty() {
+        return Ok(body);
+    }
+    if mark.append(&mut body).is_err() {
+        return Err(Message);
+    }
+    Ok(mark)
+}
+
 /// Reads a text: its events, and what else is known of it.
 ///
-/// The text has at most `usize::MAX / 8` bytes, and of the constructs breaks alone may be on. An `Err` says that memory ran
-/// out; then nothing is handed out.
+/// The text has at most `usize::MAX / 8` bytes, and of the constructs ATX headings and breaks alone may be on. A byte order mark
+/// in front of the text is taken as such. An `Err` says that memory ran out; then nothing is handed out.
 pub fn parse<'a>(
     alloc: Global,
     value: &'a str,
@@ -104,7 +143,8 @@ pub fn parse<'a>(
     ensures { IfOk result (λ parsed. IsParsed value.now options.now parsed.0.items parsed.1) }
 {
     let bytes = value.as_bytes();
-    let (tokenizer, found) = read_flow(alloc, bytes, options)?;
+    let front = read_mark(alloc, bytes, options)?;
+    let (tokenizer, found) = read_flow(alloc, bytes, options, front.point)?;
     let state = ParseState {
         options,
         bytes,
@@ -115,6 +155,7 @@ pub fn parse<'a>(
         inline: &Plain,
         state: &state,
     };
-    let events = subtokenize(alloc, &reader, &tokenizer.events)?;
+    let body = subtokenize(alloc, &reader, &tokenizer.events)?;
+    let events = behind_mark(front.events, body)?;
     Ok((events, state))
 }
