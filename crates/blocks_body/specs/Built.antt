@@ -4,9 +4,8 @@ use Rattle.md_engine.specs.declared.configuration.ParseOptions.{ParseOptions}
 use Rattle.md_program.specs.Listing.{Listing}
 use Rattle.md_seam.specs.Meaning.{tree}
 use Rattle.md_seam.specs.Outline.{outline}
-use Rattle.md_seam.specs.Preamble.{has_mark}
 
--- what is asked for, as far as it is there: breaks alone
+-- what is asked for, as far as it is there: ATX headings and breaks alone
 abbrev pub built_from : ParseOptions → ParseOptions
 built_from options = record {
   constructs = record {
@@ -17,7 +16,7 @@ built_from options = record {
     frontmatter = false;
     gfm_footnote_definition = false;
     gfm_table = false;
-    heading_atx = false;
+    heading_atx = options.constructs.heading_atx;
     heading_setext = false;
     html_flow = false;
     list_item = false;
@@ -31,9 +30,8 @@ built_from options = record {
   };
 }
 
--- The listing of a text: the outline of its tree, unless it begins with a byte order mark, which is not yet told from the text;
--- there are no definitions, so no labels.
+-- The listing of a text: the outline of its tree; there are no definitions, so no labels.
 pub record Outlines (text : List ℕ) (options : ParseOptions) (listing : Listing) : Type 0 where
-  pub lines : has_mark text ≡ false → listing.lines ≡ outline 0 (tree options text)
+  pub lines : listing.lines ≡ outline 0 (tree options text)
   pub definitions : listing.definitions ≡ []
   pub footnotes : listing.footnotes ≡ []

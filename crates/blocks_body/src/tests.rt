@@ -30,13 +30,14 @@ const NONE: Constructs = Constructs {
     mdx_jsx_text: false,
 };
 
-// Prints an outline: a paragraph as `p`, a break as `b`, and each line of text between bars.
-fn printed(alloc: Global, text: &str, thematic_break: bool) -> Result<String, Message>
+// Prints an outline: a heading as its markers, a paragraph as `p`, a break as `b`, and each line of text between bars.
+fn printed(alloc: Global, text: &str, is_on: bool) -> Result<String, Message>
     requires { IsSmall text.now }
 {
     let options = ParseOptions {
         constructs: Constructs {
-            thematic_break,
+            heading_atx: is_on,
+            thematic_break: is_on,
             ..NONE
         },
     };
@@ -53,6 +54,12 @@ fn printed(alloc: Global, text: &str, thematic_break: bool) -> Result<String, Me
 
 fn add(all: &mut String, word: Word, text: &str) -> Result<(), AllocError> {
     match word {
+        Word::Heading(depth) => {
+            for _ in 0..depth {
+                all.push_str("#")?;
+            }
+            Ok(())
+        }
         Word::Paragraph => all.push_str("p"),
         Word::Break => all.push_str("b"),
         _ => {
@@ -64,12 +71,12 @@ fn add(all: &mut String, word: Word, text: &str) -> Result<(), AllocError> {
 }
 
 // A run that is refused memory answers so, and the next run is given it.
-fn check(rt: &impl Abort, alloc: Global, text: &str, thematic_break: bool, want: &str)
+fn check(rt: &impl Abort, alloc: Global, text: &str, is_on: bool, want: &str)
     requires { IsSmall text.now }
 {
-    let outline = match printed(alloc, text, thematic_break) {
+    let outline = match printed(alloc, text, is_on) {
         Ok(outline) => Ok(outline),
-        Err(Message) => printed(alloc, text, thematic_break),
+        Err(Message) => printed(alloc, text, is_on),
     };
     match outline {
         Ok(outline) => assert_eq!(rt; outline.as_str(), want, "of {text:?}"),
@@ -88,13 +95,21 @@ fn reads_texts(rt: HostRuntime) {
         ("     * * *\nb", "bp|b|"),
         (" \t***", "b"),
         ("a\r\n\rb", "p|a|p|b|"),
-        ("\u{feff}a", "p|\u{feff}a|"),
+        ("\u{feff}a", "p|a|"),
+        ("a\n\u{feff}", "p|a||\u{feff}|"),
         ("\0", "p|\0|"),
         ("a\r", "p|a|"),
         ("a\r\nb\rc\nd ", "p|a||b||c||d |"),
         ("  \n\t\n", ""),
         ("--\n-- -\n_ _\t_\n* _ *", "p|--|bbp|* _ *|"),
         ("é\n\u{a0}", "p|é||\u{a0}|"),
+        ("# # a", "#|# a|"),
+        ("#\ta ##\t", "#|a|"),
+        ("## a#", "##|a#|"),
+        ("### ###", "###"),
+        ("#######  a", "p|#######  a|"),
+        ("# # #", "#|#|"),
+        ("a\n# é\nb", "p|a|#|é|p|b|"),
     ] {
         if text.len() <= usize::MAX / 8 {
             check(&rt, rt.alloc(), text, true, want);
@@ -103,8 +118,8 @@ fn reads_texts(rt: HostRuntime) {
 }
 
 #[test]
-fn reads_texts_without_breaks(rt: HostRuntime) {
-    check(&rt, rt.alloc(), "***\n\n a", false, "p|***|p|a|");
+fn reads_texts_without_headings_and_breaks(rt: HostRuntime) {
+    check(&rt, rt.alloc(), "***\n\n# a", false, "p|***|p|# a|");
 }
 
 // So many times the same text.

@@ -1,19 +1,26 @@
 -- What an outline has read between two events.
-use Rattle.std.specs.Prelude.{◌≡◌, ℕ, ◌++◌, Bool, true, false, ◌&&◌, ◌==◌, not, if◌then◌else◌, List, [], ◌∷◌, drop, slice_range, Option, Some, None}
+use Rattle.std.specs.Prelude.{◌≡◌, ℕ, ◌++◌, Bool, true, false, ◌&&◌, ◌==◌, nat_lt, not, if◌then◌else◌, List, [], ◌∷◌, length, drop, slice_range, Option, Some, None, option_map}
+use Rattle.std.specs.Borrow.{Bor}
 use Rattle.std.specs.List.{prefix_len}
+use Rattle.std.specs.Str.{IsUtf8}
 use Rattle.md_engine.specs.declared.event.Event.{Event}
 use Rattle.md_engine.specs.declared.event.Kind.{Kind}
 use Rattle.md_engine.specs.declared.event.Kind.TheVariants.{Enter, Exit}
-use Rattle.md_engine.specs.declared.event.Name.{Name}
-use Rattle.md_engine.specs.declared.event.Name.TheVariants as n
 use Rattle.md_seam.specs.declared.outline.Word.TheVariants as word
 use Rattle.md_seam.specs.Lines.{begins_with, is_ending}
-use Rattle.md_seam.specs.Outline.{Entry, block_entries, entries, entry}
+use Rattle.md_seam.specs.Outline.{Entry, block_entries, entries, entries_of, entry}
+use Rattle.md_seam.specs.Spelled.{AsHeading, AsMarkers, AsParagraph, OfBreak, OfHeadingAtx, Opens, Tells}
+use Rattle.md_seam.specs.Spelled as spelled
 use Rattle.md_seam.specs.Texts.{split_lines, trim_each}
 use Rattle.md_seam.specs.Tree.{Break}
 use Rattle.markdown_blocks.specs.Between.{is_between}
-use Rattle.md_seam.specs.Outline.{entries_of}
+use Rattle.markdown_blocks.specs.declared.outline.Leaf.{Leaf}
+use Rattle.markdown_blocks.specs.declared.outline.Leaf.TheVariants as leaf
+use Rattle.markdown_blocks.specs.declared.outline.Purpose.{Purpose}
+use Rattle.markdown_blocks.specs.declared.outline.Purpose.TheVariants as purpose
 use Rattle.markdown_blocks.specs.declared.outline.Reading.{Reading}
+use Rattle.markdown_blocks.specs.declared.outline.Role.{Role}
+use Rattle.markdown_blocks.specs.declared.outline.Role.TheVariants as role
 
 -- Lines of a text.
 
@@ -30,46 +37,128 @@ after_ending (b ∷ bytes) = if (b == 13) && begins_with 10 bytes then drop 1 by
 abbrev pub text_entries : List ℕ → List Entry
 text_entries text = entries 1 word.Line (trim_each (split_lines text))
 
--- What was read between two events: whether a break is open, where the text begins that is read, and the lines so far.
+-- the lines of a paragraph
+abbrev pub paragraph_entries : List ℕ → List Entry
+paragraph_entries text = entry 0 word.Paragraph ∷ text_entries text
+
+-- the lines of a heading's text, if there is one
+abbrev pub title_entries : Option (List ℕ) → List Entry
+title_entries None = []
+title_entries (Some text) = text_entries text
+
+-- a depth as a byte has it
+abbrev pub byte_depth : ℕ → ℕ
+byte_depth markers = if nat_lt markers 256 then markers else 255
+
+-- the lines of a heading
+abbrev pub heading_entries : ℕ → Option (List ℕ) → List Entry
+heading_entries markers text = entry 0 (word.Heading (byte_depth markers)) ∷ title_entries text
+
+-- What the events of a name mean to an outline.
+abbrev pub shown_as : spelled.Role → Role
+shown_as (Opens OfBreak) = role.Break
+shown_as (Opens OfHeadingAtx) = role.Heading
+shown_as (Tells AsParagraph) = role.Text purpose.Paragraph
+shown_as (Tells AsMarkers) = role.Text purpose.Markers
+shown_as (Tells AsHeading) = role.Text purpose.Title
+shown_as _ = role.Quiet
+
+-- A leaf block that is open: a break, or a heading with the number of its markers and its text.
+pub data LeafSketch : Type 0 where
+  BreakSketch : LeafSketch
+  HeadingSketch : ℕ → Option (List ℕ) → LeafSketch
+
+-- the bytes that are lent, if some are
+abbrev pub bytes_of : Option (Bor (List ℕ)) → Option (List ℕ)
+bytes_of text = option_map (λ t. t.now) text
+
+abbrev pub leaf_sketch : Leaf → LeafSketch
+leaf_sketch leaf.Break = BreakSketch
+leaf_sketch (leaf.Heading markers text) = HeadingSketch markers (bytes_of text)
+
+-- the leaf behind a run of so many markers
+abbrev pub marked : ℕ → LeafSketch → LeafSketch
+marked count BreakSketch = BreakSketch
+marked count (HeadingSketch markers text) = HeadingSketch (if markers == 0 then count else markers) text
+
+-- the leaf with this text
+abbrev pub titled : List ℕ → LeafSketch → LeafSketch
+titled text BreakSketch = BreakSketch
+titled text (HeadingSketch markers before) = HeadingSketch markers (Some text)
+
+abbrev pub leaf_entries : LeafSketch → List Entry
+leaf_entries BreakSketch = block_entries 0 Break
+leaf_entries (HeadingSketch markers text) = heading_entries markers text
+
+-- What was read between two events: the leaf that is open, where the text begins that is read, and the lines so far.
 pub record Sketch : Type 0 where
-  pub in_break : Bool
+  pub leaf : Option LeafSketch
   pub text : Option ℕ
   pub lines : List Entry
 
 abbrev pub sketch_of : Reading → Sketch
-sketch_of r = record { in_break = r.in_break; text = r.text; lines = entries_of r.lines.items }
+sketch_of r = record { leaf = option_map leaf_sketch r.leaf; text = r.text; lines = entries_of r.lines.items }
 
 -- before the first event
 abbrev pub unsketched : Sketch
-unsketched = record { in_break = false; text = None; lines = [] }
+unsketched = record { leaf = None; text = None; lines = [] }
 
-abbrev pub break_ended : Bool → Sketch → Sketch
-break_ended false s = s
-break_ended true s = record { in_break = false; text = s.text; lines = s.lines ++ block_entries 0 Break }
+abbrev pub leaf_ended : Option LeafSketch → Sketch → Sketch
+leaf_ended None s = s
+leaf_ended (Some leaf) s = record { leaf = None; text = s.text; lines = s.lines ++ leaf_entries leaf }
 
-abbrev pub text_ended : List ℕ → ℕ → Option ℕ → Sketch → Sketch
-text_ended bytes end None s = s
-text_ended bytes end (Some first) s = record { in_break = s.in_break; text = None; lines = s.lines ++ (entry 0 word.Paragraph ∷ text_entries (slice_range bytes first end)) }
+abbrev pub told_markers : ℕ → Sketch → Sketch
+told_markers count s = record s { leaf = option_map (marked count) s.leaf }
 
-abbrev pub sketch_enter : Name → ℕ → Sketch → Sketch
-sketch_enter n.ThematicBreak i s = record s { in_break = true }
-sketch_enter n.Paragraph i s = record s { text = Some i }
-sketch_enter _ i s = s
+abbrev pub told_title : List ℕ → Sketch → Sketch
+told_title text s = record s { leaf = option_map (titled text) s.leaf }
 
-abbrev pub sketch_exit : List ℕ → Name → ℕ → Sketch → Sketch
-sketch_exit bytes n.ThematicBreak i s = break_ended s.in_break s
-sketch_exit bytes n.Paragraph i s = text_ended bytes i s.text s
-sketch_exit bytes _ i s = s
+-- a text has ended
+abbrev pub told : Purpose → List ℕ → Sketch → Sketch
+told purpose.Paragraph text s = record s { lines = s.lines ++ paragraph_entries text }
+told purpose.Markers text s = told_markers (length text) s
+told purpose.Title text s = told_title text s
 
-abbrev pub sketch_by : List ℕ → Kind → Name → ℕ → Sketch → Sketch
-sketch_by bytes Enter name i s = sketch_enter name i s
-sketch_by bytes Exit name i s = sketch_exit bytes name i s
+abbrev pub told_at : List ℕ → Purpose → ℕ → Option ℕ → Sketch → Sketch
+told_at bytes purpose end None s = s
+told_at bytes purpose end (Some first) s = told purpose (slice_range bytes first end) (record s { text = None })
+
+abbrev pub sketch_enter : Role → ℕ → Sketch → Sketch
+sketch_enter role.Break i s = record s { leaf = Some BreakSketch }
+sketch_enter role.Heading i s = record s { leaf = Some (HeadingSketch 0 None) }
+sketch_enter (role.Text purpose) i s = record s { text = Some i }
+sketch_enter role.Quiet i s = s
+
+abbrev pub sketch_exit : List ℕ → Role → ℕ → Sketch → Sketch
+sketch_exit bytes role.Break i s = leaf_ended s.leaf s
+sketch_exit bytes role.Heading i s = leaf_ended s.leaf s
+sketch_exit bytes (role.Text purpose) i s = told_at bytes purpose i s.text s
+sketch_exit bytes role.Quiet i s = s
+
+abbrev pub sketch_by : List ℕ → Kind → Role → ℕ → Sketch → Sketch
+sketch_by bytes Enter x i s = sketch_enter x i s
+sketch_by bytes Exit x i s = sketch_exit bytes x i s
 
 abbrev pub sketched : List ℕ → Sketch → List Event → Sketch
 sketched bytes s [] = s
-sketched bytes s (e ∷ es) = sketched bytes (sketch_by bytes e.kind e.name e.point.index s) es
+sketched bytes s (e ∷ es) = sketched bytes (sketch_by bytes e.kind (shown_as (spelled.role e.name)) e.point.index s) es
 
 -- the text that is read begins between characters
 abbrev pub BeginsBetween : List ℕ → Option ℕ → Type 0
 BeginsBetween bytes None = Unit {0}
 BeginsBetween bytes (Some first) = is_between bytes first ≡ true
+
+-- the text of a heading, if there is one, is UTF-8
+abbrev pub IsText : Option (List ℕ) → Type 0
+IsText None = Unit {0}
+IsText (Some text) = IsUtf8 text
+
+abbrev pub LeafIsText : Option LeafSketch → Type 0
+LeafIsText None = Unit {0}
+LeafIsText (Some BreakSketch) = Unit {0}
+LeafIsText (Some (HeadingSketch markers text)) = IsText text
+
+-- texts are cut between characters
+pub record IsCut (bytes : List ℕ) (s : Sketch) : Type 0 where
+  pub text : BeginsBetween bytes s.text
+  pub leaf : LeafIsText s.leaf
