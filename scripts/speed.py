@@ -1,5 +1,5 @@
 #!/usr/bin/env python3
-"""Measures the built program `blocks` on 1, 2, 4 and 8 MB of paragraphs and breaks.
+"""Measures the built program `blocks` on 1, 2, 4 and 8 MB of paragraphs and breaks, and on 10,000 to 80,000 headings.
 
 `rt run` in crates/blocks builds it as crates/blocks/out/blocks. Each line of the report has the size of the text, the time
 from the start of the process to its end, the text read in a second, and the most memory that the process held (at least
@@ -11,15 +11,17 @@ import subprocess
 import sys
 import tempfile
 import time
+from collections.abc import Callable
 from pathlib import Path
 from typing import BinaryIO
 
 MEGABYTE = 1_000_000
 PARAGRAPH = "Some words of a paragraph, which goes on for a line or two,\nand *ends* here.\n\n"
 BREAK = "* * *\n\n"
+HEADING = "## A heading of a few # words ##\n"
 
 
-def write_text(target: BinaryIO, size: int) -> None:
+def write_paragraphs(target: BinaryIO, size: int) -> None:
     """Writes paragraphs, with a break after every eighth, cut to `size` bytes."""
     part = (PARAGRAPH * 8 + BREAK).encode()
     for _ in range(size // len(part)):
@@ -27,10 +29,16 @@ def write_text(target: BinaryIO, size: int) -> None:
     target.write(part[: size % len(part)])
 
 
-def measure(program: Path, size: int) -> tuple[float, int]:
-    """Runs the program on so many bytes, and answers the seconds it took and the most kilobytes it held."""
+def write_headings(target: BinaryIO, count: int) -> None:
+    """Writes so many headings."""
+    for _ in range(count):
+        target.write(HEADING.encode())
+
+
+def measure(program: Path, write: Callable[[BinaryIO, int], None], size: int) -> tuple[float, int]:
+    """Runs the program on a text of this size, and answers the seconds it took and the most kilobytes it held."""
     with tempfile.TemporaryFile() as source:
-        write_text(source, size)
+        write(source, size)
         source.seek(0)
         start = time.perf_counter()
         process = subprocess.Popen([program], stdin=source, stdout=subprocess.DEVNULL)
@@ -48,9 +56,13 @@ def main() -> None:
     if not program.is_file():
         raise SystemExit(f"{program} is not there: build it by `rt run` in its crate")
     for megabytes in (1, 2, 4, 8):
-        seconds, kilobytes = measure(program, megabytes * MEGABYTE)
+        seconds, kilobytes = measure(program, write_paragraphs, megabytes * MEGABYTE)
         speed = megabytes / seconds
         print(f"{megabytes} MB: {seconds:.2f} s, {speed:.2f} MB/s, {kilobytes / 1024:.0f} MiB at most")
+    for count in (10_000, 20_000, 40_000, 80_000):
+        seconds, kilobytes = measure(program, write_headings, count)
+        speed = count * len(HEADING) / MEGABYTE / seconds
+        print(f"{count} headings: {seconds:.3f} s, {speed:.2f} MB/s, {kilobytes / 1024:.0f} MiB at most")
 
 
 if __name__ == "__main__":

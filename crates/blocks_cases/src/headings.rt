@@ -23,6 +23,19 @@ paragraph
   | #######  a
 
 CommonMark 4.2 | commonmark | nothing
+"#a"
+paragraph
+  | #a
+
+CommonMark 4.2 | commonmark | heading_atx
+"#"
+heading 1
+
+CommonMark 4.2 | commonmark | heading_atx
+"# "
+heading 1
+
+CommonMark 4.2 | commonmark | nothing
 "#5 a\n\n#b"
 paragraph
   | #5 a

@@ -257,6 +257,19 @@ own choice: other characters that begin with the same byte are text | commonmark
 paragraph
   | \u{ff01}a
 
+own choice: other characters that begin with the same byte are text | commonmark | nothing
+"\u{ff01}\u{fefe}\n\u{ff23}"
+paragraph
+  | \u{ff01}\u{fefe}
+  | \u{ff23}
+
+own choice: a byte order mark is taken off | commonmark | heading_atx
+"\u{feff}\u{e9}b\n# \u{e9} #"
+paragraph
+  | \u{e9}b
+heading 1
+  | \u{e9}
+
 own choice: each byte of a mark is a column | commonmark | heading_atx
 "\u{feff}\ta"
 paragraph
