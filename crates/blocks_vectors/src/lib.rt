@@ -1,6 +1,7 @@
-// Tries a body of the parser: on the rows of `blocks_cases`, on long texts, and on the laws of nesting.
+// Tries bodies of the parser: on the rows of `blocks_cases`, on long texts, on the laws of nesting, and against each other.
 #![tactic(auto)]
 
+pub mod agree;
 pub mod laws;
 pub mod long;
 pub mod report;

@@ -1,0 +1,32 @@
+// Tries whether two bodies give the same, on all short texts.
+
+use crate::report::Report;
+use crate::rows::{built_of, printed};
+use crate::texts::numbered;
+use blocks_cases::case::CaseError;
+use blocks_cases::constructs::ALL;
+use md_program::body::Body;
+use std::alloc::Global;
+
+/// Letters that begin quotes, headings and breaks, or lines.
+const LETTERS: [&str; 6] = ["a", ">", "#", "*", " ", "\n"];
+
+/// Tries two bodies on all texts of at most so many of the letters, with all constructs of the first.
+pub fn try_agree<A: Body, B: Body>(
+    alloc: Global,
+    most: usize,
+    report: &mut Report,
+) -> Result<(), CaseError> {
+    let constructs = built_of::<A>(&ALL);
+    let mut count: usize = 1;
+    for length in 0..=most {
+        for number in 0..count {
+            let text = numbered(alloc, &LETTERS, length, number)?;
+            let got = printed::<A>(alloc, text.as_str(), &constructs)?;
+            let wanted = printed::<B>(alloc, text.as_str(), &constructs)?;
+            report.add("two bodies", text.as_str(), wanted.as_str(), got.as_str())?;
+        }
+        count = count.wrapping_mul(LETTERS.len());
+    }
+    Ok(())
+}
