@@ -285,7 +285,7 @@ snoc-some : (names : List ResolveName) (name : ResolveName) → names ++ name �
 snoc-some [] name e = cc
 snoc-some (x ∷ names) name e = cc
 
--- lists with the same elements have the same last one
+-- equal lists are equal up to their last elements, and in these
 snoc-same : (a b : List ResolveName) (x y : ResolveName) → a ++ x ∷ [] ≡ b ++ y ∷ [] → (a ≡ b) × (x ≡ y)
 snoc-same [] [] x y e = (refl, cc)
 snoc-same [] (n ∷ b) x y e = absurd (snoc-some b y (cc))
