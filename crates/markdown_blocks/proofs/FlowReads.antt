@@ -1,11 +1,12 @@
 -- What flow has read of a text, by what pushing and flushing it do.
-use Rattle.std.proofs.Common.{◌≡◌, ◌≢◌, ◌⊎◌, inl, inr, ◌^◌, ◌<◌, ℕ, zero, suc, ◌&&◌, Bool, true, false, nat_eq, nat_lt, nat_le, List, [], ◌∷◌, ◌++◌, length, take, Option, Some, None, refl, sym, ◌∙◌, ap, subst, arith}
+use Rattle.std.proofs.Common.{◌≡◌, ◌≢◌, ◌⊎◌, inl, inr, ◌^◌, ◌<◌, ℕ, zero, suc, ◌&&◌, Bool, true, false, nat_eq, nat_lt, nat_le, List, [], ◌∷◌, ◌++◌, length, take, Option, Some, None, refl, sym, ◌∙◌, ap, ap₂, subst, arith}
 use Rattle.md_engine.specs.declared.configuration.ParseOptions.{ParseOptions}
 use Rattle.md_engine.specs.declared.event.Event.{Event}
 use Rattle.md_engine.specs.declared.event.Kind.{Kind}
 use Rattle.md_engine.specs.declared.event.Kind.TheVariants.{Enter, Exit}
 use Rattle.md_engine.specs.declared.event.Name.{Name}
 use Rattle.md_engine.specs.declared.event.Name.TheVariants as n
+use Rattle.md_engine.specs.declared.event.Point.{Point}
 use Rattle.md_engine.specs.declared.resolve.Name.{Name as ResolveName}
 use Rattle.md_engine.specs.declared.resolve.Name.TheVariants as r
 use Rattle.md_engine.specs.declared.state.Name.{Name as StateName}
@@ -15,73 +16,123 @@ use Rattle.md_engine.specs.declared.state.State.TheVariants.{Next}
 use Rattle.md_engine.specs.declared.tokenizer.Frame.{Frame}
 use Rattle.md_engine.specs.Found.{Found, nothing, with_found}
 use Rattle.md_engine.specs.Meaning.{Accepts, comes_to, here}
-use Rattle.md_engine.specs.Place.{first_point}
 use Rattle.md_engine.specs.Run.{Flushes, Resolution, Resolved, Runs, goes_back, left, plain, reading}
 use Rattle.md_engine.specs.Run.Resolved.{More, NoneYet}
 use Rattle.md_engine.specs.Run.Runs.{Stays, ThenCalls, ThenLeaves}
 use Rattle.md_engine.specs.Scheme.{stands}
 use Rattle.md_engine.specs.TextFeed.{text_feed}
-use Rattle.md_engine.specs.World.{Setting, World, fresh, reads_to, registered_before}
+use Rattle.md_engine.specs.World.{Setting, World, fresh, reads_to, registered, registered_before}
 use Rattle.md_engine.proofs.Keeps.{runs-setting}
 use Rattle.md_content.specs.Chunks.{chunk_inside_code, content_link}
-use Rattle.md_seam.specs.Nested.{enter_link}
+use Rattle.md_seam.specs.Nested.{around, enter_link, exit}
 use Rattle.md_leaves.specs.Blank as blank
 use Rattle.md_leaves.specs.Break as break
+use Rattle.md_leaves.specs.Heading as heading
+use Rattle.md_leaves.specs.Heading.{heading_link, sees_text}
 use Rattle.md_seam.specs.Spaces as spaces
 use Rattle.md_seam.specs.Spaces.{ends_line, is_current, sees_white}
 use Rattle.markdown_blocks.specs.Flow as flow
-use Rattle.markdown_blocks.specs.FlowReads.{FlowReads, NoText, ReadsContent, ReadsNone, text_cells, text_rows, text_setting}
+use Rattle.markdown_blocks.specs.FlowReads.{FlowReads, NoHeading, NoText, ReadsContent, ReadsNone, SetsHeadings, SetsNone, text_cells, text_rows, text_setting}
 use Rattle.markdown_blocks.specs.Resolved.{resolved_as}
 use Rattle.markdown_blocks.specs.FlowRule.{flow_at, flow_behaves}
-use Rattle.markdown_blocks.specs.Rows.{BlankRow, BreakRow, Group, Row, RowKind, Single, TextRow, groups, groups_events, onto_groups, row_events, row_events_by, rows_events}
+use Rattle.markdown_blocks.specs.Rows.{HeadingRow, Row, RowKind, TextRow, ending_events, row_events, row_events_by, rows_events}
 use Rattle.markdown_blocks.specs.States.{FlowStep, flow_table_scheme, flow_went}
 use Rattle.markdown_blocks.proofs.FlowRows.{flow_at-rows}
 use Rattle.markdown_blocks.proofs.FlowRuns.{flow_outcome, flow_push}
 use Rattle.markdown_blocks.proofs.Settings.{NoLabels}
 
--- Events without the end of content.
+-- Events without the end of a part.
 
-abbrev is_other : Kind → Name → Bool
-is_other Enter name = true
-is_other Exit n.Content = false
-is_other Exit _ = true
+-- what does not end content, and what does not end a heading
+abbrev is_no_content : Kind → Name → Bool
+is_no_content Enter name = true
+is_no_content Exit n.Content = false
+is_no_content Exit _ = true
 
-abbrev Others : List Event → Type 0
-Others [] = Unit {0}
-Others (e ∷ es) = (is_other e.kind e.name ≡ true) × Others es
+abbrev is_no_heading : Kind → Name → Bool
+is_no_heading Enter name = true
+is_no_heading Exit n.HeadingAtx = false
+is_no_heading Exit _ = true
 
-others-append : (a b : List Event) → Others a → Others b → Others (a ++ b)
-others-append [] b o k = k
-others-append (e ∷ es) b o k = (o.0, others-append es b o.1 k)
+abbrev Others : (Kind → Name → Bool) → List Event → Type 0
+Others test [] = Unit {0}
+Others test (e ∷ es) = (test e.kind e.name ≡ true) × Others test es
 
-others-front : (a b : List Event) → Others (a ++ b) → Others a
-others-front [] b o = tt
-others-front (e ∷ es) b o = (o.0, others-front es b o.1)
+others-append : (test : Kind → Name → Bool) (a b : List Event) → Others test a → Others test b → Others test (a ++ b)
+others-append test [] b o k = k
+others-append test (e ∷ es) b o k = (o.0, others-append test es b o.1 k)
 
-others-behind : (a b : List Event) → Others (a ++ b) → Others b
-others-behind [] b o = o
-others-behind (e ∷ es) b o = others-behind es b o.1
+others-front : (test : Kind → Name → Bool) (a b : List Event) → Others test (a ++ b) → Others test a
+others-front test [] b o = tt
+others-front test (e ∷ es) b o = (o.0, others-front test es b o.1)
 
-others-take : (k : ℕ) (es : List Event) → Others es → Others (take k es)
-others-take zero es o = tt
-others-take (suc k) [] o = tt
-others-take (suc k) (e ∷ es) o = (o.0, others-take k es o.1)
+others-behind : (test : Kind → Name → Bool) (a b : List Event) → Others test (a ++ b) → Others test b
+others-behind test [] b o = o
+others-behind test (e ∷ es) b o = others-behind test es b o.1
 
--- What flow registers: the resolver of content, once, and only where content has ended.
+others-take : (test : Kind → Name → Bool) (k : ℕ) (es : List Event) → Others test es → Others test (take k es)
+others-take test zero es o = tt
+others-take test (suc k) [] o = tt
+others-take test (suc k) (e ∷ es) o = (o.0, others-take test k es o.1)
 
-abbrev RegistersBy : List Event → List ResolveName → Type 0
-RegistersBy events names = ((names ≡ []) × Others events) ⊎ (names ≡ r.Content ∷ [])
+-- What flow registers: the resolver of content, and behind it that of headings; each once, and only where such a part has ended.
+
+-- by whether each is registered
+abbrev named : Bool → Bool → List ResolveName
+named true true = r.Content ∷ r.HeadingAtx ∷ []
+named true false = r.Content ∷ []
+named false true = r.HeadingAtx ∷ []
+named false false = []
+
+record RegistersBy (events : List Event) (names : List ResolveName) : Type 0 where
+  content : Bool
+  heading : Bool
+  names_are : names ≡ named content heading
+  no_content : content ≡ false → Others is_no_content events
+  no_heading : heading ≡ false → Others is_no_heading events
 
 abbrev Registers : World → Type 0
 Registers w = RegistersBy w.events w.resolvers
 
-adds : (events added : List Event) (names : List ResolveName) → Others added → RegistersBy events names → RegistersBy (events ++ added) names
-adds events added names o (inl h) = inl (h.0, others-append events added h.1 o)
-adds events added names o (inr h) = inr h
+none-yet : RegistersBy [] []
+none-yet = record { content = false; heading = false; names_are = refl; no_content = λ e. tt; no_heading = λ e. tt }
+
+adds : (events : List Event) (e : Event) (names : List ResolveName) → is_no_content e.kind e.name ≡ true → is_no_heading e.kind e.name ≡ true → RegistersBy events names → RegistersBy (events ++ e ∷ []) names
+adds events e names a b h = record {
+  content = h.content;
+  heading = h.heading;
+  names_are = h.names_are;
+  no_content = λ k. others-append is_no_content events (e ∷ []) (h.no_content k) (a, tt);
+  no_heading = λ k. others-append is_no_heading events (e ∷ []) (h.no_heading k) (b, tt);
+}
 
 goes-back : (k : ℕ) (events : List Event) (names : List ResolveName) → RegistersBy events names → RegistersBy (take k events) names
-goes-back k events names (inl h) = inl (h.0, others-take k events h.1)
-goes-back k events names (inr h) = inr h
+goes-back k events names h = record {
+  content = h.content;
+  heading = h.heading;
+  names_are = h.names_are;
+  no_content = λ e. others-take is_no_content k events (h.no_content e);
+  no_heading = λ e. others-take is_no_heading k events (h.no_heading e);
+}
+
+-- what tells the two names
+record Tells (is_name : ResolveName → ResolveName → Bool) : Type 0 where
+  content : is_name r.Content r.Content ≡ true
+  heading : is_name r.HeadingAtx r.HeadingAtx ≡ true
+  no_content : is_name r.HeadingAtx r.Content ≡ false
+  no_heading : is_name r.Content r.HeadingAtx ≡ false
+
+content-named : (is_name : ResolveName → ResolveName → Bool) → Tells is_name → (b c : Bool) → registered_before (is_name r.Content) (named b c) r.Content ≡ named true c
+content-named is_name tells true true = rw tells.content refl
+content-named is_name tells true false = rw tells.content refl
+content-named is_name tells false true = rw tells.no_heading refl
+content-named is_name tells false false = refl
+
+heading-named : (is_name : ResolveName → ResolveName → Bool) → Tells is_name → (b c : Bool) → registered (is_name r.HeadingAtx) (named b c) r.HeadingAtx ≡ named b true
+heading-named is_name tells true true = rw (tells.no_content, tells.heading) refl
+heading-named is_name tells true false = rw tells.no_content refl
+heading-named is_name tells false true = rw tells.heading refl
+heading-named is_name tells false false = refl
 
 blank-start : (w : World) (b : Bool) → Registers w → Registers (blank.start_code w b).world
 blank-start w true h = h
@@ -91,33 +142,73 @@ blank-after : (w : World) (b : Bool) → Registers w → Registers (blank.after_
 blank-after w true h = h
 blank-after w false h = h
 
-registers-once : (is_content : ResolveName → Bool) → is_content r.Content ≡ true → (events : List Event) (names : List ResolveName) → RegistersBy events names → registered_before is_content names r.Content ≡ r.Content ∷ []
-registers-once is_content is events names (inl h) = ap (λ (x : List ResolveName). registered_before is_content x r.Content) h.0
-registers-once is_content is events names (inr h) = ap (λ (x : List ResolveName). registered_before is_content x r.Content) h ∙ rw is refl
-
-chunk-inside : (is_content : ResolveName → Bool) → is_content r.Content ≡ true → (w : World) (b : Bool) → Registers w → Registers (chunk_inside_code is_content w b).world
-chunk-inside is_content is w true h = inr (registers-once is_content is w.events w.resolvers h)
-chunk-inside is_content is w false h = h
+chunk-inside : (is_name : ResolveName → ResolveName → Bool) → Tells is_name → (w : World) (b : Bool) → Registers w → Registers (chunk_inside_code (is_name r.Content) w b).world
+chunk-inside is_name tells w true h = record {
+  content = true;
+  heading = h.heading;
+  names_are = ap (λ (x : List ResolveName). registered_before (is_name r.Content) x r.Content) h.names_are ∙ content-named is_name tells h.content h.heading;
+  no_content = λ k. cc;
+  no_heading = λ k. others-append is_no_heading w.events (exit n.Content w.point ∷ []) (h.no_heading k) (refl, tt);
+}
+chunk-inside is_name tells w false h = h
 
 calm-registers : (w : World) (o : Option ℕ) → Registers w → Registers (flow.calm w o)
 calm-registers w None h = h
 calm-registers w (Some b) h = h
 
-ending : (name : Name) → is_other Exit name ≡ true → (w : World) (o : Option ℕ) → Registers w → Registers (flow.ending_code name w o).world
-ending name is w None h = h
-ending name is w (Some b) h = go (nat_eq b 10) refl
+ending : (name : Name) → is_no_content Exit name ≡ true → is_no_heading Exit name ≡ true → (w : World) (o : Option ℕ) → Registers w → Registers (flow.ending_code name w o).world
+ending name k l w None h = h
+ending name k l w (Some b) h = go (nat_eq b 10) refl
   where
     go : (x : Bool) → nat_eq b 10 ≡ x → Registers (flow.ending_code name w (Some b)).world
-    go true e = rw e (adds _ _ w.resolvers (is, tt) (adds w.events _ w.resolvers (refl, tt) h))
+    go true e = rw e (adds _ _ w.resolvers k l (adds w.events _ w.resolvers refl refl h))
     go false e = rw e h
 
+heading-start : (w : World) (a b : Bool) → Registers w → Registers (heading.start_code w a b).world
+heading-start w false b h = h
+heading-start w true true h = adds w.events _ w.resolvers refl refl h
+heading-start w true false h = adds w.events _ w.resolvers refl refl h
+
+heading-before : (w : World) (b : Bool) → Registers w → Registers (heading.before_code w b).world
+heading-before w true h = adds w.events _ w.resolvers refl refl h
+heading-before w false h = h
+
+heading-behind : (w : World) (b : Bool) → Registers w → Registers (heading.behind_part w b).world
+heading-behind w true h = h
+heading-behind w false h = h
+
+heading-open : (w : World) (a b c : Bool) → Registers w → Registers (heading.sequence_open_code w a b c).world
+heading-open w true b c h = h
+heading-open w false true c h = h
+heading-open w false false c h = heading-behind _ c (adds w.events _ w.resolvers refl refl h)
+
+heading-at : (is_name : ResolveName → ResolveName → Bool) → Tells is_name → (w : World) (a b c : Bool) → Registers w → Registers (heading.at_break_code (is_name r.HeadingAtx) w a b c).world
+heading-at is_name tells w true true c h = adds w.events _ w.resolvers refl refl h
+heading-at is_name tells w true false c h = adds w.events (enter_link n.Data w.point heading_link) w.resolvers refl refl h
+heading-at is_name tells w false b true h = record {
+  content = h.content;
+  heading = true;
+  names_are = ap (λ (x : List ResolveName). registered (is_name r.HeadingAtx) x r.HeadingAtx) h.names_are ∙ heading-named is_name tells h.content h.heading;
+  no_content = λ k. others-append is_no_content w.events (exit n.HeadingAtx w.point ∷ []) (h.no_content k) (refl, tt);
+  no_heading = λ k. cc;
+}
+heading-at is_name tells w false b false h = h
+
+heading-further : (w : World) (a b : Bool) → Registers w → Registers (heading.sequence_further_code w a b).world
+heading-further w true b h = h
+heading-further w false b h = heading-behind _ b (adds w.events _ w.resolvers refl refl h)
+
+heading-data : (w : World) (a b : Bool) → Registers w → Registers (heading.data_code w a b).world
+heading-data w true b h = h
+heading-data w false b h = heading-behind _ b (adds w.events _ w.resolvers refl refl h)
+
 white-start : (w : World) (b : Bool) → Registers w → Registers (spaces.start_code w b).world
-white-start w true h = adds w.events _ w.resolvers (refl, tt) h
+white-start w true h = adds w.events _ w.resolvers refl refl h
 white-start w false h = h
 
 white-inside : (w : World) (b : Bool) → Registers w → Registers (spaces.inside_code w b).world
 white-inside w true h = h
-white-inside w false h = adds w.events _ w.resolvers (refl, tt) h
+white-inside w false h = adds w.events _ w.resolvers refl refl h
 
 white-after : (w : World) (b : Bool) → Registers w → Registers (spaces.after_code w b).world
 white-after w true h = h
@@ -125,8 +216,8 @@ white-after w false h = h
 
 break-start : (w : World) (a b : Bool) → Registers w → Registers (break.start_code w a b).world
 break-start w false b h = h
-break-start w true true h = adds w.events _ w.resolvers (refl, tt) h
-break-start w true false h = adds w.events _ w.resolvers (refl, tt) h
+break-start w true true h = adds w.events _ w.resolvers refl refl h
+break-start w true false h = adds w.events _ w.resolvers refl refl h
 
 break-before : (w : World) (o : Option ℕ) → Registers w → Registers (break.before_code w o).world
 break-before w None h = h
@@ -137,177 +228,252 @@ break-before w (Some b) h = go (break.is_marker b) refl
     go false e = rw e h
 
 break-at : (w : World) (a b : Bool) → Registers w → Registers (break.at_break_code w a b).world
-break-at w true b h = adds w.events _ w.resolvers (refl, tt) h
-break-at w false true h = adds w.events _ w.resolvers (refl, tt) h
+break-at w true b h = adds w.events _ w.resolvers refl refl h
+break-at w false true h = adds w.events _ w.resolvers refl refl h
 break-at w false false h = h
 
 break-sequence : (w : World) (a b : Bool) → Registers w → Registers (break.sequence_code w a b).world
 break-sequence w true b h = h
-break-sequence w false true h = adds w.events _ w.resolvers (refl, tt) h
-break-sequence w false false h = adds w.events _ w.resolvers (refl, tt) h
+break-sequence w false true h = adds w.events _ w.resolvers refl refl h
+break-sequence w false false h = adds w.events _ w.resolvers refl refl h
 
 -- each state of flow keeps it
-went-registers : (is_content : ResolveName → Bool) → is_content r.Content ≡ true → (name : StateName) (w : World) → Registers w → Registers (flow_went is_content name w).world
-went-registers is_content is s.BlankLineStart w h = blank-start w (sees_white w.current) h
-went-registers is_content is s.BlankLineAfter w h = blank-after w (ends_line w.current) h
-went-registers is_content is s.ContentChunkStart w h = adds w.events (enter_link n.Content w.point content_link ∷ []) w.resolvers (refl, tt) h
-went-registers is_content is s.ContentChunkInside w h = chunk-inside is_content is w (ends_line w.current) h
-went-registers is_content is s.FlowStart w h = h
-went-registers is_content is s.FlowBlankLineBefore w h = h
-went-registers is_content is s.FlowBeforeThematicBreak w h = h
-went-registers is_content is s.FlowBeforeContent w h = h
-went-registers is_content is s.FlowBlankLineAfter w h = ending n.BlankLineEnding refl (flow.calm w w.current) (flow.calm w w.current).current (calm-registers w w.current h)
-went-registers is_content is s.FlowAfter w h = ending n.LineEnding refl w w.current h
-went-registers is_content is s.SpaceOrTabStart w h = white-start w (sees_white w.current && nat_lt 0 w.scratch.whitespace.max) h
-went-registers is_content is s.SpaceOrTabInside w h = white-inside w (sees_white w.current && nat_lt w.scratch.whitespace.size w.scratch.whitespace.max) h
-went-registers is_content is s.SpaceOrTabAfter w h = white-after w (nat_le w.scratch.whitespace.min w.scratch.whitespace.size) h
-went-registers is_content is s.ThematicBreakStart w h = break-start w w.setting.options.constructs.thematic_break (sees_white w.current) h
-went-registers is_content is s.ThematicBreakBefore w h = break-before w w.current h
-went-registers is_content is s.ThematicBreakAtBreak w h = break-at w (is_current w.scratch.marker w.current) (ends_line w.current && nat_le 3 w.scratch.size) h
-went-registers is_content is s.ThematicBreakSequence w h = break-sequence w (is_current w.scratch.marker w.current) (sees_white w.current) h
-went-registers is_content is _ w h = h
+went-registers : (is_name : ResolveName → ResolveName → Bool) → Tells is_name → (name : StateName) (w : World) → Registers w → Registers (flow_went is_name name w).world
+went-registers is_name tells s.BlankLineStart w h = blank-start w (sees_white w.current) h
+went-registers is_name tells s.BlankLineAfter w h = blank-after w (ends_line w.current) h
+went-registers is_name tells s.ContentChunkStart w h = adds w.events (enter_link n.Content w.point content_link) w.resolvers refl refl h
+went-registers is_name tells s.ContentChunkInside w h = chunk-inside is_name tells w (ends_line w.current) h
+went-registers is_name tells s.FlowStart w h = h
+went-registers is_name tells s.FlowBlankLineBefore w h = h
+went-registers is_name tells s.FlowBeforeHeadingAtx w h = h
+went-registers is_name tells s.FlowBeforeThematicBreak w h = h
+went-registers is_name tells s.FlowBeforeContent w h = h
+went-registers is_name tells s.FlowBlankLineAfter w h = ending n.BlankLineEnding refl refl (flow.calm w w.current) (flow.calm w w.current).current (calm-registers w w.current h)
+went-registers is_name tells s.FlowAfter w h = ending n.LineEnding refl refl w w.current h
+went-registers is_name tells s.HeadingAtxStart w h = heading-start w w.setting.options.constructs.heading_atx (sees_white w.current) h
+went-registers is_name tells s.HeadingAtxBefore w h = heading-before w (is_current 35 w.current) h
+went-registers is_name tells s.HeadingAtxSequenceOpen w h = heading-open w (is_current 35 w.current && nat_lt w.scratch.size 6) (sees_text w.current) (sees_white w.current) h
+went-registers is_name tells s.HeadingAtxAtBreak w h = heading-at is_name tells w (sees_text w.current) (is_current 35 w.current) (ends_line w.current) h
+went-registers is_name tells s.HeadingAtxSequenceFurther w h = heading-further w (is_current 35 w.current) (sees_white w.current) h
+went-registers is_name tells s.HeadingAtxData w h = heading-data w (sees_text w.current) (sees_white w.current) h
+went-registers is_name tells s.SpaceOrTabStart w h = white-start w (sees_white w.current && nat_lt 0 w.scratch.whitespace.max) h
+went-registers is_name tells s.SpaceOrTabInside w h = white-inside w (sees_white w.current && nat_lt w.scratch.whitespace.size w.scratch.whitespace.max) h
+went-registers is_name tells s.SpaceOrTabAfter w h = white-after w (nat_le w.scratch.whitespace.min w.scratch.whitespace.size) h
+went-registers is_name tells s.ThematicBreakStart w h = break-start w w.setting.options.constructs.thematic_break (sees_white w.current) h
+went-registers is_name tells s.ThematicBreakBefore w h = break-before w w.current h
+went-registers is_name tells s.ThematicBreakAtBreak w h = break-at w (is_current w.scratch.marker w.current) (ends_line w.current && nat_le 3 w.scratch.size) h
+went-registers is_name tells s.ThematicBreakSequence w h = break-sequence w (is_current w.scratch.marker w.current) (sees_white w.current) h
+went-registers is_name tells _ w h = h
 
 left-registers : (w : World) (outer : List Frame) (f : Frame) (b : Bool) → Registers w → Registers (left w outer f b)
 left-registers w outer f true h = goes-back f.events_len w.events w.resolvers h
 left-registers w outer f false h = h
 
 -- and so does a run
-runs-register : (is_content : ResolveName → Bool) (is_end : Bool) (s : State) (w : World) → is_content r.Content ≡ true → Registers w → (s' : State) (w' : World) → Runs (FlowStep is_content) is_end s w s' w' → Registers w'
-runs-register is_content is_end s w is h s' w' Stays = h
-runs-register is_content is_end s w is h s' w' (ThenLeaves t v t' v' run l) =
+runs-register : (is_name : ResolveName → ResolveName → Bool) (is_end : Bool) (s : State) (w : World) → Tells is_name → Registers w → (s' : State) (w' : World) → Runs (FlowStep is_name) is_end s w s' w' → Registers w'
+runs-register is_name is_end s w tells h s' w' Stays = h
+runs-register is_name is_end s w tells h s' w' (ThenLeaves t v t' v' run l) =
     let P : World → Type 0 = λ x. Registers x in
-    subst P (sym l.new) (left-registers v l.outer l.frame (goes_back l.frame t) (runs-register is_content is_end s w is h t v run))
-runs-register is_content is_end s w is h s' w' (ThenCalls t v t' v' run c) =
+    subst P (sym l.new) (left-registers v l.outer l.frame (goes_back l.frame t) (runs-register is_name is_end s w tells h t v run))
+runs-register is_name is_end s w tells h s' w' (ThenCalls t v t' v' run c) =
     let P : World → Type 0 = λ x. Registers x in
-    subst P (sym c.step.new_is) (went-registers is_content is c.name (reading v) (runs-register is_content is_end s w is h t v run))
+    subst P (sym c.step.new_is) (went-registers is_name tells c.name (reading v) (runs-register is_name is_end s w tells h t v run))
 
 -- Resolvers that ran.
 
-snoc-none : (names : List ResolveName) (name : ResolveName) → names ++ name ∷ [] ≡ [] → ⊥
-snoc-none [] name e = cc
-snoc-none (x ∷ names) name e = cc
+snoc-some : (names : List ResolveName) (name : ResolveName) → names ++ name ∷ [] ≡ [] → ⊥
+snoc-some [] name e = cc
+snoc-some (x ∷ names) name e = cc
 
-snoc-one : (names : List ResolveName) (name only : ResolveName) → names ++ name ∷ [] ≡ only ∷ [] → (names ≡ []) × (name ≡ only)
-snoc-one [] name only e = (refl, cc)
-snoc-one (x ∷ names) name only e = absurd (snoc-none names name (cc))
+-- equal lists are equal up to their last elements, and in these
+snoc-same : (a b : List ResolveName) (x y : ResolveName) → a ++ x ∷ [] ≡ b ++ y ∷ [] → (a ≡ b) × (x ≡ y)
+snoc-same [] [] x y e = (refl, cc)
+snoc-same [] (n ∷ b) x y e = absurd (snoc-some b y (cc))
+snoc-same (m ∷ a) [] x y e = absurd (snoc-some a x (cc))
+snoc-same (m ∷ a) (n ∷ b) x y e =
+    let rest = snoc-same a b x y (cc) in
+    let same : m ≡ n = cc in
+    (ap₂ (λ (p : ResolveName) (q : List ResolveName). p ∷ q) same rest.0, rest.1)
 
 resolved-none : (R : Resolution) (w : World) (names : List ResolveName) (found : Found) (new : World) → Resolved R w names found new → names ≡ [] → (found ≡ nothing) × (new ≡ w)
 resolved-none R w names found new NoneYet e = (refl, refl)
-resolved-none R w names found new (More ns name f more v v' h step) e = absurd (snoc-none ns name e)
+resolved-none R w names found new (More ns name f more v v' h step) e = absurd (snoc-some ns name e)
 
-resolved-one : (R : Resolution) (w : World) (names : List ResolveName) (found : Found) (new : World) → Resolved R w names found new → names ≡ r.Content ∷ [] → ReadsContent R w found new
-resolved-one R w names found new NoneYet e = absurd (cc)
-resolved-one R w names found new (More ns name f more v v' h step) e =
-    let only = snoc-one ns name r.Content e in
-    let none = resolved-none R w ns f v h only.0 in
-    let P : ResolveName → Type 0 = λ x. R x v more v' in
-    let Q : World → Type 0 = λ x. R r.Content x more v' in
-    record { more = more; resolved = subst Q none.1 (subst P only.1 step); found_is = ap (λ (x : Found). with_found x more) none.0 }
+-- the last that ran, behind the others
+record RanLast (R : Resolution) (w : World) (others : List ResolveName) (last : ResolveName) (found : Found) (new : World) : Type 0 where
+  mid : World
+  mid_found : Found
+  more : Option Found
+  before : Resolved R w others mid_found mid
+  resolved : R last mid more new
+  found_is : found ≡ with_found mid_found more
 
--- Rows without the end of content have no text.
+resolved-last : (R : Resolution) (w : World) (names : List ResolveName) (found : Found) (new : World) → Resolved R w names found new → (others : List ResolveName) (last : ResolveName) → names ≡ others ++ last ∷ [] →
+    RanLast R w others last found new
+resolved-last R w names found new NoneYet others last e = absurd (snoc-some others last (sym e))
+resolved-last R w names found new (More ns name f more v v' h step) others last e =
+    let same = snoc-same ns others name last e in
+    let P : List ResolveName → Type 0 = λ x. Resolved R w x f v in
+    let Q : ResolveName → Type 0 = λ x. R x v more v' in
+    record { mid = v; mid_found = f; more = more; before = subst P same.0 h; resolved = subst Q same.1 step; found_is = refl }
 
-others-row : (k : RowKind) (row : Row) → Others (row_events_by k row) → k ≢ TextRow
-others-row k row o e =
-    let P : RowKind → Type 0 = λ x. Others (row_events_by x row) in
+abbrev ReadIf : Resolution → Bool → World → Found → World → Type 0
+ReadIf R true at found new = ReadsContent R at found new
+ReadIf R false at found new = (found ≡ nothing) × (new ≡ at)
+
+abbrev SetIf : Resolution → Bool → World → Found → Found → World → Type 0
+SetIf R true at was found new = SetsHeadings R at was found new
+SetIf R false at was found new = (found ≡ was) × (new ≡ at)
+
+-- each of the two ran that was registered
+record Ran (R : Resolution) (content heading : Bool) (w : World) (found : Found) (new : World) : Type 0 where
+  mid : World
+  mid_found : Found
+  reads : ReadIf R content w mid_found mid
+  sets : SetIf R heading mid mid_found found new
+
+resolved-content : (R : Resolution) (w : World) (b : Bool) (names : List ResolveName) (found : Found) (new : World) → Resolved R w names found new → names ≡ named b false → ReadIf R b w found new
+resolved-content R w true names found new h e =
+    let last = resolved-last R w names found new h [] r.Content e in
+    let none = resolved-none R w [] last.mid_found last.mid last.before refl in
+    let P : World → Type 0 = λ x. R r.Content x last.more new in
+    record { more = last.more; resolved = subst P none.1 last.resolved; found_is = last.found_is ∙ ap (λ (x : Found). with_found x last.more) none.0 }
+resolved-content R w false names found new h e = resolved-none R w names found new h e
+
+heading-last : (b : Bool) → named b true ≡ named b false ++ r.HeadingAtx ∷ []
+heading-last true = refl
+heading-last false = refl
+
+resolved-named : (R : Resolution) (w : World) (b c : Bool) (names : List ResolveName) (found : Found) (new : World) → Resolved R w names found new → names ≡ named b c → Ran R b c w found new
+resolved-named R w b true names found new h e =
+    let last = resolved-last R w names found new h (named b false) r.HeadingAtx (e ∙ heading-last b) in
+    record { mid = last.mid; mid_found = last.mid_found; reads = resolved-content R w b (named b false) last.mid_found last.mid last.before refl; sets = record { more = last.more; resolved = last.resolved; found_is = last.found_is } }
+resolved-named R w b false names found new h e =
+    record { mid = new; mid_found = found; reads = resolved-content R w b names found new h e; sets = (refl, refl) }
+
+-- Rows without the end of content have no text, and those without the end of a heading no heading.
+
+others-text : (k : RowKind) (row : Row) → Others is_no_content (row_events_by k row) → k ≢ TextRow
+others-text k row o e =
+    let P : RowKind → Type 0 = λ x. Others is_no_content (row_events_by x row) in
     let bad : false ≡ true = (subst P e o).1.0 in
     absurd (cc)
 
-others-rows : (rows : List Row) → Others (rows_events rows) → NoText rows
-others-rows [] o = tt
-others-rows (row ∷ rows) o = (others-row row.kind row (others-front (row_events row) (rows_events rows) o), others-rows rows (others-behind (row_events row) (rows_events rows) o))
+no-text : (rows : List Row) → Others is_no_content (rows_events rows) → NoText rows
+no-text [] o = tt
+no-text (row ∷ rows) o = (others-text row.kind row (others-front is_no_content (row_events row) (rows_events rows) o), no-text rows (others-behind is_no_content (row_events row) (rows_events rows) o))
 
--- what flow has read of a text, once all of it was pushed and flushed
-pub flow-reads : (is_content : ResolveName → Bool) (R : Resolution) (bytes : List ℕ) (options : ParseOptions) (end : State) (at : World) (found : Found) (new : World) → length bytes < 2 ^ 61 →
-    Runs (FlowStep is_content) false (Next s.FlowStart) (reads_to (fresh bytes options first_point) (length bytes)) end at →
-    Flushes (FlowStep is_content) R end at true found new → is_content r.Content ≡ true → FlowReads R bytes options found new
-flow-reads is_content R bytes options end at found new small run f is = go (runs-register is_content true end at is (runs-register is_content false (Next s.FlowStart) (reads_to w0 (length bytes)) is (inl (refl, tt)) end at run) f.end f.at f.runs)
+others-heading : (k : RowKind) (row : Row) → Others is_no_heading (row_events_by k row) → k ≢ HeadingRow
+others-heading k row o e =
+    let P : RowKind → Type 0 = λ x. Others is_no_heading (row_events_by x row) in
+    let inside = others-front is_no_heading (around n.HeadingAtx row.first row.end row.inside) (ending_events n.LineEnding row) (subst P e o) in
+    let bad : false ≡ true = (others-behind is_no_heading row.inside (exit n.HeadingAtx row.end ∷ []) inside.1).0 in
+    absurd (cc)
+
+no-heading : (rows : List Row) → Others is_no_heading (rows_events rows) → NoHeading rows
+no-heading [] o = tt
+no-heading (row ∷ rows) o =
+    (others-heading row.kind row (others-front is_no_heading (row_events row) (rows_events rows) o), no-heading rows (others-behind is_no_heading (row_events row) (rows_events rows) o))
+
+reads-by : (R : Resolution) (rows : List Row) (b : Bool) (at : World) (found : Found) (new : World) → (b ≡ false → NoText rows) → ReadIf R b at found new → ReadsNone rows at found new ⊎ ReadsContent R at found new
+reads-by R rows true at found new none h = inr h
+reads-by R rows false at found new none h = inl (record { no_text = none refl; same = h.1; found_is = h.0 })
+
+sets-by : (R : Resolution) (rows : List Row) (b : Bool) (at : World) (was found : Found) (new : World) → (b ≡ false → NoHeading rows) → SetIf R b at was found new → SetsNone rows at was found new ⊎ SetsHeadings R at was found new
+sets-by R rows true at was found new none h = inr h
+sets-by R rows false at was found new none h = inl (record { no_heading = none refl; same = h.1; found_is = h.0 })
+
+-- what flow has read of a text from a point on, once all of it was pushed and flushed
+pub flow-reads : (is_name : ResolveName → ResolveName → Bool) (R : Resolution) (bytes : List ℕ) (options : ParseOptions) (p : Point) (end : State) (at : World) (found : Found) (new : World) → length bytes < 2 ^ 61 →
+    Runs (FlowStep is_name) false (Next s.FlowStart) (reads_to (fresh bytes options p) (length bytes)) end at →
+    Flushes (FlowStep is_name) R end at true found new → is_name r.Content r.Content ≡ true → is_name r.HeadingAtx r.HeadingAtx ≡ true → is_name r.Content r.HeadingAtx ≡ false → is_name r.HeadingAtx r.Content ≡ false →
+    FlowReads R bytes options p found new
+flow-reads is_name R bytes options p end at found new small run f c h ch hc =
+    go (runs-register is_name true end at tells (runs-register is_name false (Next s.FlowStart) (reads_to w0 (length bytes)) tells none-yet end at run) f.end f.at f.runs)
   where
     w0 : World
-    w0 = fresh bytes options first_point
+    w0 = fresh bytes options p
 
-    begun : stands flow_table_scheme (reads_to (fresh bytes options first_point) (length bytes)) (Next s.FlowStart)
+    tells : Tells is_name
+    tells = record { content = c; heading = h; no_content = hc; no_heading = ch }
+
+    begun : stands flow_table_scheme (reads_to (fresh bytes options p) (length bytes)) (Next s.FlowStart)
     begun = (refl, record { ok = λ s q t is up way. tt; nok = λ s q t is up. tt })
 
-    pushed : (comes_to (flow_behaves options) (text_feed (text_setting bytes options)) (Next s.FlowStart) (fresh bytes options first_point) ≡ comes_to (flow_behaves options) (text_feed (text_setting bytes options)) end at) × stands flow_table_scheme at (plain end)
-    pushed = flow_push is_content (Next s.FlowStart) end (fresh bytes options first_point) at (length bytes) (length bytes) small (omega arith) begun run
+    pushed : (comes_to (flow_behaves options) (text_feed (text_setting bytes options p)) (Next s.FlowStart) (fresh bytes options p) ≡ comes_to (flow_behaves options) (text_feed (text_setting bytes options p)) end at) × stands flow_table_scheme at (plain end)
+    pushed = flow_push is_name (Next s.FlowStart) end (fresh bytes options p) at (length bytes) (length bytes) small (omega arith) begun run
 
-    kept : at.setting ≡ text_setting bytes options
-    kept = runs-setting (FlowStep is_content) false (Next s.FlowStart) (reads_to (fresh bytes options first_point) (length bytes)) end at run
+    kept : at.setting ≡ text_setting bytes options p
+    kept = runs-setting (FlowStep is_name) false (Next s.FlowStart) (reads_to (fresh bytes options p) (length bytes)) end at run
 
     limit : at.setting.limit < 2 ^ 61
     limit = let P : Setting → Type 0 = λ y. y.limit < 2 ^ 61 in subst P (sym kept) small
 
-    means : comes_to (flow_behaves at.setting.options) (text_feed at.setting) end at ≡ flow_at at.setting.options (text_cells bytes options) (here (fresh bytes options first_point))
+    means : comes_to (flow_behaves at.setting.options) (text_feed at.setting) end at ≡ flow_at at.setting.options (text_cells bytes options p) (here (fresh bytes options p))
     means =
-        let P : Setting → Type 0 = λ y. comes_to (flow_behaves y.options) (text_feed y) end at ≡ flow_at y.options (text_cells bytes options) (here (fresh bytes options first_point)) in
+        let P : Setting → Type 0 = λ y. comes_to (flow_behaves y.options) (text_feed y) end at ≡ flow_at y.options (text_cells bytes options p) (here (fresh bytes options p)) in
         subst P (sym kept) (sym pushed.0)
 
-    out : flow_at options (text_cells bytes options) (here (fresh bytes options first_point)) ≡ Accepts (here f.at) []
+    out : flow_at options (text_cells bytes options p) (here (fresh bytes options p)) ≡ Accepts (here f.at) []
     out =
-        let P : Setting → Type 0 = λ y. flow_at y.options (text_cells bytes options) (here (fresh bytes options first_point)) ≡ Accepts (here f.at) [] in
-        subst P kept (flow_outcome is_content R end at true found new (text_cells bytes options) (here (fresh bytes options first_point)) limit pushed.1 means f)
+        let P : Setting → Type 0 = λ y. flow_at y.options (text_cells bytes options p) (here (fresh bytes options p)) ≡ Accepts (here f.at) [] in
+        subst P kept (flow_outcome is_name R end at true found new (text_cells bytes options p) (here (fresh bytes options p)) limit pushed.1 means f)
 
-    events : f.at.events ≡ rows_events (text_rows options bytes)
-    events = flow_at-rows options (text_cells bytes options) (here (fresh bytes options first_point)) (here f.at) [] out
+    events : f.at.events ≡ rows_events (text_rows options bytes p)
+    events = flow_at-rows options (text_cells bytes options p) (here (fresh bytes options p)) (here f.at) [] out
 
-    setting : f.at.setting ≡ text_setting bytes options
-    setting = runs-setting (FlowStep is_content) true end at f.end f.at f.runs ∙ kept
+    setting : f.at.setting ≡ text_setting bytes options p
+    setting = runs-setting (FlowStep is_name) true end at f.end f.at f.runs ∙ kept
 
-    go : Registers f.at → FlowReads R bytes options found new
-    go (inl h) =
-        let none = resolved-none R (record f.at { resolvers = [] }) f.at.resolvers found new f.resolved h.0 in
-        let P : List Event → Type 0 = λ es. Others es in
+    go : Registers f.at → FlowReads R bytes options p found new
+    go registers =
+        let ran = resolved-named R (record f.at { resolvers = [] }) registers.content registers.heading f.at.resolvers found new f.resolved registers.names_are in
+        let P : List Event → Type 0 = λ es. Others is_no_content es in
+        let Q : List Event → Type 0 = λ es. Others is_no_heading es in
         record {
           at = record f.at { resolvers = [] };
           events = events;
           setting = setting;
           frames = f.none_left;
           resolvers = refl;
-          reads = inl (record { no_text = others-rows (text_rows options bytes) (subst P events h.1); same = none.1; found_is = none.0 });
+          mid = ran.mid;
+          mid_found = ran.mid_found;
+          reads = reads-by R (text_rows options bytes p) registers.content (record f.at { resolvers = [] }) ran.mid_found ran.mid (λ e. no-text (text_rows options bytes p) (subst P events (registers.no_content e))) ran.reads;
+          sets = sets-by R (text_rows options bytes p) registers.heading ran.mid ran.mid_found found new (λ e. no-heading (text_rows options bytes p) (subst Q events (registers.no_heading e))) ran.sets;
         }
-    go (inr h) = record {
-      at = record f.at { resolvers = [] };
-      events = events;
-      setting = setting;
-      frames = f.none_left;
-      resolvers = refl;
-      reads = inr (resolved-one R (record f.at { resolvers = [] }) f.at.resolvers found new f.resolved h);
-    }
 
 -- the same for a tokenizer that is known to be fresh
-pub flow-reads-from : (is_content : ResolveName → Bool) (R : Resolution) (bytes : List ℕ) (options : ParseOptions) (start : World) (to : ℕ) (end : State) (at : World) (found : Found) (new : World) → start ≡ fresh bytes options first_point → to ≡ length bytes → length bytes < 2 ^ 61 →
-    Runs (FlowStep is_content) false (Next s.FlowStart) (reads_to start to) end at →
-    Flushes (FlowStep is_content) R end at true found new → is_content r.Content ≡ true → FlowReads R bytes options found new
-flow-reads-from is_content R bytes options start to end at found new same all small run f is =
-    let P : World → Type 0 = λ w. Runs (FlowStep is_content) false (Next s.FlowStart) (reads_to w (length bytes)) end at in
-    let Q : ℕ → Type 0 = λ n. Runs (FlowStep is_content) false (Next s.FlowStart) (reads_to start n) end at in
-    flow-reads is_content R bytes options end at found new small (subst P same (subst Q all run)) f is
+pub flow-reads-from : (is_name : ResolveName → ResolveName → Bool) (R : Resolution) (bytes : List ℕ) (options : ParseOptions) (p : Point) (start : World) (to : ℕ) (end : State) (at : World) (found : Found) (new : World) → start ≡ fresh bytes options p → to ≡ length bytes → length bytes < 2 ^ 61 →
+    Runs (FlowStep is_name) false (Next s.FlowStart) (reads_to start to) end at →
+    Flushes (FlowStep is_name) R end at true found new → is_name r.Content r.Content ≡ true → is_name r.HeadingAtx r.HeadingAtx ≡ true → is_name r.Content r.HeadingAtx ≡ false → is_name r.HeadingAtx r.Content ≡ false →
+    FlowReads R bytes options p found new
+flow-reads-from is_name R bytes options p start to end at found new same all small run f c h ch hc =
+    let P : World → Type 0 = λ w. Runs (FlowStep is_name) false (Next s.FlowStart) (reads_to w (length bytes)) end at in
+    let Q : ℕ → Type 0 = λ n. Runs (FlowStep is_name) false (Next s.FlowStart) (reads_to start n) end at in
+    flow-reads is_name R bytes options p end at found new small (subst P same (subst Q all run)) f c h ch hc
 
 -- What is known behind the resolvers of flow.
 
--- reading content keeps the setting
-pub reads-setting : (bytes : List ℕ) (options : ParseOptions) (found : Found) (new : World) → FlowReads resolved_as bytes options found new → new.setting ≡ text_setting bytes options
-reads-setting bytes options found new h = go h.reads
+-- they keep the setting
+pub reads-setting : (bytes : List ℕ) (options : ParseOptions) (p : Point) (found : Found) (new : World) → FlowReads resolved_as bytes options p found new → new.setting ≡ text_setting bytes options p
+reads-setting bytes options p found new h = onto h.sets ∙ go h.reads ∙ h.setting
   where
-    go : ReadsNone (text_rows options bytes) h.at found new ⊎ ReadsContent resolved_as h.at found new → new.setting ≡ text_setting bytes options
-    go (inl none) = ap (λ (w : World). w.setting) none.same ∙ h.setting
-    go (inr some) = ap (λ (w : World). w.setting) some.resolved.rest ∙ h.setting
+    onto : SetsNone (text_rows options bytes p) h.mid h.mid_found found new ⊎ SetsHeadings resolved_as h.mid h.mid_found found new → new.setting ≡ h.mid.setting
+    onto (inl none) = ap (λ (w : World). w.setting) none.same
+    onto (inr some) = ap (λ (w : World). w.setting) some.resolved.1
 
--- and finds no label
-pub reads-labels : (bytes : List ℕ) (options : ParseOptions) (found : Found) (new : World) → FlowReads resolved_as bytes options found new → NoLabels found
-reads-labels bytes options found new h = go h.reads
+    go : ReadsNone (text_rows options bytes p) h.at h.mid_found h.mid ⊎ ReadsContent resolved_as h.at h.mid_found h.mid → h.mid.setting ≡ h.at.setting
+    go (inl none) = ap (λ (w : World). w.setting) none.same
+    go (inr some) = ap (λ (w : World). w.setting) some.resolved.rest
+
+-- and find no label
+pub reads-labels : (bytes : List ℕ) (options : ParseOptions) (p : Point) (found : Found) (new : World) → FlowReads resolved_as bytes options p found new → NoLabels found
+reads-labels bytes options p found new h = onto h.sets (go h.reads)
   where
-    go : ReadsNone (text_rows options bytes) h.at found new ⊎ ReadsContent resolved_as h.at found new → NoLabels found
+    go : ReadsNone (text_rows options bytes p) h.at h.mid_found h.mid ⊎ ReadsContent resolved_as h.at h.mid_found h.mid → NoLabels h.mid_found
     go (inl none) = rw none.found_is (record { definitions = refl; footnotes = refl })
     go (inr some) = rw (some.found_is, some.resolved.found_is) (record { definitions = refl; footnotes = refl })
 
--- where no line is text, each group is a line
-pub no-text-groups : (bytes : List ℕ) (rows : List Row) → NoText rows → groups_events bytes (groups rows) ≡ rows_events rows
-no-text-groups bytes [] h = refl
-no-text-groups bytes (row ∷ rows) h =
-    ap (groups_events bytes) (single row row.kind (groups rows) h.0) ∙ ap (λ (es : List Event). row_events row ++ es) (no-text-groups bytes rows h.1)
-  where
-    single : (row : Row) (k : RowKind) (gs : List Group) → k ≢ TextRow → onto_groups row k gs ≡ Single row ∷ gs
-    single row BlankRow gs h = refl
-    single row BreakRow gs h = refl
-    single row TextRow gs h = absurd (h refl)
+    onto : SetsNone (text_rows options bytes p) h.mid h.mid_found found new ⊎ SetsHeadings resolved_as h.mid h.mid_found found new → NoLabels h.mid_found → NoLabels found
+    onto (inl none) k = rw none.found_is k
+    onto (inr some) k = rw (some.found_is, some.resolved.0) k
