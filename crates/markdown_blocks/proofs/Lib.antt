@@ -7,6 +7,7 @@ pub mod FlowRuns
 pub mod FlowEnds
 pub mod RowFacts
 pub mod FeedLines
+pub mod HeadingSpread
 pub mod LineKinds
 pub mod HeadingLines
 pub mod RowLemmas
