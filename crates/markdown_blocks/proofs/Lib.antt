@@ -10,6 +10,7 @@ pub mod FeedLines
 pub mod HeadingSpread
 pub mod LineKinds
 pub mod HeadingLines
+pub mod HeadingRuns
 pub mod RowLemmas
 pub mod FlowRows
 pub mod FlowReads
