@@ -26,3 +26,4 @@ pub mod Sketches
 pub mod PlainEvents
 pub mod ParagraphReads
 pub mod TitleFacts
+pub mod TitleNests
