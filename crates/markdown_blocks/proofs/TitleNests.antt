@@ -1,5 +1,5 @@
 -- The parts of a heading nest, and stand one behind the other on its line.
-use Rattle.std.proofs.Common.{◌≡◌, ℕ, ◌+◌, ◌<◌, Bool, true, false, cond, List, [], ◌∷◌, ◌++◌, length, take, drop, refl, ap, sym, ◌∙◌, subst, append_assoc, append-nil, arith, take-add}
+use Rattle.std.proofs.Common.{◌≡◌, ◌≢◌, ℕ, ◌+◌, ◌<◌, Bool, true, false, cond, List, [], ◌∷◌, ◌++◌, length, take, drop, refl, ap, sym, ◌∙◌, subst, append_assoc, append-nil, arith, take-add}
 use Rattle.std.specs.Prelude.{IsTrue}
 use Rattle.std.proofs.lemmas.Bool.Decides.{nat_tests}
 use Rattle.std.proofs.lemmas.List.{take-append-drop}
@@ -11,7 +11,16 @@ use Rattle.md_leaves.specs.HeadingRule.{Apart, Hashes, Run, Text, White, begun, 
 use Rattle.md_leaves.specs.HeadingTitle.{front_len, line_runs, text_of, title_of}
 use Rattle.md_seam.specs.Nested.{Balanced, Forward, Matches, last_point, open_after}
 use Rattle.md_seam.specs.Places.{at_or_before, past_byte, past_text}
-use Rattle.md_seam.proofs.NestedLemmas.{at_or_before-refl, at_or_before-trans, forward-append, forward-from, last_point-append}
+use Rattle.md_seam.proofs.NestedLemmas.{at_or_before-refl, at_or_before-trans, forward-append, last_point-append}
+use Rattle.markdown_blocks.specs.Rows.{BlankRow, BreakRow, HeadingRow, RowKind}
+
+-- Lines that are no headings.
+
+pub blank-no_heading : (kind : RowKind) → kind ≡ BlankRow → kind ≢ HeadingRow
+blank-no_heading kind e k = cc
+
+pub break-no_heading : (kind : RowKind) → kind ≡ BreakRow → kind ≢ HeadingRow
+break-no_heading kind e k = cc
 
 -- Points.
 
