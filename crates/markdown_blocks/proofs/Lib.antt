@@ -27,3 +27,4 @@ pub mod PlainEvents
 pub mod ParagraphReads
 pub mod TitleFacts
 pub mod TitleNests
+pub mod TitlePlaces

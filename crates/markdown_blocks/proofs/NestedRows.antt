@@ -13,7 +13,7 @@ use Rattle.md_seam.specs.Inline.{line_end, pair_unless_empty, plain_chunk, plain
 use Rattle.md_seam.specs.Nested.{Balanced, Forward, Nested, around, enter, exit, last_point, pair}
 use Rattle.md_seam.specs.Places.{at_or_before, first_point, past_text, same_place}
 use Rattle.md_seam.proofs.InlineLemmas.{balanced-pair, end-before, end-behind}
-use Rattle.md_seam.proofs.NestedLemmas.{at_or_before-refl, at_or_before-trans, balanced-append, balanced-around, balanced-insert, balanced-none, forward-append, forward-from, forward-last}
+use Rattle.md_seam.proofs.NestedLemmas.{at_or_before-refl, at_or_before-trans, balanced-append, balanced-around, balanced-insert, balanced-none, forward-append, forward-from}
 use Rattle.md_seam.proofs.TextsLemmas.{Both, Ending, LineFeed, Return, ending_bytes}
 use Rattle.markdown_blocks.specs.Rows.{BlankRow, BreakRow, Group, HeadingRow, Lines, Row, RowKind, Single, TextRow, behind_row, chunks_of, ending_events, groups, groups_events, last_row, onto_groups, read_text, read_title, row_line, row_title, single_events_by}
 use Rattle.markdown_blocks.proofs.JoinedLemmas.{behind-is, behind-none}
