@@ -1,5 +1,5 @@
 -- Around the text of a heading stand only spaces, tabs and `#`.
-use Rattle.std.proofs.Common.{◌≡◌, ℕ, ◌+◌, ◌-◌, Bool, true, false, cond, ◌||◌, List, [], ◌∷◌, ◌++◌, length, take, drop, reverse, refl, ap, sym, ◌∙◌, subst, append_assoc, append-nil, arith, take-add, drop-drop}
+use Rattle.std.proofs.Common.{◌≡◌, ℕ, suc, ◌+◌, ◌-◌, Bool, true, false, cond, ◌||◌, List, [], ◌∷◌, ◌++◌, length, take, drop, reverse, refl, ap, sym, ◌∙◌, subst, append_assoc, append-nil, arith, take-add, drop-drop}
 use Rattle.std.specs.Prelude.{◌==◌}
 use Rattle.std.specs.List.{list_all, prefix_len, suffix_len}
 use Rattle.std.proofs.lemmas.Bool.{and_from, and_parts}
@@ -41,7 +41,9 @@ prefix-edges test [] h = refl
 prefix-edges test (b ∷ xs) h = go (test b) refl (prefix-edges test xs h)
   where
     go : (t : Bool) → test b ≡ t → AreEdges (take (prefix_len test xs) xs) → AreEdges (take (cond t (1 + prefix_len test xs) 0) (b ∷ xs))
-    go true e more = and_from (is_edge b) (list_all is_edge (take (prefix_len test xs) xs)) (h.edge b e) more
+    go true e more =
+        let next : 1 + prefix_len test xs ≡ suc (prefix_len test xs) = omega arith in
+        subst (λ (i : ℕ). AreEdges (take i (b ∷ xs))) (sym next) (and_from (is_edge b) (list_all is_edge (take (prefix_len test xs) xs)) (h.edge b e) more)
     go false e more = refl
 
 reverse-edges : (xs : List ℕ) → AreEdges xs → AreEdges (reverse xs)
