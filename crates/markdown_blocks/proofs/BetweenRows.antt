@@ -1,30 +1,37 @@
--- The events of a text stand between its characters, where only breaks are on.
-use Rattle.std.proofs.Common.{◌≡◌, ℕ, zero, suc, ◌+◌, ◌-◌, ◌<◌, ◌≤◌, Bool, true, false, cond, ◌&&◌, ◌||◌, List, [], ◌∷◌, ◌++◌, length, get_or, drop, slice_range, refl, ap, sym, ◌∙◌, subst, append_assoc, arith}
+-- The events of a text stand between its characters, where only headings and breaks are on.
+use Rattle.std.proofs.Common.{◌≡◌, ◌≢◌, ℕ, zero, suc, ◌+◌, ◌-◌, ◌<◌, ◌≤◌, Bool, true, false, cond, ◌&&◌, ◌||◌, List, [], ◌∷◌, ◌++◌, length, get_or, take, drop, slice_range, refl, ap, sym, ◌∙◌, subst, append_assoc, drop-drop, arith}
 use Rattle.std.specs.Prelude.{◌==◌, IsTrue, not, nat_lt, nat_le, slice_index, Option, Some, None}
 use Rattle.std.specs.List.{count_by, list_all, prefix_len}
-use Rattle.std.proofs.lemmas.Bool.{and_parts, and_from, eq-eqb, eqb-true}
+use Rattle.std.proofs.lemmas.Bool.{and_parts, and_from, eqb-true}
 use Rattle.std.proofs.lemmas.Bool.Decides.{nat_tests}
-use Rattle.std.proofs.lemmas.List.{get_or-drop, get_or-take}
+use Rattle.std.proofs.lemmas.List.{get_or-drop, get_or-take, take-append-drop}
 use Rattle.std.proofs.lemmas.List.Sums.{take_while-cons}
 use Rattle.md_engine.specs.declared.configuration.ParseOptions.{ParseOptions}
 use Rattle.md_engine.specs.declared.event.Event.{Event}
 use Rattle.md_engine.specs.declared.event.Name.{Name}
 use Rattle.md_engine.specs.declared.event.Name.TheVariants as n
 use Rattle.md_engine.specs.declared.event.Point.{Point}
+use Rattle.md_leaves.specs.Heading.{heading_link}
+use Rattle.md_leaves.specs.HeadingRule.{Apart, Hashes, Run, Text, White, begun, closes, goes_on, is_heading, opens}
+use Rattle.md_leaves.specs.HeadingTitle.{Title, chunk_unless_empty, front_len, line_runs, text_of, title_of}
 use Rattle.md_seam.specs.declared.inline.Chunk.{Chunk}
 use Rattle.md_seam.specs.Inline.{line_end, pair_unless_empty, plain_chunk, plain_chunks, together}
 use Rattle.md_seam.specs.Leaves.{is_rule, is_rule_marker}
 use Rattle.md_seam.specs.Lines.{is_ending, without_ending}
-use Rattle.md_seam.specs.Nested.{Forward, around, enter, exit, last_point, pair}
-use Rattle.md_seam.specs.Places.{at_or_before, first_point, past_text, same_place}
+use Rattle.md_seam.specs.Nested.{Forward, around, enter, enter_link, exit, last_point, pair}
+use Rattle.md_seam.specs.Places.{at_or_before, first_point, past_byte, past_text, same_place}
 use Rattle.md_seam.specs.Rest.{is_blank, is_white, trim_start}
+use Rattle.md_seam.proofs.InlineLemmas.{past-index}
 use Rattle.md_seam.proofs.NestedLemmas.{at_or_before-trans, forward-last}
 use Rattle.md_seam.proofs.PlacesLemmas.{all-append}
 use Rattle.md_seam.proofs.TextsLemmas.{Both, Ending, LineFeed, NoEnding, Return, ending_bytes}
 use Rattle.markdown_blocks.specs.Between.{is_between}
-use Rattle.markdown_blocks.specs.Rows.{BlankRow, BreakRow, Group, Lines, Row, RowKind, Single, TextRow, behind_row, chunks_of, ending_events, groups, groups_events, last_row, line_kind, onto_groups, row_events_by}
+use Rattle.markdown_blocks.specs.Rows.{BlankRow, BreakRow, Group, HeadingRow, Lines, Row, RowKind, Single, TextRow, behind_row, chunks_of, ending_events, groups, groups_events, last_row, line_kind, onto_groups, read_text, read_title, row_title, single_events_by}
+use Rattle.markdown_blocks.proofs.FeedLines.{at-next, drop-past, past-next, slice-front}
 use Rattle.markdown_blocks.proofs.JoinedLemmas.{behind-is, behind-none}
-use Rattle.markdown_blocks.proofs.RowFacts.{AreRows, IsEnding, IsRow, line-text}
+use Rattle.markdown_blocks.proofs.RowFacts.{AreRows, IsEnding, IsInside, IsRow, line-text}
+use Rattle.markdown_blocks.proofs.TitleNests.{back_bytes, blank-no_heading, break-no_heading, line-end-is, text-end-is, text_begin, text_bytes, text_end}
+use Rattle.markdown_blocks.proofs.TitlePlaces.{AreEdges, back-edges, front-edges, is_edge}
 
 -- Bytes of ASCII.
 
@@ -44,6 +51,12 @@ all-more test next (x ∷ xs) more h =
 
 white-low : (b : ℕ) → is_white b ≡ true → is_low b ≡ true
 white-low b h = grind (arith, nat_tests)
+
+edge-low : (b : ℕ) → is_edge b ≡ true → is_low b ≡ true
+edge-low b h = grind (arith, nat_tests)
+
+hash-low : (b : ℕ) → (b == 35) ≡ true → is_low b ≡ true
+hash-low b h = grind (arith, nat_tests)
 
 marker-low : (b : ℕ) → is_rule_marker b ≡ true → is_low b ≡ true
 marker-low b h = grind (arith, nat_tests)
@@ -78,21 +91,23 @@ trim-low (b ∷ line) h = go (is_white b) refl (trim-low line) h
         let next : 1 + prefix_len is_white line ≡ suc (prefix_len is_white line) = omega arith in
         and_from (is_low b) (list_all is_low line) (white-low b e) (rest (subst (λ (i : ℕ). list_all is_low (drop i (b ∷ line)) ≡ true) next h))
 
--- a line that is no text is of ASCII
+-- a line that is no heading and no text is of ASCII
 abbrev LowUnlessText : RowKind → List ℕ → Type 0
 LowUnlessText TextRow line = Unit {0}
+LowUnlessText HeadingRow line = Unit {0}
 LowUnlessText BlankRow line = list_all is_low line ≡ true
 LowUnlessText BreakRow line = list_all is_low line ≡ true
 
 line-low : (options : ParseOptions) (line : List ℕ) → LowUnlessText (line_kind options line) line
-line-low options line = go (is_blank line) refl (options.constructs.thematic_break && is_rule (trim_start line)) refl
+line-low options line = go (is_blank line) refl (options.constructs.heading_atx && is_heading (trim_start line)) (options.constructs.thematic_break && is_rule (trim_start line)) refl
   where
-    go : (x : Bool) → is_blank line ≡ x → (y : Bool) → (options.constructs.thematic_break && is_rule (trim_start line)) ≡ y → LowUnlessText (cond x BlankRow (cond y BreakRow TextRow)) line
-    go true e y k = blank-low line e
-    go false e true k =
+    go : (x : Bool) → is_blank line ≡ x → (z y : Bool) → (options.constructs.thematic_break && is_rule (trim_start line)) ≡ y → LowUnlessText (cond x BlankRow (cond z HeadingRow (cond y BreakRow TextRow))) line
+    go true e z y k = blank-low line e
+    go false e true y k = tt
+    go false e false true k =
         let parts : (options.constructs.thematic_break ≡ true) × (is_rule (trim_start line) ≡ true) = and_parts options.constructs.thematic_break (is_rule (trim_start line)) k in
         trim-low line (rule-low (trim_start line) parts.1)
-    go false e false k = tt
+    go false e false false k = tt
 
 -- Places.
 
@@ -107,32 +122,17 @@ low-at bytes line a e i text size low h k =
     ∙ ap (λ (l : List ℕ). get_or l (i - a) 0) text in
     subst (λ (b : ℕ). is_low b ≡ true) (sym reads) (all-at is_low line (i - a) 0 low (omega arith))
 
+-- an end of the text is such a place
 between-end : (bytes : List ℕ) (i : ℕ) → i ≡ length bytes → is_between bytes i ≡ true
-between-end bytes i e = go (i == 0) (i == length bytes) (is_low (slice_index bytes (i - 1))) (is_low (slice_index bytes i)) (eq-eqb i (length bytes) e)
-  where
-    go : (w x y z : Bool) → x ≡ true → (w || x || y || z) ≡ true
-    go true x y z h = refl
-    go false true y z h = refl
-    go false false y z h = cc
+between-end bytes i e = grind (arith, nat_tests)
 
+-- so is one behind a byte of ASCII
 between-behind : (bytes : List ℕ) (i : ℕ) → is_low (slice_index bytes (i - 1)) ≡ true → is_between bytes i ≡ true
-between-behind bytes i h = go (i == 0) (i == length bytes) (is_low (slice_index bytes (i - 1))) (is_low (slice_index bytes i)) h
-  where
-    go : (w x y z : Bool) → y ≡ true → (w || x || y || z) ≡ true
-    go true x y z h = refl
-    go false true y z h = refl
-    go false false true z h = refl
-    go false false false z h = cc
+between-behind bytes i h = grind (arith, nat_tests)
 
+-- and one in front of it
 between-before : (bytes : List ℕ) (i : ℕ) → is_low (slice_index bytes i) ≡ true → is_between bytes i ≡ true
-between-before bytes i h = go (i == 0) (i == length bytes) (is_low (slice_index bytes (i - 1))) (is_low (slice_index bytes i)) h
-  where
-    go : (w x y z : Bool) → z ≡ true → (w || x || y || z) ≡ true
-    go true x y z h = refl
-    go false true y z h = refl
-    go false false true z h = refl
-    go false false false true h = refl
-    go false false false false h = cc
+between-before bytes i h = grind (arith, nat_tests)
 
 -- An ending stands between two such places.
 
@@ -197,15 +197,18 @@ record RowBetween (bytes : List ℕ) (row : Row) : Type 0 where
   first : is_between bytes row.first.index ≡ true
   end : is_between bytes row.end.index ≡ true
   behind : is_between bytes (behind_row row).index ≡ true
-  inside : AreBetween bytes row.inside
+  inside : row.kind ≢ HeadingRow → AreBetween bytes row.inside
+  title : AreBetween bytes (read_title bytes (row_title bytes row))
   alone : line_end bytes (record { first = row.first; after = row.end }) ≡ row.end
   ended : line_end bytes (record { first = row.first; after = behind_row row }) ≡ row.end
 
-inside-between : (options : ParseOptions) (bytes line : List ℕ) (row : Row) → IsRow options bytes line row → is_between bytes row.end.index ≡ true → AreBetween bytes row.inside
-inside-between options bytes line row is end = go row.kind refl (subst (λ (k : RowKind). LowUnlessText k line) (sym is.kind) (line-low options line))
+inside-between : (options : ParseOptions) (bytes line : List ℕ) (row : Row) → IsRow options bytes line row → is_between bytes row.end.index ≡ true → row.kind ≢ HeadingRow → AreBetween bytes row.inside
+inside-between options bytes line row is end other = go row.kind refl (subst (λ (k : RowKind). LowUnlessText k line) (sym is.kind) (line-low options line))
   where
     low : list_all is_low line ≡ true → AreBetween bytes row.inside
-    low h = forward-between bytes row.first row.end row.inside is.forward is.within (λ i from to. at i from to (i == row.end.index) refl)
+    low h =
+        let inside : IsInside row = is.inside other in
+        forward-between bytes row.first row.end row.inside inside.forward inside.within (λ i from to. at i from to (i == row.end.index) refl)
       where
         at : (i : ℕ) → row.first.index ≤ i → i ≤ row.end.index → (x : Bool) → (i == row.end.index) ≡ x → is_between bytes i ≡ true
         at i from to true e = subst (λ (j : ℕ). is_between bytes j ≡ true) (sym (eqb-true i row.end.index e)) end
@@ -215,6 +218,7 @@ inside-between options bytes line row is end = go row.kind refl (subst (λ (k : 
 
     go : (kind : RowKind) → row.kind ≡ kind → LowUnlessText kind line → AreBetween bytes row.inside
     go BlankRow e h = low h
+    go HeadingRow e h = absurd (other e)
     go BreakRow e h = low h
     go TextRow e h = subst (AreBetween bytes) (sym (is.no_inside e)) refl
 
@@ -266,6 +270,159 @@ around-between bytes name ending row inside events b h k =
     (between-more bytes (enter name row.first) (inside ++ exit name row.end ∷ []) b.first (between-append bytes inside (exit name row.end ∷ []) h (between-more bytes (exit name row.end) [] b.end refl)))
     (ending-between bytes ending row b.end b.behind)) k
 
+-- Headings.
+
+-- what stands in front of a place in a run: a byte of ASCII, but in text
+abbrev BehindRun : List ℕ → Run → ℕ → Type 0
+BehindRun bytes Apart i = is_between bytes i ≡ true
+BehindRun bytes White i = is_low (slice_index bytes (i - 1)) ≡ true
+BehindRun bytes Hashes i = is_low (slice_index bytes (i - 1)) ≡ true
+BehindRun bytes Text i = Unit {0}
+
+-- behind a byte of ASCII
+low-behind : (bytes : List ℕ) (i b : ℕ) → slice_index bytes i ≡ b → is_low b ≡ true → is_low (slice_index bytes (i + 1 - 1)) ≡ true
+low-behind bytes i b e h =
+    let same : i + 1 - 1 ≡ i = omega arith in
+    subst (λ (c : ℕ). is_low c ≡ true) (sym (ap (slice_index bytes) same ∙ e)) h
+
+run-goes_on : (bytes : List ℕ) (run : Run) (i b : ℕ) → slice_index bytes i ≡ b → goes_on run b ≡ true → BehindRun bytes run (i + 1)
+run-goes_on bytes Apart i b e h = absurd (cc)
+run-goes_on bytes White i b e h = low-behind bytes i b e (white-low b h)
+run-goes_on bytes Hashes i b e h = low-behind bytes i b e (hash-low b h)
+run-goes_on bytes Text i b e h = tt
+
+run-begins : (bytes : List ℕ) (i b : ℕ) → slice_index bytes i ≡ b → BehindRun bytes (begun b) (i + 1)
+run-begins bytes i b e = go (is_white b) refl (b == 35) refl
+  where
+    go : (x : Bool) → is_white b ≡ x → (y : Bool) → (b == 35) ≡ y → BehindRun bytes (cond x White (cond y Hashes Text)) (i + 1)
+    go true f y k = low-behind bytes i b e (white-low b f)
+    go false f true k = low-behind bytes i b e (hash-low b k)
+    go false f false k = tt
+
+-- a run ends beside a byte of ASCII
+run-ends : (bytes : List ℕ) (run : Run) (i b : ℕ) → slice_index bytes i ≡ b → BehindRun bytes run i → goes_on run b ≡ false → is_between bytes i ≡ true
+run-ends bytes Apart i b e h k = h
+run-ends bytes White i b e h k = between-behind bytes i h
+run-ends bytes Hashes i b e h k = between-behind bytes i h
+run-ends bytes Text i b e h k = between-before bytes i (subst (λ (c : ℕ). is_low c ≡ true) (sym e) (white-low b (white (is_white b) k)))
+  where
+    white : (x : Bool) → not x ≡ false → x ≡ true
+    white true k = refl
+    white false k = absurd (cc)
+
+closes-between : (bytes : List ℕ) (run : Run) (p : Point) → is_between bytes p.index ≡ true → AreBetween bytes (closes run p)
+closes-between bytes Apart p h = refl
+closes-between bytes White p h = between-more bytes (exit n.SpaceOrTab p) [] h refl
+closes-between bytes Hashes p h = between-more bytes (exit n.HeadingAtxSequence p) [] h refl
+closes-between bytes Text p h = between-more bytes (exit n.Data p) [] h refl
+
+opens-between : (bytes : List ℕ) (run : Run) (p : Point) → is_between bytes p.index ≡ true → AreBetween bytes (opens run p)
+opens-between bytes Apart p h = refl
+opens-between bytes White p h = between-more bytes (enter n.SpaceOrTab p) [] h refl
+opens-between bytes Hashes p h = between-more bytes (enter n.HeadingAtxSequence p) [] h refl
+opens-between bytes Text p h = between-more bytes (enter_link n.Data p heading_link) [] h refl
+
+-- The runs of a piece of a text stand between its characters, if it ends so.
+runs-between : (bytes : List ℕ) (run : Run) (xs rest : List ℕ) (p : Point) → drop p.index bytes ≡ xs ++ rest → BehindRun bytes run p.index → is_between bytes (past_text xs p).index ≡ true → AreBetween bytes (line_runs run xs p)
+runs-between bytes run [] rest p text behind end = closes-between bytes run p end
+runs-between bytes run (b ∷ xs) rest p text behind end =
+    go (goes_on run b) refl (λ k. runs-between bytes run xs rest (past_byte b p) more (run-goes_on bytes run p.index b here k) end)
+    (runs-between bytes (begun b) xs rest (past_byte b p) more (run-begins bytes p.index b here) end)
+  where
+    here : slice_index bytes p.index ≡ b
+    here = at-next p.index bytes b (xs ++ rest) text
+
+    more : drop (p.index + 1) bytes ≡ xs ++ rest
+    more = past-next p.index bytes b (xs ++ rest) text
+
+    go : (t : Bool) → goes_on run b ≡ t → (goes_on run b ≡ true → AreBetween bytes (line_runs run xs (past_byte b p))) → AreBetween bytes (line_runs (begun b) xs (past_byte b p)) →
+        AreBetween bytes (cond t (line_runs run xs (past_byte b p)) ((closes run p ++ opens (begun b) p) ++ line_runs (begun b) xs (past_byte b p)))
+    go true k same next = same k
+    go false k same next =
+        let at : is_between bytes p.index ≡ true = run-ends bytes run p.index b here behind k in
+        between-append bytes (closes run p ++ opens (begun b) p) (line_runs (begun b) xs (past_byte b p))
+        (between-append bytes (closes run p) (opens (begun b) p) (closes-between bytes run p at) (opens-between bytes (begun b) p at)) next
+
+-- behind and in front of a piece of spaces, tabs and `#`
+behind-edges : (bytes xs rest : List ℕ) (p : Point) → drop p.index bytes ≡ xs ++ rest → AreEdges xs → is_between bytes p.index ≡ true → is_between bytes (past_text xs p).index ≡ true
+behind-edges bytes [] rest p text edges h = h
+behind-edges bytes (b ∷ xs) rest p text edges h =
+    let parts : (is_edge b ≡ true) × AreEdges xs = and_parts (is_edge b) (list_all is_edge xs) edges in
+    let here : slice_index bytes p.index ≡ b = at-next p.index bytes b (xs ++ rest) text in
+    behind-edges bytes xs rest (past_byte b p) (past-next p.index bytes b (xs ++ rest) text) parts.1
+    (between-behind bytes (p.index + 1) (low-behind bytes p.index b here (edge-low b parts.0)))
+
+before-edges : (bytes xs rest : List ℕ) (p : Point) → drop p.index bytes ≡ xs ++ rest → AreEdges xs → is_between bytes (past_text xs p).index ≡ true → is_between bytes p.index ≡ true
+before-edges bytes [] rest p text edges h = h
+before-edges bytes (b ∷ xs) rest p text edges h =
+    let parts : (is_edge b ≡ true) × AreEdges xs = and_parts (is_edge b) (list_all is_edge xs) edges in
+    let here : slice_index bytes p.index ≡ b = at-next p.index bytes b (xs ++ rest) text in
+    between-before bytes p.index (subst (λ (c : ℕ). is_low c ≡ true) (sym here) (edge-low b parts.0))
+
+-- what stands behind a piece of a text
+behind-piece : (bytes xs rest : List ℕ) (p : Point) → drop p.index bytes ≡ xs ++ rest → drop (past_text xs p).index bytes ≡ rest
+behind-piece bytes xs rest p text = ap (λ (i : ℕ). drop i bytes) (past-index xs p) ∙ drop-past bytes p.index xs rest text
+
+-- the parts of a line without endings have none
+no_ending-parts : (xs ys : List ℕ) → NoEnding (xs ++ ys) → NoEnding xs × NoEnding ys
+no_ending-parts [] ys h = (tt, h)
+no_ending-parts (b ∷ xs) ys h = let parts : NoEnding xs × NoEnding ys = no_ending-parts xs ys h.1 in ((h.0, parts.0), parts.1)
+
+-- the text of a heading
+text-between : (bytes text rest : List ℕ) (size : ℕ) (p q : Point) → drop p.index bytes ≡ text ++ rest → NoEnding text → q ≡ past_text text p → is_between bytes p.index ≡ true → is_between bytes q.index ≡ true →
+    AreBetween bytes (read_text bytes (chunk_unless_empty size p q))
+text-between bytes text rest size p q stands none end h k = go (size == 0)
+  where
+    line : line_end bytes (record { first = p; after = q }) ≡ q
+    line =
+        ap (λ (l : List ℕ). past_text (without_ending l) p) (slice-front bytes p.index q.index text rest stands (ap (λ (r : Point). r.index) end ∙ past-index text p))
+        ∙ ap (λ (l : List ℕ). past_text l p) (without-none text none)
+        ∙ sym end
+
+    go : (empty : Bool) → AreBetween bytes (read_text bytes (cond empty None (Some (record { first = p; after = q }))))
+    go true = refl
+    go false =
+        let events : List Event = plain_chunk bytes (record { first = p; after = q }) in
+        between-more bytes (enter n.HeadingAtxText p) ((events ++ []) ++ exit n.HeadingAtxText q ∷ []) h
+        (between-append bytes (events ++ []) (exit n.HeadingAtxText q ∷ []) (between-append bytes events [] (chunk-between bytes p q q line h k k) refl)
+        (between-more bytes (exit n.HeadingAtxText q) [] k refl))
+
+-- what stands in a heading
+title-between : (bytes line rest : List ℕ) (p : Point) → drop p.index bytes ≡ line ++ rest → NoEnding line → is_between bytes p.index ≡ true → is_between bytes (past_text line p).index ≡ true →
+    AreBetween bytes (read_title bytes (title_of line p))
+title-between bytes line rest p stands none first last =
+    let title : Title = title_of line p in
+    let size : ℕ = length (text_of line) in
+    let front : List ℕ = take (front_len line) line in
+    let text : List ℕ = text_bytes line in
+    let back : List ℕ = back_bytes line in
+    let begin : Point = text_begin line p in
+    let end : Point = text_end line p in
+    let behind : drop (front_len line) line ≡ text ++ back =
+    sym (take-append-drop size (drop (front_len line) line)) ∙ ap (λ (l : List ℕ). text ++ l) (drop-drop size (front_len line) line) in
+    let whole : line ≡ front ++ (text ++ back) = sym (take-append-drop (front_len line) line) ∙ ap (λ (l : List ℕ). front ++ l) behind in
+    let at_front : drop p.index bytes ≡ front ++ ((text ++ back) ++ rest) = stands ∙ ap (λ (l : List ℕ). l ++ rest) whole ∙ append_assoc front (text ++ back) rest in
+    let at_text : drop begin.index bytes ≡ text ++ (back ++ rest) = behind-piece bytes front ((text ++ back) ++ rest) p at_front ∙ append_assoc text back rest in
+    let at_back : drop end.index bytes ≡ back ++ rest =
+    ap (λ (q : Point). drop q.index bytes) (text-end-is line p) ∙ behind-piece bytes text (back ++ rest) begin at_text in
+    let after : is_between bytes (past_text back end).index ≡ true = subst (λ (q : Point). is_between bytes q.index ≡ true) (line-end-is line p) last in
+    let starts : is_between bytes begin.index ≡ true = behind-edges bytes front ((text ++ back) ++ rest) p at_front (front-edges line) first in
+    let ends : is_between bytes end.index ≡ true = before-edges bytes back rest end at_back (back-edges line) after in
+    let inner : NoEnding (text ++ back) = (no_ending-parts front (text ++ back) (subst NoEnding whole none)).1 in
+    between-append bytes (title.front ++ read_text bytes title.text) title.back
+    (between-append bytes title.front (read_text bytes title.text) (runs-between bytes Apart front ((text ++ back) ++ rest) p at_front first starts)
+    (text-between bytes text (back ++ rest) size begin end at_text (no_ending-parts text back inner).0 (text-end-is line p) starts ends))
+    (runs-between bytes Apart back rest end at_back ends after)
+
+-- what would stand in a row if it were a heading
+row_title-between : (options : ParseOptions) (bytes line : List ℕ) (row : Row) → IsRow options bytes line row → is_between bytes row.first.index ≡ true → is_between bytes row.end.index ≡ true → AreBetween bytes (read_title bytes (row_title bytes row))
+row_title-between options bytes line row is first end =
+    let size : ℕ = row.end.index - row.first.index in
+    let from : List ℕ = drop row.first.index bytes in
+    let stands : from ≡ line ++ drop size from = sym (take-append-drop size from) ∙ ap (λ (l : List ℕ). l ++ drop size from) is.text in
+    subst (λ (l : List ℕ). AreBetween bytes (read_title bytes (title_of l row.first))) (sym is.text)
+    (title-between bytes line (drop size from) row.first stands is.no_ending first (subst (λ (q : Point). is_between bytes q.index ≡ true) is.end end))
+
 -- Groups.
 
 -- A line of text that is a paragraph.
@@ -296,12 +453,15 @@ between-next bytes row next rows gs b h =
 -- a line in front of others
 between-row : (bytes : List ℕ) (row : Row) (gs : List Group) → RowBetween bytes row → AreBetween bytes (groups_events bytes gs) → (kind : RowKind) → row.kind ≡ kind → AreBetween bytes (groups_events bytes (onto_groups row kind gs))
 between-row bytes row gs b h BlankRow e =
-    subst (λ (k : RowKind). AreBetween bytes (row_events_by k row ++ groups_events bytes gs)) (sym e)
+    subst (λ (k : RowKind). AreBetween bytes (single_events_by bytes k row ++ groups_events bytes gs)) (sym e)
     (between-append bytes (row.inside ++ ending_events n.BlankLineEnding row) (groups_events bytes gs)
-    (between-append bytes row.inside (ending_events n.BlankLineEnding row) b.inside (ending-between bytes n.BlankLineEnding row b.end b.behind)) h)
+    (between-append bytes row.inside (ending_events n.BlankLineEnding row) (b.inside (blank-no_heading row.kind e)) (ending-between bytes n.BlankLineEnding row b.end b.behind)) h)
+between-row bytes row gs b h HeadingRow e =
+    subst (λ (k : RowKind). AreBetween bytes (single_events_by bytes k row ++ groups_events bytes gs)) (sym e)
+    (around-between bytes n.HeadingAtx n.LineEnding row (read_title bytes (row_title bytes row)) (groups_events bytes gs) b b.title h)
 between-row bytes row gs b h BreakRow e =
-    subst (λ (k : RowKind). AreBetween bytes (row_events_by k row ++ groups_events bytes gs)) (sym e)
-    (around-between bytes n.ThematicBreak n.LineEnding row row.inside (groups_events bytes gs) b b.inside h)
+    subst (λ (k : RowKind). AreBetween bytes (single_events_by bytes k row ++ groups_events bytes gs)) (sym e)
+    (around-between bytes n.ThematicBreak n.LineEnding row row.inside (groups_events bytes gs) b (b.inside (break-no_heading row.kind e)) h)
 between-row bytes row [] b h TextRow e = between-first bytes row [] b h
 between-row bytes row (Single next ∷ gs) b h TextRow e = between-first bytes row (Single next ∷ gs) b h
 between-row bytes row (Lines next rows ∷ gs) b h TextRow e = between-next bytes row next rows gs b h
@@ -312,11 +472,13 @@ rows-between options bytes p (line ∷ []) (row ∷ []) from are =
     let is : IsRow options bytes line row = are.0 in
     let end : is_between bytes row.end.index ≡ true = between-end bytes row.end.index are.3 in
     let behind : behind_row row ≡ row.end = behind-none row are.2 in
+    let first : is_between bytes row.first.index ≡ true = subst (λ (q : Point). is_between bytes q.index ≡ true) (sym are.1) from in
     between-row bytes row [] (record {
-      first = subst (λ (q : Point). is_between bytes q.index ≡ true) (sym are.1) from;
+      first = first;
       end = end;
       behind = subst (λ (q : Point). is_between bytes q.index ≡ true) (sym behind) end;
       inside = inside-between options bytes line row is end;
+      title = row_title-between options bytes line row is first end;
       alone = line_end-alone options bytes line row is;
       ended = subst (λ (q : Point). line_end bytes (record { first = row.first; after = q }) ≡ row.end) (sym behind) (line_end-alone options bytes line row is);
     }) refl row.kind refl
@@ -325,11 +487,13 @@ rows-between options bytes p (line ∷ next ∷ lines) (row ∷ below ∷ rows) 
     let end : is_between bytes row.end.index ≡ true = ending-before bytes row.end are.2 are.4 in
     let after : is_between bytes are.2.index ≡ true = ending-behind bytes row.end are.2 are.4 in
     let behind : behind_row row ≡ are.2 = behind-is row are.2 are.3 in
+    let first : is_between bytes row.first.index ≡ true = subst (λ (q : Point). is_between bytes q.index ≡ true) (sym are.1) from in
     between-row bytes row (groups (below ∷ rows)) (record {
-      first = subst (λ (q : Point). is_between bytes q.index ≡ true) (sym are.1) from;
+      first = first;
       end = end;
       behind = subst (λ (q : Point). is_between bytes q.index ≡ true) (sym behind) after;
       inside = inside-between options bytes line row is end;
+      title = row_title-between options bytes line row is first end;
       alone = line_end-alone options bytes line row is;
       ended = subst (λ (q : Point). line_end bytes (record { first = row.first; after = q }) ≡ row.end) (sym behind) (line_end-ended options bytes line row are.2 is are.4);
     }) (rows-between options bytes are.2 (next ∷ lines) (below ∷ rows) after are.5) row.kind refl

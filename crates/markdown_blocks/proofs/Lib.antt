@@ -28,3 +28,5 @@ pub mod Sketches
 pub mod PlainEvents
 pub mod ParagraphReads
 pub mod TitleFacts
+pub mod TitleNests
+pub mod TitlePlaces

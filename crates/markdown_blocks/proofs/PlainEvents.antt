@@ -1,5 +1,5 @@
--- The events of a text where only breaks are on are those that an outline can be made of.
-use Rattle.std.proofs.Common.{◌≡◌, ℕ, Bool, true, false, cond, ◌||◌, ◌==◌, not, List, [], ◌∷◌, ◌++◌, refl, ◌∙◌, ap}
+-- The events of a text where only headings and breaks are on are those that an outline can be made of.
+use Rattle.std.proofs.Common.{◌≡◌, ◌≢◌, ℕ, ◌+◌, Bool, true, false, cond, ◌||◌, ◌==◌, not, List, [], ◌∷◌, ◌++◌, length, take, drop, refl, ◌∙◌, ap}
 use Rattle.std.specs.Prelude.{Option, Some, None}
 use Rattle.std.specs.List.{list_all}
 use Rattle.std.specs.Str.{IsUtf8}
@@ -9,17 +9,21 @@ use Rattle.md_engine.specs.declared.configuration.ParseOptions.{ParseOptions}
 use Rattle.md_engine.specs.declared.event.Event.{Event}
 use Rattle.md_engine.specs.declared.event.Name.TheVariants as n
 use Rattle.md_engine.specs.declared.event.Point.{Point}
+use Rattle.md_leaves.specs.HeadingRule.{Apart, Hashes, Run, Text as TextRun, White, begun, closes, goes_on, opens}
+use Rattle.md_leaves.specs.HeadingTitle.{Title, chunk_unless_empty, front_len, line_runs, text_of, title_of}
 use Rattle.md_seam.specs.declared.inline.Chunk.{Chunk}
 use Rattle.md_seam.specs.declared.inline.PartKind.TheVariants.{Text}
 use Rattle.md_seam.specs.Inline.{line_end, plain_chunk, plain_chunks, plain_events, together}
-use Rattle.md_seam.specs.Nested.{around, exit, pair}
-use Rattle.md_seam.specs.Places.{same_place}
-use Rattle.md_seam.specs.Spelled.{IsQuiet, Role, role}
+use Rattle.md_seam.specs.Nested.{around, enter, exit, pair}
+use Rattle.md_seam.specs.Places.{past_byte, same_place}
+use Rattle.md_seam.specs.Spelled.{IsQuiet, Role, role, spelled}
 use Rattle.md_seam.proofs.SpelledLemmas.{Quiet, Roles}
 use Rattle.markdown_blocks.specs.Between.{is_between}
-use Rattle.markdown_blocks.specs.Outlined.{IsOutlined, has_plain_name, is_paragraph, is_plain, is_whole}
-use Rattle.markdown_blocks.specs.Rows.{BlankRow, BreakRow, Group, Lines, Row, RowKind, Single, TextRow, chunks_of, ending_events, group_events, groups, groups_events, last_row, onto_groups, row_events, row_events_by}
-use Rattle.markdown_blocks.proofs.RowFacts.{AreRows}
+use Rattle.markdown_blocks.specs.Outlined.{IsOutlined, are_shallow, has_plain_name, is_plain, is_told, is_whole}
+use Rattle.markdown_blocks.specs.Rows.{BlankRow, BreakRow, Group, HeadingRow, Lines, Row, RowKind, Single, TextRow, chunks_of, ending_events, group_events, groups, groups_events, last_row, onto_groups, read_text, read_title, row_line, row_title, single_events_by}
+use Rattle.markdown_blocks.proofs.FeedLines.{past_text-whole}
+use Rattle.markdown_blocks.proofs.RowFacts.{AreRows, IsInside}
+use Rattle.markdown_blocks.proofs.TitleNests.{blank-no_heading, break-no_heading, text_begin, text_end}
 
 -- what an outline asks of the names and the columns of events
 pub record ArePlain (events : List Event) : Type 0 where
@@ -45,7 +49,7 @@ quiet-plain : (x : Role) → Quiet x → is_plain x ≡ true
 quiet-plain IsQuiet h = refl
 quiet-plain _ h = absurd h
 
-quiet-whole : (x : Role) (b : Bool) → Quiet x → (not (is_paragraph x) || b) ≡ true
+quiet-whole : (x : Role) (b : Bool) → Quiet x → (not (is_told x) || b) ≡ true
 quiet-whole IsQuiet b h = refl
 quiet-whole _ b h = absurd h
 
@@ -59,6 +63,15 @@ plain-around-paragraph : (p q : Point) (inside : List Event) → p.vs ≡ 0 → 
 plain-around-paragraph p q inside hp hq h =
     plain-cons _ (inside ++ exit n.Paragraph q ∷ []) refl (ap (λ v. v == 0) hp)
     (plain-append inside (exit n.Paragraph q ∷ []) h (plain-cons (exit n.Paragraph q) [] refl (ap (λ v. v == 0) hq) plain-nil))
+
+plain-around-text : (p q : Point) (inside : List Event) → p.vs ≡ 0 → q.vs ≡ 0 → ArePlain inside → ArePlain (around n.HeadingAtxText p q inside)
+plain-around-text p q inside hp hq h =
+    plain-cons _ (inside ++ exit n.HeadingAtxText q ∷ []) refl (ap (λ v. v == 0) hp)
+    (plain-append inside (exit n.HeadingAtxText q ∷ []) h (plain-cons (exit n.HeadingAtxText q) [] refl (ap (λ v. v == 0) hq) plain-nil))
+
+plain-around-heading : (p q : Point) (inside : List Event) → ArePlain inside → ArePlain (around n.HeadingAtx p q inside)
+plain-around-heading p q inside h =
+    plain-cons _ (inside ++ exit n.HeadingAtx q ∷ []) refl refl (plain-append inside (exit n.HeadingAtx q ∷ []) h (record { names = refl; whole = refl }))
 
 plain-around-break : (p q : Point) (inside : List Event) → ArePlain inside → ArePlain (around n.ThematicBreak p q inside)
 plain-around-break p q inside h =
@@ -94,11 +107,56 @@ plain-chunks : (bytes : List ℕ) (chunks : List Chunk) → ArePlain (together (
 plain-chunks bytes [] = plain-nil
 plain-chunks bytes (chunk ∷ chunks) = plain-append (plain_chunk bytes chunk) (together (plain_chunks bytes chunks)) (plain-chunk bytes chunk) (plain-chunks bytes chunks)
 
+-- Headings.
+
+-- the begin and the end of a run that cuts no tab
+plain-closes : (run : Run) (p : Point) → p.vs ≡ 0 → ArePlain (closes run p)
+plain-closes Apart p h = plain-nil
+plain-closes White p h = record { names = refl; whole = refl }
+plain-closes Hashes p h = plain-cons (exit n.HeadingAtxSequence p) [] refl (ap (λ v. v == 0) h) plain-nil
+plain-closes TextRun p h = record { names = refl; whole = refl }
+
+plain-opens : (run : Run) (p : Point) → p.vs ≡ 0 → ArePlain (opens run p)
+plain-opens Apart p h = plain-nil
+plain-opens White p h = record { names = refl; whole = refl }
+plain-opens Hashes p h = plain-cons (enter n.HeadingAtxSequence p) [] refl (ap (λ v. v == 0) h) plain-nil
+plain-opens TextRun p h = record { names = refl; whole = refl }
+
+plain-runs : (run : Run) (xs : List ℕ) (p : Point) → p.vs ≡ 0 → ArePlain (line_runs run xs p)
+plain-runs run [] p h = plain-closes run p h
+plain-runs run (b ∷ xs) p h = go (goes_on run b) (plain-runs run xs (past_byte b p) refl) (plain-runs (begun b) xs (past_byte b p) refl)
+  where
+    go : (more : Bool) → ArePlain (line_runs run xs (past_byte b p)) → ArePlain (line_runs (begun b) xs (past_byte b p)) →
+        ArePlain (cond more (line_runs run xs (past_byte b p)) ((closes run p ++ opens (begun b) p) ++ line_runs (begun b) xs (past_byte b p)))
+    go true same next = same
+    go false same next =
+        plain-append (closes run p ++ opens (begun b) p) (line_runs (begun b) xs (past_byte b p))
+        (plain-append (closes run p) (opens (begun b) p) (plain-closes run p h) (plain-opens (begun b) p h)) next
+
+plain-text : (bytes : List ℕ) (size : ℕ) (p q : Point) → p.vs ≡ 0 → q.vs ≡ 0 → ArePlain (read_text bytes (chunk_unless_empty size p q))
+plain-text bytes size p q hp hq = go (size == 0)
+  where
+    go : (none : Bool) → ArePlain (read_text bytes (cond none None (Some (record { first = p; after = q }))))
+    go true = plain-nil
+    go false =
+        let chunk : Chunk = record { first = p; after = q } in
+        plain-around-text p q (plain_events bytes (record { kind = Text; chunks = chunk ∷ [] })) hp hq (plain-chunks bytes (chunk ∷ []))
+
+plain-title : (bytes line : List ℕ) (p : Point) → p.vs ≡ 0 → ArePlain (read_title bytes (title_of line p))
+plain-title bytes line p h =
+    let title : Title = title_of line p in
+    let size : ℕ = length (text_of line) in
+    let begin : (text_begin line p).vs ≡ 0 = past_text-whole (take (front_len line) line) p h in
+    let end : (text_end line p).vs ≡ 0 = past_text-whole (take (front_len line + size) line) p h in
+    plain-append (title.front ++ read_text bytes title.text) title.back
+    (plain-append title.front (read_text bytes title.text) (plain-runs Apart (take (front_len line) line) p h) (plain-text bytes size (text_begin line p) (text_end line p) begin end))
+    (plain-runs Apart (drop (front_len line + size) line) (text_end line p) end)
+
 -- Rows.
 
 -- a row without names of other blocks, that cuts no tab
 pub record IsPlainRow (row : Row) : Type 0 where
-  pub inside : Roles Quiet row.inside
+  pub inside : row.kind ≢ HeadingRow → IsInside row
   pub first : row.first.vs ≡ 0
   pub end : row.end.vs ≡ 0
 
@@ -119,6 +177,7 @@ plain-onto row TextRow (Lines first rows ∷ gs) h k = ((h, k.0), k.1)
 plain-onto row TextRow (Single below ∷ gs) h k = ((h, tt), k)
 plain-onto row TextRow [] h k = ((h, tt), tt)
 plain-onto row BlankRow gs h k = (h, k)
+plain-onto row HeadingRow gs h k = (h, k)
 plain-onto row BreakRow gs h k = (h, k)
 
 plain-groups : (rows : List Row) → PlainRows rows → PlainGroups (groups rows)
@@ -129,16 +188,25 @@ plain-last : (row : Row) (rows : List Row) → IsPlainRow row → PlainRows rows
 plain-last row [] h k = h
 plain-last row (next ∷ rows) h k = plain-last next rows k.0 k.1
 
-plain-row : (row : Row) → IsPlainRow row → ArePlain (row_events row)
-plain-row row h = go row.kind
+plain-row : (bytes : List ℕ) (row : Row) → IsPlainRow row → ArePlain (single_events_by bytes row.kind row)
+plain-row bytes row h = go row.kind refl
   where
-    go : (kind : RowKind) → ArePlain (row_events_by kind row)
-    go BlankRow = plain-append row.inside (ending_events n.BlankLineEnding row) (plain-quiet row.inside h.inside) (plain-blank_endings row)
-    go BreakRow = plain-append (around n.ThematicBreak row.first row.end row.inside) (ending_events n.LineEnding row) (plain-around-break row.first row.end row.inside (plain-quiet row.inside h.inside)) (plain-endings row)
-    go TextRow = plain-cons _ (exit n.Content row.end ∷ ending_events n.LineEnding row) refl refl (plain-cons _ (ending_events n.LineEnding row) refl refl (plain-endings row))
+    quiet : row.kind ≢ HeadingRow → ArePlain row.inside
+    quiet other = let inside : IsInside row = h.inside other in plain-quiet row.inside inside.quiet
+
+    go : (kind : RowKind) → row.kind ≡ kind → ArePlain (single_events_by bytes kind row)
+    go BlankRow e = plain-append row.inside (ending_events n.BlankLineEnding row) (quiet (blank-no_heading row.kind e)) (plain-blank_endings row)
+    go HeadingRow e =
+        let inside : List Event = read_title bytes (row_title bytes row) in
+        plain-append (around n.HeadingAtx row.first row.end inside) (ending_events n.LineEnding row)
+        (plain-around-heading row.first row.end inside (plain-title bytes (row_line bytes row) row.first h.first)) (plain-endings row)
+    go BreakRow e =
+        plain-append (around n.ThematicBreak row.first row.end row.inside) (ending_events n.LineEnding row)
+        (plain-around-break row.first row.end row.inside (quiet (break-no_heading row.kind e))) (plain-endings row)
+    go TextRow e = plain-cons _ (exit n.Content row.end ∷ ending_events n.LineEnding row) refl refl (plain-cons _ (ending_events n.LineEnding row) refl refl (plain-endings row))
 
 plain-group : (bytes : List ℕ) (group : Group) → IsPlainGroup group → ArePlain (group_events bytes group)
-plain-group bytes (Single row) h = plain-row row h
+plain-group bytes (Single row) h = plain-row bytes row h
 plain-group bytes (Lines row rows) h =
     let last : Row = last_row row rows in
     let inside : List Event = plain_events bytes (record { kind = Text; chunks = chunks_of row rows }) in
@@ -152,18 +220,19 @@ plain-all bytes (group ∷ gs) h = plain-append (group_events bytes group) (grou
 
 -- the rows of a text are such rows
 plain-rows : (options : ParseOptions) (bytes : List ℕ) (p : Point) (lines : List (List ℕ)) (rows : List Row) → AreRows options bytes p lines rows → PlainRows rows
-plain-rows options bytes p (line ∷ []) (row ∷ []) h = (record { inside = h.0.quiet; first = h.0.first_whole; end = h.0.end_whole }, tt)
+plain-rows options bytes p (line ∷ []) (row ∷ []) h = (record { inside = h.0.inside; first = h.0.first_whole; end = h.0.end_whole }, tt)
 plain-rows options bytes p (line ∷ next ∷ lines) (row ∷ below ∷ rows) h =
-    (record { inside = h.0.quiet; first = h.0.first_whole; end = h.0.end_whole }, plain-rows options bytes h.2 (next ∷ lines) (below ∷ rows) h.5)
+    (record { inside = h.0.inside; first = h.0.first_whole; end = h.0.end_whole }, plain-rows options bytes h.2 (next ∷ lines) (below ∷ rows) h.5)
 plain-rows options bytes p [] rows h = absurd h
 plain-rows options bytes p (line ∷ []) [] h = absurd h
 plain-rows options bytes p (line ∷ next ∷ lines) [] h = absurd h
 plain-rows options bytes p (line ∷ []) (row ∷ below ∷ rows) h = absurd h
 plain-rows options bytes p (line ∷ next ∷ lines) (row ∷ []) h = absurd h
 
--- the events of a text are outlined, if they stand between its characters
+-- the events of a text are outlined, if they stand between its characters, and no heading is too deep
 pub groups-outlined : (options : ParseOptions) (bytes : List ℕ) (p : Point) (lines : List (List ℕ)) (rows : List Row) → AreRows options bytes p lines rows → IsUtf8 bytes →
-    list_all (λ (e : Event). is_between bytes e.point.index) (groups_events bytes (groups rows)) ≡ true → IsOutlined (groups_events bytes (groups rows)) bytes
-groups-outlined options bytes p lines rows are utf8 between =
+    list_all (λ (e : Event). is_between bytes e.point.index) (groups_events bytes (groups rows)) ≡ true → are_shallow (spelled (groups_events bytes (groups rows)) bytes) ≡ true →
+    IsOutlined (groups_events bytes (groups rows)) bytes
+groups-outlined options bytes p lines rows are utf8 between depths =
     let plain : ArePlain (groups_events bytes (groups rows)) = plain-all bytes (groups rows) (plain-groups rows (plain-rows options bytes p lines rows are)) in
-    record { names = plain.names; text = utf8; between = between; whole = plain.whole }
+    record { names = plain.names; text = utf8; between = between; whole = plain.whole; depths = depths }

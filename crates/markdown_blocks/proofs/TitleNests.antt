@@ -1,0 +1,165 @@
+-- The parts of a heading nest, and stand one behind the other on its line.
+use Rattle.std.proofs.Common.{◌≡◌, ◌≢◌, ℕ, ◌+◌, ◌<◌, Bool, true, false, cond, List, [], ◌∷◌, ◌++◌, length, take, drop, refl, ap, sym, ◌∙◌, subst, append_assoc, append-nil, arith, take-add}
+use Rattle.std.specs.Prelude.{IsTrue}
+use Rattle.std.proofs.lemmas.Bool.Decides.{nat_tests}
+use Rattle.std.proofs.lemmas.List.{take-append-drop}
+use Rattle.md_engine.specs.declared.event.Event.{Event}
+use Rattle.md_engine.specs.declared.event.Name.{Name}
+use Rattle.md_engine.specs.declared.event.Name.TheVariants as n
+use Rattle.md_engine.specs.declared.event.Point.{Point}
+use Rattle.md_leaves.specs.HeadingRule.{Apart, Hashes, Run, Text, White, begun, closes, goes_on, opens}
+use Rattle.md_leaves.specs.HeadingTitle.{front_len, line_runs, text_of, title_of}
+use Rattle.md_seam.specs.Nested.{Balanced, Forward, Matches, last_point, open_after}
+use Rattle.md_seam.specs.Places.{at_or_before, past_byte, past_text}
+use Rattle.md_seam.proofs.NestedLemmas.{at_or_before-refl, at_or_before-trans, forward-append, last_point-append}
+use Rattle.markdown_blocks.specs.Rows.{BlankRow, BreakRow, HeadingRow, RowKind}
+
+-- Lines that are no headings.
+
+pub blank-no_heading : (kind : RowKind) → kind ≡ BlankRow → kind ≢ HeadingRow
+blank-no_heading kind e k = cc
+
+pub break-no_heading : (kind : RowKind) → kind ≡ BreakRow → kind ≢ HeadingRow
+break-no_heading kind e k = cc
+
+-- Points.
+
+before-byte : (b : ℕ) (p : Point) → IsTrue (at_or_before p (past_byte b p))
+before-byte b p = later p (past_byte b p) (omega arith)
+  where
+    later : (p q : Point) → p.index < q.index → IsTrue (at_or_before p q)
+    later p q lt = grind (arith, nat_tests)
+
+-- a piece of a line ends no earlier than it begins
+pub before-piece : (xs : List ℕ) (p : Point) → IsTrue (at_or_before p (past_text xs p))
+before-piece [] p = at_or_before-refl p
+before-piece (b ∷ xs) p = at_or_before-trans p (past_byte b p) (past_text xs (past_byte b p)) (before-byte b p) (before-piece xs (past_byte b p))
+
+pub past-piece : (xs ys : List ℕ) (p : Point) → past_text (xs ++ ys) p ≡ past_text ys (past_text xs p)
+past-piece [] ys p = refl
+past-piece (b ∷ xs) ys p = past-piece xs ys (past_byte b p)
+
+-- from a point on, and up to a point
+abbrev pub Spans : Point → Point → List Event → Type 0
+Spans p r es = Forward p es × IsTrue (at_or_before (last_point p es) r)
+
+pub spans-from : (p q r : Point) (es : List Event) → IsTrue (at_or_before p q) → Spans q r es → Spans p r es
+spans-from p q r [] h k = (tt, at_or_before-trans p q r h k.1)
+spans-from p q r (e ∷ es) h k = ((at_or_before-trans p q e.point h k.0.0, k.0.1), k.1)
+
+pub spans-append : (p q r : Point) (xs ys : List Event) → Spans p q xs → Spans q r ys → Spans p r (xs ++ ys)
+spans-append p q r xs ys h k =
+    let more : Spans (last_point p xs) r ys = spans-from (last_point p xs) q r ys h.1 k in
+    (forward-append p xs ys h.0 more.0, subst (λ (s : Point). IsTrue (at_or_before s r)) (sym (last_point-append p xs ys)) more.1)
+
+-- Runs.
+
+either : (P : List Event → Type 0) (t : Bool) (xs ys : List Event) → P xs → P ys → P (cond t xs ys)
+either P true xs ys h k = h
+either P false xs ys h k = k
+
+-- what is open in a run
+abbrev open_in : Run → List Name
+open_in Apart = []
+open_in White = n.SpaceOrTab ∷ []
+open_in Hashes = n.HeadingAtxSequence ∷ []
+open_in Text = n.Data ∷ []
+
+-- events that match what is open, and leave nothing open
+abbrev Ends : List Name → List Event → Type 0
+Ends names es = Matches names es × (open_after names es ≡ [])
+
+ends-closes : (run : Run) (p : Point) (es : List Event) → Ends [] es → Ends (open_in run) (closes run p ++ es)
+ends-closes Apart p es h = h
+ends-closes White p es h = ((refl, h.0), h.1)
+ends-closes Hashes p es h = ((refl, h.0), h.1)
+ends-closes Text p es h = ((refl, h.0), h.1)
+
+ends-opens : (run : Run) (p : Point) (es : List Event) → Ends (open_in run) es → Ends [] (opens run p ++ es)
+ends-opens Apart p es h = h
+ends-opens White p es h = ((tt, h.0), h.1)
+ends-opens Hashes p es h = ((tt, h.0), h.1)
+ends-opens Text p es h = ((tt, h.0), h.1)
+
+ends-runs : (run : Run) (xs : List ℕ) (p : Point) → Ends (open_in run) (line_runs run xs p)
+ends-runs run [] p = subst (Ends (open_in run)) (append-nil (closes run p)) (ends-closes run p [] (tt, refl))
+ends-runs run (b ∷ xs) p =
+    let rest : List Event = line_runs (begun b) xs (past_byte b p) in
+    either (Ends (open_in run)) (goes_on run b) (line_runs run xs (past_byte b p)) ((closes run p ++ opens (begun b) p) ++ rest) (ends-runs run xs (past_byte b p))
+    (subst (Ends (open_in run)) (sym (append_assoc (closes run p) (opens (begun b) p) rest))
+    (ends-closes run p (opens (begun b) p ++ rest) (ends-opens (begun b) p rest (ends-runs (begun b) xs (past_byte b p)))))
+
+-- the runs of a piece of a line nest
+pub runs-balanced : (xs : List ℕ) (p : Point) → Balanced (line_runs Apart xs p)
+runs-balanced xs p = let ends : Ends [] (line_runs Apart xs p) = ends-runs Apart xs p in record { matches = ends.0; closed = ends.1 }
+
+spans-closes : (run : Run) (p q : Point) → IsTrue (at_or_before p q) → Spans p q (closes run q)
+spans-closes Apart p q h = (tt, h)
+spans-closes White p q h = ((h, tt), at_or_before-refl q)
+spans-closes Hashes p q h = ((h, tt), at_or_before-refl q)
+spans-closes Text p q h = ((h, tt), at_or_before-refl q)
+
+spans-opens : (run : Run) (p : Point) → Spans p p (opens run p)
+spans-opens Apart p = (tt, at_or_before-refl p)
+spans-opens White p = ((at_or_before-refl p, tt), at_or_before-refl p)
+spans-opens Hashes p = ((at_or_before-refl p, tt), at_or_before-refl p)
+spans-opens Text p = ((at_or_before-refl p, tt), at_or_before-refl p)
+
+spans-runs : (run : Run) (xs : List ℕ) (p q : Point) → IsTrue (at_or_before p q) → Spans p (past_text xs q) (line_runs run xs q)
+spans-runs run [] p q h = spans-closes run p q h
+spans-runs run (b ∷ xs) p q h =
+    let next : Point = past_byte b q in
+    let end : Point = past_text xs next in
+    let rest : List Event = line_runs (begun b) xs next in
+    either (Spans p end) (goes_on run b) (line_runs run xs next) ((closes run q ++ opens (begun b) q) ++ rest) (spans-runs run xs p next (at_or_before-trans p q next h (before-byte b q)))
+    (spans-append p q end (closes run q ++ opens (begun b) q) rest (spans-append p q q (closes run q) (opens (begun b) q) (spans-closes run p q h) (spans-opens (begun b) q))
+    (spans-runs (begun b) xs q next (before-byte b q)))
+
+-- they stand between its ends
+pub runs-span : (xs : List ℕ) (p : Point) → Spans p (past_text xs p) (line_runs Apart xs p)
+runs-span xs p = spans-runs Apart xs p p (at_or_before-refl p)
+
+-- The parts of a line with a heading.
+
+-- where its text begins, and where it ends
+abbrev pub text_begin : List ℕ → Point → Point
+text_begin line p = past_text (take (front_len line) line) p
+
+abbrev pub text_end : List ℕ → Point → Point
+text_end line p = past_text (take (front_len line + length (text_of line)) line) p
+
+-- the bytes of the text, and those behind it
+abbrev pub text_bytes : List ℕ → List ℕ
+text_bytes line = take (length (text_of line)) (drop (front_len line) line)
+
+abbrev pub back_bytes : List ℕ → List ℕ
+back_bytes line = drop (front_len line + length (text_of line)) line
+
+pub text-end-is : (line : List ℕ) (p : Point) → text_end line p ≡ past_text (text_bytes line) (text_begin line p)
+text-end-is line p =
+    ap (λ (l : List ℕ). past_text l p) (take-add (front_len line) (length (text_of line)) line)
+    ∙ past-piece (take (front_len line) line) (text_bytes line) p
+
+pub line-end-is : (line : List ℕ) (p : Point) → past_text line p ≡ past_text (back_bytes line) (text_end line p)
+line-end-is line p =
+    let size : ℕ = front_len line + length (text_of line) in
+    ap (λ (l : List ℕ). past_text l p) (sym (take-append-drop size line))
+    ∙ past-piece (take size line) (drop size line) p
+
+-- the front stands before the text
+pub front-span : (line : List ℕ) (p : Point) → Spans p (text_begin line p) (title_of line p).front
+front-span line p = runs-span (take (front_len line) line) p
+
+pub front-balanced : (line : List ℕ) (p : Point) → Balanced (title_of line p).front
+front-balanced line p = runs-balanced (take (front_len line) line) p
+
+-- the text ends no earlier than it begins
+pub text-order : (line : List ℕ) (p : Point) → IsTrue (at_or_before (text_begin line p) (text_end line p))
+text-order line p = subst (λ (q : Point). IsTrue (at_or_before (text_begin line p) q)) (sym (text-end-is line p)) (before-piece (text_bytes line) (text_begin line p))
+
+-- what is left stands behind the text, and on the line
+pub back-span : (line : List ℕ) (p : Point) → Spans (text_end line p) (past_text line p) (title_of line p).back
+back-span line p = subst (λ (q : Point). Spans (text_end line p) q (title_of line p).back) (sym (line-end-is line p)) (runs-span (back_bytes line) (text_end line p))
+
+pub back-balanced : (line : List ℕ) (p : Point) → Balanced (title_of line p).back
+back-balanced line p = runs-balanced (back_bytes line) (text_end line p)
