@@ -26,3 +26,7 @@ pub mod Sketches
 pub mod PlainEvents
 pub mod ParagraphReads
 pub mod TitleFacts
+pub mod MarkLemmas
+pub mod DocumentStates
+pub mod DocumentMeans
+pub mod DocumentReads

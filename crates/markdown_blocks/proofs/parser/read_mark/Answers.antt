@@ -1,0 +1,10 @@
+use Rattle.std.proofs.Common.{arith, refl}
+use Rattle.markdown_blocks.proofs.DocumentReads.{document-reads-from}
+use Rattle.markdown_blocks.proofs.Settings.{placed-first}
+use Rattle.markdown_blocks.proofs.parser.read_mark.Goals as goal
+
+pub new-tokenizer-requires : goal.new-tokenizer-requires
+new-tokenizer-requires c = placed-first c.args.bytes.now c.requires
+
+pub returns : goal.returns
+returns c = ?
