@@ -79,17 +79,19 @@ other-seen bytes p b c is lt vs e = rw (is, vs) (go (c == 10) (c == 13) (c == 9)
 are-ahead : (front : List ℕ) (x : Setting) (p : Point) → x.limit ≡ length x.bytes → x.limit < 2 ^ 61 → p.vs ≡ 0 → list_all (nat_lt 13) front ≡ true →
     are_next front (text_feed x p) ≡ pointwise nat_eq front (take (length front) (drop p.index x.bytes))
 are-ahead [] x p all small vs high = refl
-are-ahead (b ∷ front) x p all small vs high = go (drop p.index x.bytes) refl
+are-ahead (b ∷ front) x p all small vs high =
+    let parts : (nat_lt 13 b ≡ true) × (list_all (nat_lt 13) front ≡ true) = and_parts (nat_lt 13 b) (list_all (nat_lt 13) front) high in
+    go (drop p.index x.bytes) refl (let lt = parts.0 in grind (arith, nat_tests)) (are-ahead front x (behind p) all small refl parts.1)
   where
-    parts : (nat_lt 13 b ≡ true) × (list_all (nat_lt 13) front ≡ true)
-    parts = and_parts (nat_lt 13 b) (list_all (nat_lt 13) front) high
+    Same : Type 0
+    Same = are_next front (text_feed x (behind p)) ≡ pointwise nat_eq front (take (length front) (drop (p.index + 1) x.bytes))
 
-    go : (rest : List ℕ) → drop p.index x.bytes ≡ rest → are_next (b ∷ front) (text_feed x p) ≡ pointwise nat_eq (b ∷ front) (take (suc (length front)) rest)
-    go [] e =
+    go : (rest : List ℕ) → drop p.index x.bytes ≡ rest → 13 < b → Same → are_next (b ∷ front) (text_feed x p) ≡ pointwise nat_eq (b ∷ front) (take (suc (length front)) rest)
+    go [] e above same =
         let none : length (drop p.index x.bytes) ≡ 0 = ap (λ (l : List ℕ). length l) e in
         let past : x.limit ≤ p.index = omega (arith, length-drop p.index x.bytes, none) in
         ap (are_next (b ∷ front)) (feed-none x p small past)
-    go (c ∷ rest) e = by (c == b) refl
+    go (c ∷ rest) e above same = by (c == b) refl
       where
         inside : p.index < x.limit
         inside = let some : length (drop p.index x.bytes) ≡ suc (length rest) = ap (λ (l : List ℕ). length l) e in omega (arith, length-drop p.index x.bytes, some)
@@ -97,23 +99,20 @@ are-ahead (b ∷ front) x p all small vs high = go (drop p.index x.bytes) refl
         is : slice_index x.bytes p.index ≡ c
         is = at-next p.index x.bytes c rest e
 
-        high' : 13 < b
-        high' = let lt = parts.0 in grind (arith, nat_tests)
-
         by : (t : Bool) → (c == b) ≡ t → are_next (b ∷ front) (text_feed x p) ≡ pointwise nat_eq (b ∷ front) (take (suc (length front)) (c ∷ rest))
         by true k =
-            let same : c ≡ b = eqb-true c b k in
-            let here' : slice_index x.bytes p.index ≡ b = is ∙ same in
+            let one : c ≡ b = eqb-true c b k in
+            let here' : slice_index x.bytes p.index ≡ b = is ∙ one in
             ap (are_next (b ∷ front)) (feed-next x p small inside)
-            ∙ ap (λ (d : ℕ). (d == b) && are_next front (text_feed x (after x p))) (byte-seen x.bytes p b here' high')
-            ∙ ap (λ (q : Point). (b == b) && are_next front (text_feed x q)) (byte-behind x p b here' high')
-            ∙ ap (λ (t : Bool). (b == b) && t) (are-ahead front x (behind p) all small refl parts.1)
+            ∙ ap (λ (d : ℕ). (d == b) && are_next front (text_feed x (after x p))) (byte-seen x.bytes p b here' above)
+            ∙ ap (λ (q : Point). (b == b) && are_next front (text_feed x q)) (byte-behind x p b here' above)
+            ∙ ap (λ (t : Bool). (b == b) && t) same
             ∙ ap (λ (l : List ℕ). (b == b) && pointwise nat_eq front (take (length front) l)) (past-next p.index x.bytes c rest e)
-            ∙ ap (λ (d : ℕ). nat_eq b d && pointwise nat_eq front (take (length front) rest)) (sym same)
+            ∙ ap (λ (d : ℕ). nat_eq b d && pointwise nat_eq front (take (length front) rest)) (sym one)
         by false k =
             let other : nat_eq b c ≡ false = grind (arith, nat_tests) in
             ap (are_next (b ∷ front)) (feed-next x p small inside)
-            ∙ ap (λ (t : Bool). t && are_next front (text_feed x (after x p))) (other-seen x.bytes p b c is high' vs k)
+            ∙ ap (λ (t : Bool). t && are_next front (text_feed x (after x p))) (other-seen x.bytes p b c is above vs k)
             ∙ sym (ap (λ (t : Bool). t && pointwise nat_eq front (take (length front) rest)) other)
 
 text-marked : (bytes : List ℕ) (options : ParseOptions) → length bytes < 2 ^ 61 → are_next mark (text_cells bytes options first_point) ≡ has_mark bytes
