@@ -30,3 +30,7 @@ pub mod ParagraphReads
 pub mod TitleFacts
 pub mod TitleNests
 pub mod TitlePlaces
+pub mod MarkLemmas
+pub mod DocumentStates
+pub mod DocumentMeans
+pub mod DocumentReads

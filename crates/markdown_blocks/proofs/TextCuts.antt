@@ -1,17 +1,19 @@
--- Parts of UTF-8 texts: a text that is cut beside bytes of ASCII, and its lines.
+-- Parts of UTF-8 texts: a text that is cut beside bytes of ASCII or behind its mark, and its lines.
 use Rattle.std.proofs.Common.{◌≡◌, ℕ, suc, ◌+◌, ◌-◌, ◌<◌, ◌≤◌, Bool, true, false, cond, ◌&&◌, ◌||◌, ◌==◌, not, List, [], ◌∷◌, ◌++◌, length, take, drop, get_or, slice_range, inl, inr, ◌⊎◌, Result, Ok, Err, refl, sym, ◌∙◌, ap, subst, append_assoc, arith}
 use Rattle.std.specs.Prelude.{nat_lt, MatchResult}
 use Rattle.std.specs.Result.{result_unwrap_or}
 use Rattle.std.specs.Borrow.{Bor}
 use Rattle.std.specs.List.{onto_first, prefix_len}
 use Rattle.std.specs.Str.{IsUtf8, IsCharBoundary}
-use Rattle.std.proofs.lemmas.Bool.{cases_lt, eqb-true, ltb-true, true≢false}
+use Rattle.std.proofs.Math.Utf8.{encode}
+use Rattle.std.proofs.lemmas.Bool.{and_parts, cases_lt, eqb-true, ltb-true, true≢false}
 use Rattle.std.proofs.lemmas.Bool.Decides.{nat_tests}
 use Rattle.std.proofs.lemmas.List.{drop_all, length-drop, take_all}
 use Rattle.std.proofs.lemmas.List.Sums.{prefix_len_stops}
-use Rattle.std.proofs.lemmas.Str.{IsCharBoundary-after_ascii, IsCharBoundary-before_ascii, IsCharBoundary-end, IsCharBoundary-start, IsUtf8-between, IsUtf8-drop, IsUtf8-nil, IsUtf8-take}
+use Rattle.std.proofs.lemmas.Str.{IsCharBoundary-after_ascii, IsCharBoundary-before_ascii, IsCharBoundary-end, IsCharBoundary-past_char, IsCharBoundary-start, IsUtf8-between, IsUtf8-drop, IsUtf8-nil, IsUtf8-take}
 use Rattle.md_seam.specs.declared.outline.Word.TheVariants as word
 use Rattle.md_seam.specs.Lines.{begins_with, is_ending}
+use Rattle.md_seam.specs.Preamble.{has_mark}
 use Rattle.md_seam.specs.Outline.{Entry, entries, entry_with}
 use Rattle.md_seam.specs.Rest.{is_white, trim_start}
 use Rattle.md_seam.specs.Texts.{split_lines, trim_each}
@@ -19,6 +21,7 @@ use Rattle.md_seam.proofs.PlainSteps.{range-none}
 use Rattle.md_seam.proofs.TextsLemmas.{split-byte}
 use Rattle.markdown_blocks.specs.Between.{is_between}
 use Rattle.markdown_blocks.specs.Sketched.{after_ending, line_len, text_entries}
+use Rattle.markdown_blocks.proofs.MarkLemmas.{mark-bytes}
 
 -- behind a byte of ASCII
 boundary-behind : (bytes : List ℕ) (i : ℕ) → IsUtf8 bytes → 0 < i → i ≤ length bytes → get_or bytes (i - 1) 0 < 128 → IsCharBoundary bytes i
@@ -26,19 +29,28 @@ boundary-behind bytes i u some within ascii =
     let here : i - 1 + 1 ≡ i = omega arith in
     subst (IsCharBoundary bytes) here (IsCharBoundary-after_ascii bytes (i - 1) u (omega arith) ascii)
 
--- a place in a text that stands beside ASCII is the boundary of a character
+-- behind a byte order mark, which is one character
+boundary-mark : (bytes : List ℕ) → IsUtf8 bytes → has_mark bytes ≡ true → IsCharBoundary bytes 3
+unfolding encode
+boundary-mark bytes u h = IsCharBoundary-past_char bytes (drop 3 bytes) 0 65279 (omega arith) u (mark-bytes bytes h)
+
+-- a place in a text that stands beside ASCII, or behind the mark, is the boundary of a character
 pub boundary-between : (bytes : List ℕ) (i : ℕ) → IsUtf8 bytes → is_between bytes i ≡ true → i ≤ length bytes → IsCharBoundary bytes i
-boundary-between bytes i u between within = go (i == 0) (i == length bytes) (nat_lt (get_or bytes (i - 1) 0) 128) refl refl refl between
+boundary-between bytes i u between within = go (i == 0) (i == length bytes) (nat_lt (get_or bytes (i - 1) 0) 128) (nat_lt (get_or bytes i 0) 128) refl refl refl refl between
   where
-    go : (x y z : Bool) → (i == 0) ≡ x → (i == length bytes) ≡ y → nat_lt (get_or bytes (i - 1) 0) 128 ≡ z → (x || y || z || nat_lt (get_or bytes i 0) 128) ≡ true → IsCharBoundary bytes i
-    go true y z a b c h = subst (IsCharBoundary bytes) (sym (eqb-true i 0 a)) (IsCharBoundary-start bytes u)
-    go false true z a b c h = subst (IsCharBoundary bytes) (sym (eqb-true i (length bytes) b)) (IsCharBoundary-end bytes)
-    go false false true a b c h =
+    go : (x y z t : Bool) → (i == 0) ≡ x → (i == length bytes) ≡ y → nat_lt (get_or bytes (i - 1) 0) 128 ≡ z → nat_lt (get_or bytes i 0) 128 ≡ t →
+        (x || y || z || t || ((i == 3) && has_mark bytes)) ≡ true → IsCharBoundary bytes i
+    go true y z t a b c d h = subst (IsCharBoundary bytes) (sym (eqb-true i 0 a)) (IsCharBoundary-start bytes u)
+    go false true z t a b c d h = subst (IsCharBoundary bytes) (sym (eqb-true i (length bytes) b)) (IsCharBoundary-end bytes)
+    go false false true t a b c d h =
         let some : 0 < i = grind (arith, nat_tests) in
         boundary-behind bytes i u some within (ltb-true _ _ c)
-    go false false false a b c h =
+    go false false false true a b c d h =
         let inside : i < length bytes = grind (arith, nat_tests) in
-        IsCharBoundary-before_ascii bytes i inside (ltb-true _ _ h)
+        IsCharBoundary-before_ascii bytes i inside (ltb-true _ _ d)
+    go false false false false a b c d h =
+        let parts : ((i == 3) ≡ true) × (has_mark bytes ≡ true) = and_parts (i == 3) (has_mark bytes) h in
+        subst (IsCharBoundary bytes) (sym (eqb-true i 3 parts.0)) (boundary-mark bytes u parts.1)
 
 range-past : (xs : List ℕ) (i j : ℕ) → length xs ≤ j → slice_range xs i j ≡ slice_range xs i (length xs)
 range-past xs i j le =

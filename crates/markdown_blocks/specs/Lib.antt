@@ -12,3 +12,4 @@ pub mod Outlined
 pub mod Sketched
 pub mod TextReads
 pub mod Document
+pub mod DocumentRule

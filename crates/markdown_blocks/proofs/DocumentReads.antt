@@ -1,0 +1,256 @@
+-- What the table of the document has read of a text: its mark.
+use Rattle.std.proofs.Common.{◌≡◌, ◌+◌, ◌^◌, ◌<◌, ◌≤◌, ℕ, suc, Bool, true, false, cond, nat_eq, nat_lt, ◌&&◌, ◌||◌, List, [], ◌∷◌, ◌++◌, length, take, drop, refl, sym, ◌∙◌, ap, subst, arith}
+use Rattle.std.specs.Prelude.{◌==◌, slice_index}
+use Rattle.std.specs.List.{list_all}
+use Rattle.std.specs.Cmp.Lexicographic.{pointwise}
+use Rattle.std.proofs.lemmas.Bool.{and_parts, eqb-true}
+use Rattle.std.proofs.lemmas.Bool.Decides.{nat_tests}
+use Rattle.std.proofs.lemmas.List.{length-drop}
+use Rattle.md_engine.specs.declared.configuration.ParseOptions.{ParseOptions}
+use Rattle.md_engine.specs.declared.event.Name.TheVariants.{ByteOrderMark}
+use Rattle.md_engine.specs.declared.event.Point.{Point}
+use Rattle.md_engine.specs.declared.resolve.Name.{Name as ResolveName}
+use Rattle.md_engine.specs.declared.state.Name.{Name as StateName}
+use Rattle.md_engine.specs.declared.state.Name.TheVariants as s
+use Rattle.md_engine.specs.declared.state.State.{State}
+use Rattle.md_engine.specs.declared.state.State.TheVariants.{Error, Ok, Nok, Next, Retry}
+use Rattle.md_engine.specs.declared.tokenizer.Frame.{Frame}
+use Rattle.md_engine.specs.Found.{Found}
+use Rattle.md_engine.specs.Meaning.{Accepts, Cell, Follows, Here, Outcome, Refuses, comes_to, goes, here}
+use Rattle.md_engine.specs.Place.{first_point, seen_at}
+use Rattle.md_engine.specs.Run.{Flushes, IsEnd, Resolution, Resolved, Runs, goes_back, left, plain, reading}
+use Rattle.md_engine.specs.Run.Resolved.{More, NoneYet}
+use Rattle.md_engine.specs.Run.Runs.{Stays, ThenCalls, ThenLeaves}
+use Rattle.md_engine.specs.Scheme.{stands}
+use Rattle.md_engine.specs.TextFeed.{text_feed}
+use Rattle.md_engine.specs.World.{Setting, World, after, fresh, reads_to}
+use Rattle.md_engine.proofs.Keeps.{runs-setting}
+use Rattle.md_engine.proofs.Standing.{runs-mean}
+use Rattle.md_engine.proofs.TextFeed.{flush-means, text-follows}
+use Rattle.md_leaves.specs.Bom as bom
+use Rattle.md_leaves.specs.Bom.{mark, mark_at}
+use Rattle.md_leaves.specs.BomRule.{are_next, bom_at}
+use Rattle.md_seam.specs.Ahead.{point_after}
+use Rattle.md_seam.specs.Nested.{pair}
+use Rattle.md_seam.specs.Preamble.{has_mark}
+use Rattle.md_seam.specs.Spaces.{is_current}
+use Rattle.markdown_blocks.specs.Document.{DocumentStep, ReadsMark, body_point, document_table_scheme, document_went, mark_end, mark_events}
+use Rattle.markdown_blocks.specs.DocumentRule.{document_at, document_behaves}
+use Rattle.markdown_blocks.specs.FlowReads.{text_cells, text_setting}
+use Rattle.markdown_blocks.specs.FlowRule.{tried}
+use Rattle.markdown_blocks.proofs.DocumentMeans.{document_means, document_stands}
+use Rattle.markdown_blocks.proofs.FeedLines.{at-next, feed-next, feed-none, line-feed, past-next}
+use Rattle.markdown_blocks.proofs.MarkLemmas.{mark-bytes, mark-length}
+
+-- The mark among the cells.
+
+-- behind a byte that is neither an ending nor a tab
+abbrev behind : Point → Point
+behind p = record p { column = p.column + 1; index = p.index + 1; vs = 0 }
+
+byte-behind : (x : Setting) (p : Point) (b : ℕ) → slice_index x.bytes p.index ≡ b → 13 < b → after x p ≡ behind p
+byte-behind x p b is lt =
+    let feed : (b == 10) ≡ false = grind (arith, nat_tests) in
+    let return : (b == 13) ≡ false = grind (arith, nat_tests) in
+    let tab : (b == 9) ≡ false = grind (arith, nat_tests) in
+    rw (is, feed, return, tab) refl
+
+byte-seen : (bytes : List ℕ) (p : Point) (b : ℕ) → slice_index bytes p.index ≡ b → 13 < b → seen_at bytes p ≡ b
+byte-seen bytes p b is lt =
+    let feed : (b == 10) ≡ false = grind (arith, nat_tests) in
+    let return : (b == 13) ≡ false = grind (arith, nat_tests) in
+    let tab : (b == 9) ≡ false = grind (arith, nat_tests) in
+    rw (is, feed, return, tab) refl
+
+-- and another byte is not seen as such a one
+other-seen : (bytes : List ℕ) (p : Point) (b c : ℕ) → slice_index bytes p.index ≡ c → 13 < b → p.vs ≡ 0 → (c == b) ≡ false → (seen_at bytes p == b) ≡ false
+other-seen bytes p b c is lt vs e = rw (is, vs) (go (c == 10) (c == 13) (c == 9))
+  where
+    feed : (10 == b) ≡ false
+    feed = grind (arith, nat_tests)
+
+    go : (x y z : Bool) → (cond (x || y) 10 (cond (z && false) 32 c) == b) ≡ false
+    go true y z = feed
+    go false true z = feed
+    go false false true = e
+    go false false false = e
+
+-- the first cells are some bytes just where these come first in the text
+are-ahead : (front : List ℕ) (x : Setting) (p : Point) → x.limit ≡ length x.bytes → x.limit < 2 ^ 61 → p.vs ≡ 0 → list_all (nat_lt 13) front ≡ true →
+    are_next front (text_feed x p) ≡ pointwise nat_eq front (take (length front) (drop p.index x.bytes))
+are-ahead [] x p all small vs high = refl
+are-ahead (b ∷ front) x p all small vs high =
+    let parts : (nat_lt 13 b ≡ true) × (list_all (nat_lt 13) front ≡ true) = and_parts (nat_lt 13 b) (list_all (nat_lt 13) front) high in
+    go (drop p.index x.bytes) refl (let lt = parts.0 in grind (arith, nat_tests)) (are-ahead front x (behind p) all small refl parts.1)
+  where
+    Same : Type 0
+    Same = are_next front (text_feed x (behind p)) ≡ pointwise nat_eq front (take (length front) (drop (p.index + 1) x.bytes))
+
+    go : (rest : List ℕ) → drop p.index x.bytes ≡ rest → 13 < b → Same → are_next (b ∷ front) (text_feed x p) ≡ pointwise nat_eq (b ∷ front) (take (suc (length front)) rest)
+    go [] e above same =
+        let none : length (drop p.index x.bytes) ≡ 0 = ap (λ (l : List ℕ). length l) e in
+        let past : x.limit ≤ p.index = omega (arith, length-drop p.index x.bytes, none) in
+        ap (are_next (b ∷ front)) (feed-none x p small past)
+    go (c ∷ rest) e above same = by (c == b) refl
+      where
+        inside : p.index < x.limit
+        inside = let some : length (drop p.index x.bytes) ≡ suc (length rest) = ap (λ (l : List ℕ). length l) e in omega (arith, length-drop p.index x.bytes, some)
+
+        is : slice_index x.bytes p.index ≡ c
+        is = at-next p.index x.bytes c rest e
+
+        by : (t : Bool) → (c == b) ≡ t → are_next (b ∷ front) (text_feed x p) ≡ pointwise nat_eq (b ∷ front) (take (suc (length front)) (c ∷ rest))
+        by true k =
+            let one : c ≡ b = eqb-true c b k in
+            let here' : slice_index x.bytes p.index ≡ b = is ∙ one in
+            ap (are_next (b ∷ front)) (feed-next x p small inside)
+            ∙ ap (λ (d : ℕ). (d == b) && are_next front (text_feed x (after x p))) (byte-seen x.bytes p b here' above)
+            ∙ ap (λ (q : Point). (b == b) && are_next front (text_feed x q)) (byte-behind x p b here' above)
+            ∙ ap (λ (t : Bool). (b == b) && t) same
+            ∙ ap (λ (l : List ℕ). (b == b) && pointwise nat_eq front (take (length front) l)) (past-next p.index x.bytes c rest e)
+            ∙ ap (λ (d : ℕ). nat_eq b d && pointwise nat_eq front (take (length front) rest)) (sym one)
+        by false k =
+            let other : nat_eq b c ≡ false = grind (arith, nat_tests) in
+            ap (are_next (b ∷ front)) (feed-next x p small inside)
+            ∙ ap (λ (t : Bool). t && are_next front (text_feed x (after x p))) (other-seen x.bytes p b c is above vs k)
+            ∙ sym (ap (λ (t : Bool). t && pointwise nat_eq front (take (length front) rest)) other)
+
+text-marked : (bytes : List ℕ) (options : ParseOptions) → length bytes < 2 ^ 61 → are_next mark (text_cells bytes options first_point) ≡ has_mark bytes
+text-marked bytes options small = are-ahead mark (text_setting bytes options first_point) first_point refl small refl refl
+
+-- behind a mark each of its bytes is a column
+mark-cells : (bytes : List ℕ) (options : ParseOptions) → length bytes < 2 ^ 61 → has_mark bytes ≡ true → point_after (take 3 (text_cells bytes options first_point)) first_point ≡ mark_end
+mark-cells bytes options small h =
+    let x = text_setting bytes options first_point in
+    let most = mark-length bytes h in
+    ap (λ (cells : List Cell). point_after (take 3 cells) first_point)
+    (line-feed x (239 ∷ 187 ∷ 191 ∷ []) (drop 3 bytes) first_point (record { small = small; text = mark-bytes bytes h; no_ending = (refl, (refl, (refl, tt))); within = omega (arith, most); whole = refl; column = omega arith }))
+
+-- What the document comes to.
+
+bom-there : (cells : List Cell) (h : Here) (p : Point) → are_next mark cells ≡ true → point_after (take 3 cells) h.point ≡ p →
+    bom_at cells h ≡ Accepts (record h { events = h.events ++ pair ByteOrderMark h.point p; point = p }) (drop 3 cells)
+unfolding bom_at
+bom-there cells h p e k = rw (e, k) refl
+
+bom-none : (cells : List Cell) (h : Here) → are_next mark cells ≡ false → bom_at cells h ≡ Refuses h.scratch h.flags
+unfolding bom_at
+bom-none cells h e = rw e refl
+
+abbrev begun : List ℕ → ParseOptions → Here
+begun bytes options = here (fresh bytes options first_point)
+
+document-accepts : (bytes : List ℕ) (options : ParseOptions) → length bytes < 2 ^ 61 →
+    (rest : List Cell) × (document_at (text_cells bytes options first_point) (begun bytes options) ≡ Accepts (record (begun bytes options) { events = mark_events bytes; point = body_point bytes }) rest)
+document-accepts bytes options small = go (has_mark bytes) refl
+  where
+    cells : List Cell
+    cells = text_cells bytes options first_point
+
+    onward : Outcome → Outcome
+    onward o = tried o (λ rest k. Accepts k rest) (λ s g. Accepts (record (begun bytes options) { scratch = s; flags = g }) cells)
+
+    go : (x : Bool) → has_mark bytes ≡ x →
+        (rest : List Cell) × (document_at cells (begun bytes options) ≡ Accepts (record (begun bytes options) { events = cond x (pair ByteOrderMark first_point mark_end) []; point = cond x mark_end first_point }) rest)
+    go true e = (drop 3 cells, ap onward (bom-there cells (begun bytes options) mark_end (text-marked bytes options small ∙ e) (mark-cells bytes options small e)))
+    go false e = (cells, ap onward (bom-none cells (begun bytes options) (text-marked bytes options small ∙ e)))
+
+-- No resolver is registered.
+
+bom-start : (w : World) (b : Bool) → (bom.start_code w b).world.resolvers ≡ w.resolvers
+bom-start w true = refl
+bom-start w false = refl
+
+bom-inside : (w : World) (a b : Bool) → (bom.inside_code w a b).world.resolvers ≡ w.resolvers
+bom-inside w true true = refl
+bom-inside w true false = refl
+bom-inside w false b = refl
+
+went-resolvers : (name : StateName) (w : World) → (document_went name w).world.resolvers ≡ w.resolvers
+went-resolvers s.BomStart w = bom-start w (is_current 239 w.current)
+went-resolvers s.BomInside w = bom-inside w (is_current (mark_at w.scratch.size) w.current) (nat_lt w.scratch.size 2)
+went-resolvers s.DocumentStart w = refl
+went-resolvers s.DocumentBeforeFrontmatter w = refl
+went-resolvers _ w = refl
+
+left-resolvers : (w : World) (outer : List Frame) (f : Frame) (b : Bool) → (left w outer f b).resolvers ≡ w.resolvers
+left-resolvers w outer f true = refl
+left-resolvers w outer f false = refl
+
+runs-resolvers : (is_end : Bool) (s : State) (w : World) (s' : State) (w' : World) → Runs DocumentStep is_end s w s' w' → w'.resolvers ≡ w.resolvers
+runs-resolvers is_end s w s' w' Stays = refl
+runs-resolvers is_end s w s' w' (ThenLeaves t v t' v' run l) =
+    ap (λ (x : World). x.resolvers) l.new ∙ left-resolvers v l.outer l.frame (goes_back l.frame t) ∙ runs-resolvers is_end s w t v run
+runs-resolvers is_end s w s' w' (ThenCalls t v t' v' run c) =
+    ap (λ (x : World). x.resolvers) c.step.new_is ∙ went-resolvers c.name (reading v) ∙ runs-resolvers is_end s w t v run
+
+-- so none runs
+snoc-none : (names : List ResolveName) (name : ResolveName) → names ++ name ∷ [] ≡ [] → ⊥
+snoc-none [] name e = cc
+snoc-none (x ∷ names) name e = cc
+
+none-ran : (R : Resolution) (w : World) (names : List ResolveName) (found : Found) (new : World) → Resolved R w names found new → names ≡ [] → new ≡ w
+none-ran R w names found new NoneYet e = refl
+none-ran R w names found new (More ns name f more v v' h step) e = absurd (snoc-none ns name e)
+
+-- What was read.
+
+-- a whole run that accepts ends in what is accepted
+accepted : (e : State) (h k : Here) (rest cells : List Cell) → IsEnd e → Accepts h rest ≡ goes document_behaves e cells k → h ≡ k
+accepted Ok h k rest cells t is = cc
+accepted Nok h k rest cells t is = cc
+accepted Error h k rest cells t is = absurd t
+accepted (Next name) h k rest cells t is = absurd t
+accepted (Retry name) h k rest cells t is = absurd t
+
+document-reads : (R : Resolution) (bytes : List ℕ) (options : ParseOptions) (end : State) (at : World) (found : Found) (new : World) → length bytes < 2 ^ 61 →
+    Runs DocumentStep false (Next s.DocumentStart) (reads_to (fresh bytes options first_point) (length bytes)) end at → Flushes DocumentStep R end at true found new → ReadsMark bytes new
+document-reads R bytes options end at found new small run f =
+    record {
+      events = ap (λ (w : World). w.events) same ∙ sym (ap (λ (h : Here). h.events) ended);
+      point = ap (λ (w : World). w.point) same ∙ sym (ap (λ (h : Here). h.point) ended);
+      bytes_are = ap (λ (w : World). w.setting.bytes) same ∙ ap (λ (x : Setting). x.bytes) (runs-setting DocumentStep true end at f.end f.at f.runs ∙ kept);
+    }
+  where
+    x : Setting
+    x = text_setting bytes options first_point
+
+    w0 : World
+    w0 = reads_to (fresh bytes options first_point) (length bytes)
+
+    stood : stands document_table_scheme w0 (Next s.DocumentStart)
+    stood = (refl, record { ok = λ s q t is up way. tt; nok = λ s q t is up. tt })
+
+    pushed : (comes_to document_behaves (text_feed x) (Next s.DocumentStart) w0 ≡ comes_to document_behaves (text_feed x) end at) × stands document_table_scheme at (plain end)
+    pushed =
+        runs-mean DocumentStep document_table_scheme options document_behaves false (text_feed x) (Next s.DocumentStart) w0 (document_means options false) document_stands
+        (text-follows x (length bytes) false small (omega arith) (λ e. cc)) refl stood end at run
+
+    kept : at.setting ≡ x
+    kept = runs-setting DocumentStep false (Next s.DocumentStart) w0 end at run
+
+    flushed : comes_to document_behaves (text_feed x) end at ≡ goes document_behaves f.end (text_feed x f.at.point) (here f.at)
+    flushed =
+        let P : Setting → Type 0 = λ y. Follows (text_feed x) y true in
+        let Q : Setting → Type 0 = λ y. y.options ≡ options in
+        flush-means DocumentStep R document_table_scheme options document_behaves (text_feed x) end at true found new (document_means options true) document_stands
+        (subst P (sym kept) (text-follows x x.limit true small (omega arith) (λ e. refl))) (subst Q (sym kept) refl) pushed.1 f
+
+    ended : record (begun bytes options) { events = mark_events bytes; point = body_point bytes } ≡ here f.at
+    ended =
+        let front = document-accepts bytes options small in
+        accepted f.end _ (here f.at) front.0 (text_feed x f.at.point) f.ends (sym front.1 ∙ pushed.0 ∙ flushed)
+
+    none : f.at.resolvers ≡ []
+    none = runs-resolvers true end at f.end f.at f.runs ∙ runs-resolvers false (Next s.DocumentStart) w0 end at run
+
+    same : new ≡ record f.at { resolvers = [] }
+    same = none-ran R (record f.at { resolvers = [] }) f.at.resolvers found new f.resolved none
+
+-- the same for a tokenizer that is known to be fresh
+pub document-reads-from : (R : Resolution) (bytes : List ℕ) (options : ParseOptions) (start : World) (to : ℕ) (end : State) (at : World) (found : Found) (new : World) → start ≡ fresh bytes options first_point → to ≡ length bytes → length bytes < 2 ^ 61 →
+    Runs DocumentStep false (Next s.DocumentStart) (reads_to start to) end at → Flushes DocumentStep R end at true found new → ReadsMark bytes new
+document-reads-from R bytes options start to end at found new same all small run f =
+    let P : World → Type 0 = λ w. Runs DocumentStep false (Next s.DocumentStart) (reads_to w (length bytes)) end at in
+    let Q : ℕ → Type 0 = λ n. Runs DocumentStep false (Next s.DocumentStart) (reads_to start n) end at in
+    document-reads R bytes options end at found new small (subst P same (subst Q all run)) f
