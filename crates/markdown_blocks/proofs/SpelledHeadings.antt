@@ -2,10 +2,10 @@
 use Rattle.std.proofs.Common.{◌≡◌, ℕ, zero, suc, ◌+◌, ◌-◌, ◌≤◌, Bool, true, false, cond, ◌&&◌, List, [], ◌∷◌, ◌++◌, length, take, drop, reverse, slice_range, refl, ap, sym, ◌∙◌, subst, drop-drop, arith}
 use Rattle.std.specs.Prelude.{◌==◌, nat_le, Option, Some, None, option_map}
 use Rattle.std.specs.List.{prefix_len}
+use Rattle.std.proofs.lemmas.Bool.{and_parts}
 use Rattle.std.proofs.lemmas.Bool.Decides.{nat_tests}
 use Rattle.std.proofs.lemmas.List.{drop-take, length-take-le}
 use Rattle.std.proofs.lemmas.List.Folds.{length-prefix_len}
-use Rattle.std.proofs.lemmas.List.Sums.{prefix_len-le-length}
 use Rattle.md_engine.specs.declared.configuration.ParseOptions.{ParseOptions}
 use Rattle.md_engine.specs.declared.event.Event.{Event}
 use Rattle.md_engine.specs.declared.event.Name.TheVariants as n
@@ -14,25 +14,25 @@ use Rattle.md_leaves.specs.HeadingRule as rule
 use Rattle.md_leaves.specs.HeadingRule.{Apart, Hashes, Run, White, closes, goes_on, is_heading, opens}
 use Rattle.md_leaves.specs.HeadingTitle.{Title, chunk_unless_empty, front_len, line_runs, text_of, title_of}
 use Rattle.md_seam.specs.declared.inline.Chunk.{Chunk}
-use Rattle.md_seam.specs.Leaves.{heading_lines, heading_text, without_closing}
 use Rattle.md_seam.specs.Inline.{plain_chunks, together}
+use Rattle.md_seam.specs.Leaves.{heading_lines, heading_text, without_closing}
 use Rattle.md_seam.specs.Nested.{around}
 use Rattle.md_seam.specs.Places.{past_byte, past_text}
 use Rattle.md_seam.specs.Rest.{is_parted, is_white, run_len, trim, trim_end, trim_start}
 use Rattle.md_seam.specs.Spelled.{AsHeading, AsMarkers, OfHeadingAtx, OpenLeaf, Reading, Tells, Text, add_block, begun, byte_at, columns_left, fresh, noted, read, read_exit, text_to, told_at}
 use Rattle.md_seam.specs.Texts.{split_lines, trim_each}
-use Rattle.md_seam.specs.Tree.{Block, Heading}
+use Rattle.md_seam.specs.Tree.{Heading}
 use Rattle.md_seam.proofs.BlocksLemmas.{read-leaf, read-told}
 use Rattle.md_seam.proofs.InlineLemmas.{past-index, past-vs}
 use Rattle.md_seam.proofs.SpelledLemmas.{Between, Quiet, QuietOrEnding, Roles, read-from, read-quiet, text-inline, text_after}
 use Rattle.md_seam.proofs.TextsLemmas.{NoEnding, split-line}
-use Rattle.markdown_blocks.specs.Rows.{HeadingRow, Row, read_text, read_title, row_line, row_title}
+use Rattle.markdown_blocks.specs.Rows.{Row, read_text, read_title, row_title}
 use Rattle.markdown_blocks.specs.Sections.{heading_block}
 use Rattle.markdown_blocks.proofs.PlainRoles.{plain-roles}
 use Rattle.markdown_blocks.proofs.RowFacts.{IsRow}
 use Rattle.markdown_blocks.proofs.TitleFacts.{text-fits, text-place}
 
--- Counts.
+-- Counts. How many bytes pass a test at the front: one more, and none.
 
 count-one : (test : ℕ → Bool) (b : ℕ) (bs : List ℕ) → test b ≡ true → prefix_len test (b ∷ bs) ≡ suc (prefix_len test bs)
 count-one test b bs e = ap (λ (t : Bool). cond t (1 + prefix_len test bs) 0) e ∙ omega arith
@@ -227,7 +227,7 @@ read-opens bytes r Apart p t = ap (λ (x : Option Text). record r { text = x }) 
 read-opens bytes r White p t = ap (λ (x : Option Text). record r { text = x }) t
 read-opens bytes r rule.Text p t = ap (λ (x : Option Text). record r { text = x }) t
 
--- which says nothing any more
+-- a run behind the first one of markers says nothing
 read-closes : (bytes : List ℕ) (r : Reading) (leaf : OpenLeaf) (m : ℕ) (ms : List ℕ) (run : Run) (p : Point) → r.leaf ≡ Some leaf → leaf.markers ≡ m ∷ ms → InRun run r.text → read bytes r (closes run p) ≡ record r { text = None }
 read-closes bytes r leaf m ms Hashes p l e t =
     ap (λ (x : Option Text). told_at bytes AsMarkers p x r) t.1
@@ -355,12 +355,8 @@ read-part bytes r markers begin end (b ∷ bs) whole is none bare =
 
 -- Headings.
 
-and-first : (a b : Bool) → a && b ≡ true → a ≡ true
-and-first true b e = refl
-and-first false b e = e
-
 heading-depth : (bytes : List ℕ) → is_heading bytes ≡ true → 1 ≤ run_len 35 bytes
-heading-depth bytes h = let some : nat_le 1 (run_len 35 bytes) ≡ true = and-first _ _ h in grind (arith, nat_tests)
+heading-depth bytes h = let some : nat_le 1 (run_len 35 bytes) ≡ true = (and_parts (nat_le 1 (run_len 35 bytes)) (nat_le (0 + run_len 35 bytes) 6 && is_parted (drop (run_len 35 bytes) bytes)) h).0 in grind (arith, nat_tests)
 
 not-empty : (bytes : List ℕ) → 1 ≤ length bytes → (b : ℕ) × (bs : List ℕ) × (bytes ≡ b ∷ bs)
 not-empty [] h = absurd (omega (arith, h))

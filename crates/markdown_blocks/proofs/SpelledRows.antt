@@ -1,5 +1,5 @@
 -- What the events of a text are read as, where only headings and breaks are on: its blocks, line by line.
-use Rattle.std.proofs.Common.{◌≡◌, ℕ, zero, suc, ◌+◌, ◌-◌, ◌≤◌, Bool, true, false, cond, List, [], ◌∷◌, ◌++◌, length, take, drop, slice_range, refl, ap, sym, ◌∙◌, subst, append_assoc, arith}
+use Rattle.std.proofs.Common.{◌≡◌, ℕ, zero, suc, ◌+◌, ◌-◌, ◌≤◌, cond, List, [], ◌∷◌, ◌++◌, length, take, drop, slice_range, refl, ap, sym, ◌∙◌, subst, append_assoc, arith}
 use Rattle.std.specs.Prelude.{◌==◌, Option, Some, None}
 use Rattle.md_engine.specs.declared.configuration.ParseOptions.{ParseOptions}
 use Rattle.md_engine.specs.declared.event.Event.{Event}
@@ -8,7 +8,7 @@ use Rattle.md_engine.specs.declared.event.Name.TheVariants as n
 use Rattle.md_engine.specs.declared.event.Point.{Point}
 use Rattle.md_seam.specs.declared.inline.PartKind.TheVariants.{Text}
 use Rattle.md_seam.specs.Inline.{plain_chunks, plain_events, together}
-use Rattle.md_seam.specs.Nested.{around, pair}
+use Rattle.md_seam.specs.Nested.{around}
 use Rattle.md_seam.specs.Rest.{trim_start}
 use Rattle.md_seam.specs.Spelled.{IsEnding, IsQuiet, Reading, Role, add_block, begun, read, role, spelled, text_to, unread}
 use Rattle.md_seam.specs.Texts.{trim_each}
