@@ -28,6 +28,7 @@ use Rattle.md_seam.proofs.SpelledLemmas.{Between, Quiet, QuietOrEnding, Roles, r
 use Rattle.md_seam.proofs.TextsLemmas.{NoEnding, split-line}
 use Rattle.markdown_blocks.specs.Rows.{Row, read_text, read_title, row_title}
 use Rattle.markdown_blocks.specs.Sections.{heading_block}
+use Rattle.markdown_blocks.proofs.LineKinds.{no_ending-drop}
 use Rattle.markdown_blocks.proofs.PlainRoles.{plain-roles}
 use Rattle.markdown_blocks.proofs.RowFacts.{IsRow}
 use Rattle.markdown_blocks.proofs.TitleFacts.{text-fits, text-place}
@@ -286,11 +287,6 @@ no_ending-take : (n : ℕ) (bytes : List ℕ) → NoEnding bytes → NoEnding (t
 no_ending-take zero bytes h = tt
 no_ending-take (suc n) [] h = tt
 no_ending-take (suc n) (b ∷ bs) h = (h.0, no_ending-take n bs h.1)
-
-no_ending-drop : (n : ℕ) (bytes : List ℕ) → NoEnding bytes → NoEnding (drop n bytes)
-no_ending-drop zero bytes h = h
-no_ending-drop (suc n) [] h = tt
-no_ending-drop (suc n) (b ∷ bs) h = no_ending-drop n bs h.1
 
 -- The text.
 
