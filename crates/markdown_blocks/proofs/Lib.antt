@@ -18,6 +18,8 @@ pub mod SubstitutedLemmas
 pub mod JoinedLemmas
 pub mod GroupLemmas
 pub mod SectionsLemmas
+pub mod PlainRoles
+pub mod SpelledHeadings
 pub mod SpelledRows
 pub mod NestedRows
 pub mod BetweenRows

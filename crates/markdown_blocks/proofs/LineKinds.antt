@@ -222,7 +222,7 @@ rule-spread line (b ∷ bs) p = go (b == 9) refl (is_rule_marker b) refl
         ∙ ap (λ (t : Bool). is_rule_marker b && t && nat_le 2 (count_by (λ c. c == b) (bytes_of (spread line bs (past_byte b p))))) (all-spread (λ c. (c == b) || is_white c) (or_true (32 == b) (9 == b)) line bs (past_byte b p))
         ∙ ap (λ (n : ℕ). is_rule_marker b && list_all (λ c. (c == b) || is_white c) bs && nat_le 2 n) (count-spread (λ c. c == b) (marker-apart b k) line bs (past_byte b p))
 
-no_ending-drop : (n : ℕ) (bytes : List ℕ) → NoEnding bytes → NoEnding (drop n bytes)
+pub no_ending-drop : (n : ℕ) (bytes : List ℕ) → NoEnding bytes → NoEnding (drop n bytes)
 no_ending-drop zero bytes h = h
 no_ending-drop (suc n) [] h = tt
 no_ending-drop (suc n) (b ∷ bs) h = no_ending-drop n bs h.1

@@ -1,16 +1,14 @@
--- What the events of a text are read as, where only breaks are on: its blocks, line by line.
-use Rattle.std.proofs.Common.{◌≡◌, ℕ, zero, suc, ◌+◌, ◌-◌, ◌≤◌, Bool, true, false, cond, List, [], ◌∷◌, ◌++◌, length, take, drop, slice_range, refl, ap, sym, ◌∙◌, subst, append_assoc, arith}
+-- What the events of a text are read as, where only headings and breaks are on: its blocks, line by line.
+use Rattle.std.proofs.Common.{◌≡◌, ℕ, zero, suc, ◌+◌, ◌-◌, ◌≤◌, cond, List, [], ◌∷◌, ◌++◌, length, take, drop, slice_range, refl, ap, sym, ◌∙◌, subst, append_assoc, arith}
 use Rattle.std.specs.Prelude.{◌==◌, Option, Some, None}
 use Rattle.md_engine.specs.declared.configuration.ParseOptions.{ParseOptions}
 use Rattle.md_engine.specs.declared.event.Event.{Event}
 use Rattle.md_engine.specs.declared.event.Name.{Name}
 use Rattle.md_engine.specs.declared.event.Name.TheVariants as n
 use Rattle.md_engine.specs.declared.event.Point.{Point}
-use Rattle.md_seam.specs.declared.inline.Chunk.{Chunk}
 use Rattle.md_seam.specs.declared.inline.PartKind.TheVariants.{Text}
-use Rattle.md_seam.specs.Inline.{line_end, pair_unless_empty, plain_chunk, plain_chunks, plain_events, together}
-use Rattle.md_seam.specs.Nested.{around, pair}
-use Rattle.md_seam.specs.Places.{same_place}
+use Rattle.md_seam.specs.Inline.{plain_chunks, plain_events, together}
+use Rattle.md_seam.specs.Nested.{around}
 use Rattle.md_seam.specs.Rest.{trim_start}
 use Rattle.md_seam.specs.Spelled.{IsEnding, IsQuiet, Reading, Role, add_block, begun, read, role, spelled, text_to, unread}
 use Rattle.md_seam.specs.Texts.{trim_each}
@@ -18,10 +16,12 @@ use Rattle.md_seam.specs.Tree.{Block, Blocks, Break, End, More, Paragraph}
 use Rattle.md_seam.proofs.BlocksLemmas.{read-break, read-paragraph}
 use Rattle.md_seam.proofs.SpelledLemmas.{Between, Quiet, QuietOrEnding, Roles, read-between, read-from, roles-append, text-inline, text_after}
 use Rattle.md_seam.proofs.TextsLemmas.{Both, EndsBefore, Ending, IsOfLines, LineFeed, NoEnding, Return, ending_bytes}
-use Rattle.markdown_blocks.specs.Rows.{BlankRow, BreakRow, Group, Lines, Row, RowKind, Single, TextRow, chunks_of, ending_events, groups, groups_events, last_row, onto_groups, row_events_by}
-use Rattle.markdown_blocks.specs.Sections.{sections, with_open}
+use Rattle.markdown_blocks.specs.Rows.{BlankRow, BreakRow, Group, HeadingRow, Lines, Row, RowKind, Single, TextRow, chunks_of, ending_events, groups, groups_events, last_row, onto_groups, read_title, row_title, single_events_by}
+use Rattle.markdown_blocks.specs.Sections.{heading_block, sections, with_open}
+use Rattle.markdown_blocks.proofs.PlainRoles.{plain-roles}
 use Rattle.markdown_blocks.proofs.RowFacts as f
-use Rattle.markdown_blocks.proofs.SectionsLemmas.{sections_by, then_block-blocks, then_blocks, then_blocks-end}
+use Rattle.markdown_blocks.proofs.SectionsLemmas.{heading-kind, sections_by, then_block-blocks, then_blocks, then_blocks-end}
+use Rattle.markdown_blocks.proofs.SpelledHeadings.{read-heading}
 
 -- Endings.
 
@@ -74,22 +74,6 @@ quiet-between (e ∷ es) h = (go (role e.name) h.0, quiet-between es h.1)
     go : (x : Role) → Quiet x → Between x
     go IsQuiet h = tt
     go _ h = absurd h
-
-pair-roles : (P : Role → Type 0) (name : Name) (p q : Point) → P (role name) → Roles P (pair_unless_empty name p q)
-pair-roles P name p q h = go (same_place p q)
-  where
-    go : (x : Bool) → Roles P (cond x [] (pair name p q))
-    go true = tt
-    go false = (h, (h, tt))
-
--- what the plain layer gives is `Data` and line endings
-plain-roles : (P : Role → Type 0) (bytes : List ℕ) (chunks : List Chunk) → P IsQuiet → P IsEnding → Roles P (together (plain_chunks bytes chunks))
-plain-roles P bytes [] quiet ending = tt
-plain-roles P bytes (chunk ∷ chunks) quiet ending =
-    let end : Point = line_end bytes chunk in
-    roles-append P (plain_chunk bytes chunk) (together (plain_chunks bytes chunks))
-    (roles-append P (pair_unless_empty n.Data chunk.first end) (pair_unless_empty n.LineEnding end chunk.after) (pair-roles P n.Data chunk.first end quiet) (pair-roles P n.LineEnding end chunk.after ending))
-    (plain-roles P bytes chunks quiet ending)
 
 -- Paragraphs.
 
@@ -158,6 +142,7 @@ Leads bytes row (Lines next rows ∷ gs) = f.IsEnding bytes row.end next.first
 
 leads-onto : (bytes : List ℕ) (row below : Row) (kind : RowKind) (gs : List Group) (q : Point) → below.first ≡ q → f.IsEnding bytes row.end q → Leads bytes row (onto_groups below kind gs)
 leads-onto bytes row below BlankRow gs q e ending = tt
+leads-onto bytes row below HeadingRow gs q e ending = tt
 leads-onto bytes row below BreakRow gs q e ending = tt
 leads-onto bytes row below TextRow [] q e ending = subst (f.IsEnding bytes row.end) (sym e) ending
 leads-onto bytes row below TextRow (Single next ∷ gs) q e ending = subst (f.IsEnding bytes row.end) (sym e) ending
@@ -169,10 +154,22 @@ means-blank : (options : ParseOptions) (bytes line : List ℕ) (row : Row) (line
 means-blank options bytes line row lines gs is e m = record {
   blocks = sections options [] lines;
   spells =
-      subst (λ (k : RowKind). Spells bytes (row_events_by k row ++ groups_events bytes gs) (sections options [] lines)) (sym e)
+      subst (λ (k : RowKind). Spells bytes (single_events_by bytes k row ++ groups_events bytes gs) (sections options [] lines)) (sym e)
       (spells-behind bytes (row.inside ++ ending_events n.BlankLineEnding row) (groups_events bytes gs) (sections options [] lines)
-      (roles-append Between row.inside (ending_events n.BlankLineEnding row) (quiet-between row.inside is.quiet) (ending-between n.BlankLineEnding row tt))
+      (roles-append Between row.inside (ending_events n.BlankLineEnding row) (quiet-between row.inside (is.inside (λ (h : row.kind ≡ HeadingRow). let bad : BlankRow ≡ HeadingRow = sym e ∙ h in cc)).quiet) (ending-between n.BlankLineEnding row tt))
       (means-spell options bytes lines gs m));
+  means = λ held. ap (sections_by options held line lines) (sym is.kind ∙ e);
+}
+
+-- A heading ends an open paragraph, and is a block.
+means-heading : (options : ParseOptions) (bytes line : List ℕ) (row : Row) (lines : List (List ℕ)) (gs : List Group) → f.IsRow options bytes line row → row.kind ≡ HeadingRow → Means options bytes lines gs →
+    MeansShut options bytes (line ∷ lines) (Single row ∷ gs)
+means-heading options bytes line row lines gs is e m = record {
+  blocks = More (heading_block line) (sections options [] lines);
+  spells =
+      subst (λ (k : RowKind). Spells bytes (single_events_by bytes k row ++ groups_events bytes gs) (More (heading_block line) (sections options [] lines))) (sym e)
+      (spells-ended bytes (around n.HeadingAtx row.first row.end (read_title bytes (row_title bytes row))) (ending_events n.LineEnding row) (groups_events bytes gs) (heading_block line) (sections options [] lines)
+      (λ r t l. read-heading options bytes line row r is (heading-kind options line (sym is.kind ∙ e)) t l) (ending-between n.LineEnding row tt) (means-spell options bytes lines gs m));
   means = λ held. ap (sections_by options held line lines) (sym is.kind ∙ e);
 }
 
@@ -182,9 +179,9 @@ means-break : (options : ParseOptions) (bytes line : List ℕ) (row : Row) (line
 means-break options bytes line row lines gs is e m = record {
   blocks = More Break (sections options [] lines);
   spells =
-      subst (λ (k : RowKind). Spells bytes (row_events_by k row ++ groups_events bytes gs) (More Break (sections options [] lines))) (sym e)
+      subst (λ (k : RowKind). Spells bytes (single_events_by bytes k row ++ groups_events bytes gs) (More Break (sections options [] lines))) (sym e)
       (spells-ended bytes (around n.ThematicBreak row.first row.end row.inside) (ending_events n.LineEnding row) (groups_events bytes gs) Break (sections options [] lines)
-      (λ r t l. read-break bytes r row.first row.end row.inside l is.quiet) (ending-between n.LineEnding row tt) (means-spell options bytes lines gs m));
+      (λ r t l. read-break bytes r row.first row.end row.inside l (is.inside (λ (h : row.kind ≡ HeadingRow). let bad : BreakRow ≡ HeadingRow = sym e ∙ h in cc)).quiet) (ending-between n.LineEnding row tt) (means-spell options bytes lines gs m));
   means = λ held. ap (sections_by options held line lines) (sym is.kind ∙ e);
 }
 
@@ -227,6 +224,7 @@ means-next options bytes line row lines next rows gs is e ending m =
 means-row : (options : ParseOptions) (bytes line : List ℕ) (row : Row) (lines : List (List ℕ)) (gs : List Group) → f.IsRow options bytes line row → Means options bytes lines gs → Leads bytes row gs →
     (kind : RowKind) → row.kind ≡ kind → Means options bytes (line ∷ lines) (onto_groups row kind gs)
 means-row options bytes line row lines gs is m leads BlankRow e = means-blank options bytes line row lines gs is e m
+means-row options bytes line row lines gs is m leads HeadingRow e = means-heading options bytes line row lines gs is e m
 means-row options bytes line row lines gs is m leads BreakRow e = means-break options bytes line row lines gs is e m
 means-row options bytes line row lines [] is m leads TextRow e = means-first options bytes line row lines [] is e m
 means-row options bytes line row lines (Single next ∷ gs) is m leads TextRow e = means-first options bytes line row lines (Single next ∷ gs) is e m

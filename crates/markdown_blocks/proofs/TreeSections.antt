@@ -1,24 +1,26 @@
--- The tree of a text where only breaks are on, line by line.
-use Rattle.std.proofs.Common.{◌≡◌, ℕ, Bool, true, false, cond, not, ◌==◌, ◌&&◌, ◌||◌, List, [], ◌∷◌, ◌++◌, map, drop, refl, ap, sym, ◌∙◌, subst, inl, inr, ◌⊎◌}
-use Rattle.std.specs.Prelude.{Option, Some, None}
+-- The tree of a text where only headings and breaks are on, line by line.
+use Rattle.std.proofs.Common.{◌≡◌, ℕ, ◌+◌, Bool, true, false, cond, not, ◌==◌, ◌&&◌, ◌||◌, List, [], ◌∷◌, ◌++◌, map, drop, refl, ap, sym, ◌∙◌, subst, inl, inr, ◌⊎◌, arith}
+use Rattle.std.specs.Prelude.{nat_le, Option, Some, None}
 use Rattle.std.specs.List.{onto_first}
+use Rattle.std.specs.Option.{option_or}
 use Rattle.std.proofs.lemmas.List.{map-append}
 use Rattle.std.proofs.lemmas.List.Sums.{take_while-cons}
 use Rattle.md_engine.specs.declared.configuration.ParseOptions.{ParseOptions}
+use Rattle.md_leaves.specs.HeadingRule.{is_heading}
 use Rattle.md_seam.specs.Containers.{opens, opens_footnote, opens_item, opens_quote}
 use Rattle.md_seam.specs.Grouped.{grouped}
 use Rattle.md_seam.specs.Leaves.{Against, Came, Finished, NoText, Text, break_at, code_at, fence_at, fence_from, heading_at, html_at, is_fence_marker, is_rule, starts, table_at, underline_depth, with_line}
 use Rattle.md_seam.specs.Lines.{begins_with, ends_line, full_lines_of, is_ending, lines_of, without_ending}
 use Rattle.md_seam.specs.Meaning.{tree, with_frontmatter}
-use Rattle.md_seam.specs.Preamble.{Preamble, front_of, has_mark, preamble, preamble_by, rest_at, rests_at}
-use Rattle.md_seam.specs.Rest.{Rest, has_small_indent, indent, is_blank, trim_start}
+use Rattle.md_seam.specs.Preamble.{Preamble, first_column, front_of, preamble, preamble_by, rest_at, rests_at, without_mark}
+use Rattle.md_seam.specs.Rest.{Rest, has_small_indent, indent, is_blank, is_parted, run_len, trim_start}
 use Rattle.md_seam.specs.State.{At, Kept, Leaf, NoLeaf, OpenParagraph, Path, Spot, closed, kept, shut_paragraph, texts, then_block, then_leaf, then_paragraph}
 use Rattle.md_seam.specs.Step.{all_continued, all_continued_by, fresh_by, fresh_line, is_concrete, is_open_text, leaf_line, spot_of, step, steps, text_by, text_line}
 use Rattle.md_seam.specs.Texts.{split_lines}
 use Rattle.md_seam.specs.Tree.{Blocks, Break, End, More, Paragraph}
 use Rattle.markdown_blocks.specs.Parsed.{IsBuilt}
-use Rattle.markdown_blocks.specs.Rows.{BlankRow, BreakRow, RowKind, TextRow, line_kind}
-use Rattle.markdown_blocks.specs.Sections.{sections, with_open}
+use Rattle.markdown_blocks.specs.Rows.{BlankRow, BreakRow, HeadingRow, RowKind, TextRow, line_kind}
+use Rattle.markdown_blocks.specs.Sections.{heading_block, sections, with_open}
 use Rattle.markdown_blocks.proofs.SectionsLemmas.{sections_by, then_block-blocks, then_blocks, then_blocks-end}
 
 -- What is off starts nothing.
@@ -50,10 +52,6 @@ html-off : (options : ParseOptions) (against : Against) (r : Rest) → options.c
 unfolding html_at
 html-off options against r off = rw off refl
 
-heading-off : (options : ParseOptions) (r : Rest) → options.constructs.heading_atx ≡ false → heading_at options r ≡ None
-unfolding heading_at
-heading-off options r off = rw off refl
-
 underline-off : (options : ParseOptions) (r : Rest) → options.constructs.heading_setext ≡ false → underline_depth options r ≡ None
 unfolding underline_depth
 underline-off options r off = rw off refl
@@ -66,27 +64,52 @@ no_container : (options : ParseOptions) (interrupting : Bool) (r : Rest) → IsB
 unfolding opens_quote opens_item opens_footnote
 no_container options interrupting r built = rw (built.block_quote, built.list_item, built.gfm_footnote_definition) refl
 
--- a break, if this is one
-abbrev break_if : Bool → Option Came
-break_if x = cond x (Some (Finished Break)) None
+-- What is on.
 
--- whether a line is one
+-- whether a line is a heading
+abbrev heads : ParseOptions → List ℕ → Bool
+heads options line = options.constructs.heading_atx && is_heading (trim_start line)
+
+-- whether a line is a break
 abbrev breaks : ParseOptions → List ℕ → Bool
 breaks options line = options.constructs.thematic_break && is_rule (trim_start line)
 
+-- a heading, or a break, if the line is one
+abbrev block_if : Bool → Bool → List ℕ → Option Came
+block_if x y line = cond x (Some (Finished (heading_block line))) (cond y (Some (Finished Break)) None)
+
 -- however far it is indented
-break-found : (options : ParseOptions) (r : Rest) → options.constructs.code_indented ≡ false → break_at options r ≡ break_if (breaks options r.bytes)
+heading-found : (options : ParseOptions) (r : Rest) → options.constructs.code_indented ≡ false → heading_at options r ≡ block_if (heads options r.bytes) false r.bytes
+unfolding heading_at
+heading-found options r off =
+    let text = trim_start r.bytes in
+    let depth = run_len 35 text in
+    let same : depth ≡ 0 + depth = omega arith in
+    rw off (ap (λ (x : Bool). block_if x false r.bytes) (go options.constructs.heading_atx (nat_le 1 depth) (nat_le depth 6) (nat_le (0 + depth) 6) (is_parted (drop depth text)) (ap (λ (k : ℕ). nat_le k 6) same)))
+  where
+    go : (x a b c d : Bool) → b ≡ c → (x && true && a && b && d) ≡ (x && (a && (c && d)))
+    go false a b c d e = refl
+    go true false b c d e = refl
+    go true true b c d e = ap (λ (z : Bool). z && d) e
+
+break-found : (options : ParseOptions) (r : Rest) → options.constructs.code_indented ≡ false → break_at options r ≡ block_if false (breaks options r.bytes) r.bytes
 unfolding break_at
 break-found options r off = rw off (go options.constructs.thematic_break)
   where
-    go : (x : Bool) → break_if (x && true && is_rule (trim_start r.bytes)) ≡ break_if (x && is_rule (trim_start r.bytes))
+    go : (x : Bool) → block_if false (x && true && is_rule (trim_start r.bytes)) r.bytes ≡ block_if false (x && is_rule (trim_start r.bytes)) r.bytes
     go true = refl
     go false = refl
 
--- nothing but a break starts
-starts-break : (options : ParseOptions) (against : Against) (r : Rest) → IsBuilt options → starts options against r ≡ break_if (breaks options r.bytes)
+-- nothing else starts
+starts-found : (options : ParseOptions) (against : Against) (r : Rest) → IsBuilt options → starts options against r ≡ block_if (heads options r.bytes) (breaks options r.bytes) r.bytes
 unfolding starts
-starts-break options against r built = rw (code-off options against r built.code_indented, fence-off options r built.code_fenced built.math_flow, html-off options against r built.html_flow, heading-off options r built.heading_atx) (break-found options r built.code_indented)
+starts-found options against r built =
+    rw (code-off options against r built.code_indented, fence-off options r built.code_fenced built.math_flow, html-off options against r built.html_flow, heading-found options r built.code_indented, break-found options r built.code_indented)
+    (go (heads options r.bytes))
+  where
+    go : (x : Bool) → option_or (block_if x false r.bytes) (block_if false (breaks options r.bytes) r.bytes) ≡ block_if x (breaks options r.bytes) r.bytes
+    go true = refl
+    go false = refl
 
 -- Lines, one after another.
 
@@ -101,6 +124,7 @@ spot_with bs held = record { here = bs; leaf = leaf_of held }
 -- what is open behind a line of this kind
 abbrev spot_by : Blocks → List Kept → Rest → RowKind → Spot
 spot_by bs held r BlankRow = spot_of (then_paragraph bs (texts held))
+spot_by bs held r HeadingRow = spot_of (then_block (then_paragraph bs (texts held)) (heading_block r.bytes))
 spot_by bs held r BreakRow = spot_of (then_block (then_paragraph bs (texts held)) Break)
 spot_by bs held r TextRow = with_line bs held r
 
@@ -115,23 +139,25 @@ shut-leaf options bs (k ∷ ks) off = shut-lines options bs (texts (k ∷ ks)) o
 -- a line where nothing is open
 fresh-found : (options : ParseOptions) (bs : Blocks) (r : Rest) → IsBuilt options → fresh_line options bs r ≡ spot_by bs [] r (line_kind options r.bytes)
 unfolding fresh_line
-fresh-found options bs r built = rw (starts-break options NoText r built) (go (is_blank r.bytes) (breaks options r.bytes))
+fresh-found options bs r built = rw (starts-found options NoText r built) (go (is_blank r.bytes) (heads options r.bytes) (breaks options r.bytes))
   where
-    go : (x y : Bool) → cond x (spot_of bs) (fresh_by bs r (break_if y)) ≡ spot_by bs [] r (cond x BlankRow (cond y BreakRow TextRow))
-    go true y = refl
-    go false true = refl
-    go false false = refl
+    go : (x y z : Bool) → cond x (spot_of bs) (fresh_by bs r (block_if y z r.bytes)) ≡ spot_by bs [] r (cond x BlankRow (cond y HeadingRow (cond z BreakRow TextRow)))
+    go true y z = refl
+    go false true z = refl
+    go false false true = refl
+    go false false false = refl
 
 -- a line where a paragraph is open
 text-found : (options : ParseOptions) (bs : Blocks) (lines : List Kept) (k : Kept) (r : Rest) → IsBuilt options → text_line options bs (k ∷ lines) r ≡ spot_by bs (k ∷ lines) r (line_kind options r.bytes)
 unfolding text_line
 text-found options bs lines k r built =
-    rw (underline-off options r built.heading_setext, starts-break options Text r built, shut-leaf options bs (k ∷ lines) built.definition) (go (is_blank r.bytes) (breaks options r.bytes))
+    rw (underline-off options r built.heading_setext, starts-found options Text r built, shut-leaf options bs (k ∷ lines) built.definition) (go (is_blank r.bytes) (heads options r.bytes) (breaks options r.bytes))
   where
-    go : (x y : Bool) → cond x (spot_of (then_paragraph bs (texts (k ∷ lines)))) (text_by options bs (k ∷ lines) r (break_if y)) ≡ spot_by bs (k ∷ lines) r (cond x BlankRow (cond y BreakRow TextRow))
-    go true y = refl
-    go false true = ap (λ (x : Blocks). spot_of (then_block x Break)) (shut-leaf options bs (k ∷ lines) built.definition)
-    go false false = rw (table-off options bs (k ∷ lines) r built.gfm_table) refl
+    go : (x y z : Bool) → cond x (spot_of (then_paragraph bs (texts (k ∷ lines)))) (text_by options bs (k ∷ lines) r (block_if y z r.bytes)) ≡ spot_by bs (k ∷ lines) r (cond x BlankRow (cond y HeadingRow (cond z BreakRow TextRow)))
+    go true y z = refl
+    go false true z = ap (λ (x : Blocks). spot_of (then_block x (heading_block r.bytes))) (shut-leaf options bs (k ∷ lines) built.definition)
+    go false false true = ap (λ (x : Blocks). spot_of (then_block x Break)) (shut-leaf options bs (k ∷ lines) built.definition)
+    go false false false = rw (table-off options bs (k ∷ lines) r built.gfm_table) refl
 
 leaf-found : (options : ParseOptions) (bs : Blocks) (held : List Kept) (r : Rest) → IsBuilt options → leaf_line options (spot_with bs held) r ≡ spot_by bs held r (line_kind options r.bytes)
 leaf-found options bs [] r built = fresh-found options bs r built
@@ -154,32 +180,44 @@ leaf_of-snoc : (ks : List Kept) (k : Kept) → leaf_of (ks ++ k ∷ []) ≡ Open
 leaf_of-snoc [] k = refl
 leaf_of-snoc (j ∷ ks) k = refl
 
--- the finished blocks, and behind them those of the lines
-steps-sections : (options : ParseOptions) (lines : List (List ℕ)) (bs : Blocks) (held : List Kept) → IsBuilt options →
-    closed options (steps options (At (spot_with bs held)) (map (rest_at 0) lines)) ≡ then_blocks bs (sections options (texts held) lines)
-steps-sections options [] bs held built =
+rests_at-zero : (ls : List (List ℕ)) → rests_at 0 ls ≡ map (rest_at 0) ls
+rests_at-zero [] = refl
+rests_at-zero (l ∷ ls) = refl
+
+-- the finished blocks, and behind them those of the lines, of which the first begins at any column
+steps-sections : (options : ParseOptions) (lines : List (List ℕ)) (column : ℕ) (bs : Blocks) (held : List Kept) → IsBuilt options →
+    closed options (steps options (At (spot_with bs held)) (rests_at column lines)) ≡ then_blocks bs (sections options (texts held) lines)
+steps-sections options [] column bs held built =
     shut-leaf options bs held built.definition
     ∙ sym (then_blocks-end (then_paragraph bs (texts held)))
     ∙ then_paragraph-blocks bs (texts held) End
-steps-sections options (line ∷ lines) bs held built =
-    ap (λ (p : Path). closed options (steps options p (map (rest_at 0) lines))) (step-found options bs held (rest_at 0 line) built)
-    ∙ go (λ (cs : Blocks) (ks : List Kept). steps-sections options lines cs ks built) (line_kind options line)
+steps-sections options (line ∷ lines) column bs held built =
+    ap (λ (p : Path). closed options (steps options p (map (rest_at 0) lines))) (step-found options bs held (rest_at column line) built)
+    ∙ ap (λ (rs : List Rest). closed options (steps options (At (spot_by bs held (rest_at column line) (line_kind options line))) rs)) (sym (rests_at-zero lines))
+    ∙ go (λ (cs : Blocks) (ks : List Kept). steps-sections options lines 0 cs ks built) (line_kind options line)
   where
-    go : ((cs : Blocks) (ks : List Kept) → closed options (steps options (At (spot_with cs ks)) (map (rest_at 0) lines)) ≡ then_blocks cs (sections options (texts ks) lines)) →
-        (kind : RowKind) → closed options (steps options (At (spot_by bs held (rest_at 0 line) kind)) (map (rest_at 0) lines)) ≡ then_blocks bs (sections_by options (texts held) line lines kind)
+    r : Rest
+    r = rest_at column line
+
+    go : ((cs : Blocks) (ks : List Kept) → closed options (steps options (At (spot_with cs ks)) (rests_at 0 lines)) ≡ then_blocks cs (sections options (texts ks) lines)) →
+        (kind : RowKind) → closed options (steps options (At (spot_by bs held r kind)) (rests_at 0 lines)) ≡ then_blocks bs (sections_by options (texts held) line lines kind)
     go further BlankRow =
         further (then_paragraph bs (texts held)) []
         ∙ then_paragraph-blocks bs (texts held) (sections options [] lines)
+    go further HeadingRow =
+        further (then_block (then_paragraph bs (texts held)) (heading_block line)) []
+        ∙ then_block-blocks (then_paragraph bs (texts held)) (heading_block line) (sections options [] lines)
+        ∙ then_paragraph-blocks bs (texts held) (More (heading_block line) (sections options [] lines))
     go further BreakRow =
         further (then_block (then_paragraph bs (texts held)) Break) []
         ∙ then_block-blocks (then_paragraph bs (texts held)) Break (sections options [] lines)
         ∙ then_paragraph-blocks bs (texts held) (More Break (sections options [] lines))
     go further TextRow =
-        ap (λ (x : Leaf). closed options (steps options (At (record { here = bs; leaf = x })) (map (rest_at 0) lines))) (sym (leaf_of-snoc held (kept (rest_at 0 line))))
-        ∙ further bs (held ++ kept (rest_at 0 line) ∷ [])
-        ∙ ap (λ (x : List (List ℕ)). then_blocks bs (sections options x lines)) (map-append (λ (k : Kept). k.text) held (kept (rest_at 0 line) ∷ []))
+        ap (λ (x : Leaf). closed options (steps options (At (record { here = bs; leaf = x })) (rests_at 0 lines))) (sym (leaf_of-snoc held (kept r)))
+        ∙ further bs (held ++ kept r ∷ [])
+        ∙ ap (λ (x : List (List ℕ)). then_blocks bs (sections options x lines)) (map-append (λ (k : Kept). k.text) held (kept r ∷ []))
 
--- Breaks and paragraphs make no list.
+-- Headings, breaks and paragraphs make no list.
 
 grouped-open : (lines : List (List ℕ)) (bs cs : Blocks) → grouped bs ≡ cs → grouped (with_open lines bs) ≡ with_open lines cs
 grouped-open [] bs cs e = e
@@ -191,6 +229,7 @@ grouped-sections options (line ∷ lines) held = go (λ (ls : List (List ℕ)). 
   where
     go : ((ls : List (List ℕ)) → grouped (sections options ls lines) ≡ sections options ls lines) → (kind : RowKind) → grouped (sections_by options held line lines kind) ≡ sections_by options held line lines kind
     go further BlankRow = grouped-open held _ _ (further [])
+    go further HeadingRow = grouped-open held _ _ (ap (More (heading_block line)) (further []))
     go further BreakRow = grouped-open held _ _ (ap (More Break) (further []))
     go further TextRow = further (held ++ trim_start line ∷ [])
 
@@ -203,6 +242,7 @@ sections-empty options (line ∷ lines) held = go (λ (ls : List (List ℕ)). se
   where
     go : ((ls : List (List ℕ)) → sections options ls (lines ++ [] ∷ []) ≡ sections options ls lines) → (kind : RowKind) → sections_by options held line (lines ++ [] ∷ []) kind ≡ sections_by options held line lines kind
     go further BlankRow = ap (with_open held) (further [])
+    go further HeadingRow = ap (λ (bs : Blocks). with_open held (More (heading_block line) bs)) (further [])
     go further BreakRow = ap (λ (bs : Blocks). with_open held (More Break bs)) (further [])
     go further TextRow = further (held ++ trim_start line ∷ [])
 
@@ -269,20 +309,14 @@ unfolding front_of
 front-off options [] off = refl
 front-off options (line ∷ lines) off = rw off refl
 
-rests_at-zero : (ls : List (List ℕ)) → rests_at 0 ls ≡ map (rest_at 0) ls
-rests_at-zero [] = refl
-rests_at-zero (l ∷ ls) = refl
+preamble-off : (options : ParseOptions) (text : List ℕ) → options.constructs.frontmatter ≡ false → preamble options text ≡ record { front = None; body = rests_at (first_column text) (lines_of (without_mark text)) }
+preamble-off options text off = let lines = lines_of (without_mark text) in ap (preamble_by (first_column text) lines) (front-off options lines off)
 
-preamble-off : (options : ParseOptions) (text : List ℕ) → options.constructs.frontmatter ≡ false → has_mark text ≡ false → preamble options text ≡ record { front = None; body = map (rest_at 0) (lines_of text) }
-preamble-off options text off no_mark =
-    ap (λ (x : Bool). preamble_by (cond x 3 0) (lines_of (cond x (drop 3 text) text)) (front_of options (lines_of (cond x (drop 3 text) text)))) no_mark
-    ∙ ap (preamble_by 0 (lines_of text)) (front-off options (lines_of text) off)
-    ∙ ap (λ (rs : List Rest). record { front = None; body = rs }) (rests_at-zero (lines_of text))
-
--- Where only breaks are on, a text without a byte order mark means its sections.
-pub tree-sections : (options : ParseOptions) (text : List ℕ) → IsBuilt options → has_mark text ≡ false → tree options text ≡ sections options [] (split_lines text)
-tree-sections options text built no_mark =
-    ap (λ (p : Preamble). with_frontmatter p.front (grouped (closed options (steps options (At (spot_of End)) p.body)))) (preamble-off options text built.frontmatter no_mark)
-    ∙ ap grouped (steps-sections options (lines_of text) End [] built)
+-- Where only headings and breaks are on, a text means its sections behind a byte order mark.
+pub tree-sections : (options : ParseOptions) (bytes : List ℕ) → IsBuilt options → tree options bytes ≡ sections options [] (split_lines (without_mark bytes))
+tree-sections options bytes built =
+    let text = without_mark bytes in
+    ap (λ (p : Preamble). with_frontmatter p.front (grouped (closed options (steps options (At (spot_of End)) p.body)))) (preamble-off options bytes built.frontmatter)
+    ∙ ap grouped (steps-sections options (lines_of text) (first_column bytes) End [] built)
     ∙ grouped-sections options (lines_of text) []
     ∙ sym (sections-split options (split_lines text) (lines_of text) (split-or_empty text))

@@ -1,0 +1,27 @@
+-- The roles of what the plain inline layer gives.
+use Rattle.std.proofs.Common.{ℕ, Bool, true, false, cond, List, [], ◌∷◌}
+use Rattle.md_engine.specs.declared.event.Name.{Name}
+use Rattle.md_engine.specs.declared.event.Name.TheVariants as n
+use Rattle.md_engine.specs.declared.event.Point.{Point}
+use Rattle.md_seam.specs.declared.inline.Chunk.{Chunk}
+use Rattle.md_seam.specs.Inline.{line_end, pair_unless_empty, plain_chunk, plain_chunks, together}
+use Rattle.md_seam.specs.Nested.{pair}
+use Rattle.md_seam.specs.Places.{same_place}
+use Rattle.md_seam.specs.Spelled.{IsEnding, IsQuiet, Role, role}
+use Rattle.md_seam.proofs.SpelledLemmas.{Roles, roles-append}
+
+pair-roles : (P : Role → Type 0) (name : Name) (p q : Point) → P (role name) → Roles P (pair_unless_empty name p q)
+pair-roles P name p q h = go (same_place p q)
+  where
+    go : (x : Bool) → Roles P (cond x [] (pair name p q))
+    go true = tt
+    go false = (h, (h, tt))
+
+-- what the plain layer gives is `Data` and line endings
+pub plain-roles : (P : Role → Type 0) (bytes : List ℕ) (chunks : List Chunk) → P IsQuiet → P IsEnding → Roles P (together (plain_chunks bytes chunks))
+plain-roles P bytes [] quiet ending = tt
+plain-roles P bytes (chunk ∷ chunks) quiet ending =
+    let end : Point = line_end bytes chunk in
+    roles-append P (plain_chunk bytes chunk) (together (plain_chunks bytes chunks))
+    (roles-append P (pair_unless_empty n.Data chunk.first end) (pair_unless_empty n.LineEnding end chunk.after) (pair-roles P n.Data chunk.first end quiet) (pair-roles P n.LineEnding end chunk.after ending))
+    (plain-roles P bytes chunks quiet ending)

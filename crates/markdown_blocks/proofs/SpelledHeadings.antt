@@ -1,0 +1,440 @@
+-- What the events of a heading are read as: its markers, and its text.
+use Rattle.std.proofs.Common.{◌≡◌, ℕ, zero, suc, ◌+◌, ◌-◌, ◌≤◌, Bool, true, false, cond, ◌&&◌, List, [], ◌∷◌, ◌++◌, length, take, drop, reverse, slice_range, refl, ap, sym, ◌∙◌, subst, drop-drop, arith}
+use Rattle.std.specs.Prelude.{◌==◌, nat_le, Option, Some, None, option_map}
+use Rattle.std.specs.List.{prefix_len}
+use Rattle.std.proofs.lemmas.Bool.{and_parts}
+use Rattle.std.proofs.lemmas.Bool.Decides.{nat_tests}
+use Rattle.std.proofs.lemmas.List.{drop-take, length-take-le}
+use Rattle.std.proofs.lemmas.List.Folds.{length-prefix_len}
+use Rattle.md_engine.specs.declared.configuration.ParseOptions.{ParseOptions}
+use Rattle.md_engine.specs.declared.event.Event.{Event}
+use Rattle.md_engine.specs.declared.event.Name.TheVariants as n
+use Rattle.md_engine.specs.declared.event.Point.{Point}
+use Rattle.md_leaves.specs.HeadingRule as rule
+use Rattle.md_leaves.specs.HeadingRule.{Apart, Hashes, Run, White, closes, goes_on, is_heading, opens}
+use Rattle.md_leaves.specs.HeadingTitle.{Title, chunk_unless_empty, front_len, line_runs, text_of, title_of}
+use Rattle.md_seam.specs.declared.inline.Chunk.{Chunk}
+use Rattle.md_seam.specs.Inline.{plain_chunks, together}
+use Rattle.md_seam.specs.Leaves.{heading_lines, heading_text, without_closing}
+use Rattle.md_seam.specs.Nested.{around}
+use Rattle.md_seam.specs.Places.{past_byte, past_text}
+use Rattle.md_seam.specs.Rest.{is_parted, is_white, run_len, trim, trim_end, trim_start}
+use Rattle.md_seam.specs.Spelled.{AsHeading, AsMarkers, OfHeadingAtx, OpenLeaf, Reading, Tells, Text, add_block, begun, byte_at, columns_left, fresh, noted, read, read_exit, text_to, told_at}
+use Rattle.md_seam.specs.Texts.{split_lines, trim_each}
+use Rattle.md_seam.specs.Tree.{Heading}
+use Rattle.md_seam.proofs.BlocksLemmas.{read-leaf, read-told}
+use Rattle.md_seam.proofs.InlineLemmas.{past-index, past-vs}
+use Rattle.md_seam.proofs.SpelledLemmas.{Between, Quiet, QuietOrEnding, Roles, read-from, read-quiet, text-inline, text_after}
+use Rattle.md_seam.proofs.TextsLemmas.{NoEnding, split-line}
+use Rattle.markdown_blocks.specs.Rows.{Row, read_text, read_title, row_title}
+use Rattle.markdown_blocks.specs.Sections.{heading_block}
+use Rattle.markdown_blocks.proofs.LineKinds.{no_ending-drop}
+use Rattle.markdown_blocks.proofs.PlainRoles.{plain-roles}
+use Rattle.markdown_blocks.proofs.RowFacts.{IsRow}
+use Rattle.markdown_blocks.proofs.TitleFacts.{text-fits, text-place}
+
+-- Counts. How many bytes pass a test at the front: one more, and none.
+
+count-one : (test : ℕ → Bool) (b : ℕ) (bs : List ℕ) → test b ≡ true → prefix_len test (b ∷ bs) ≡ suc (prefix_len test bs)
+count-one test b bs e = ap (λ (t : Bool). cond t (1 + prefix_len test bs) 0) e ∙ omega arith
+
+count-none : (test : ℕ → Bool) (b : ℕ) (bs : List ℕ) → test b ≡ false → prefix_len test (b ∷ bs) ≡ 0
+count-none test b bs e = ap (λ (t : Bool). cond t (1 + prefix_len test bs) 0) e
+
+-- how many bytes a run of `#` has, and the whitespace behind it
+abbrev opening_by : ℕ → List ℕ → ℕ
+opening_by depth bs = depth + prefix_len is_white (drop depth bs)
+
+abbrev opening_len : List ℕ → ℕ
+opening_len bs = opening_by (run_len 35 bs) bs
+
+opening-more : (depth b : ℕ) (bs : List ℕ) → opening_by (suc depth) (b ∷ bs) ≡ suc (opening_by depth bs)
+opening-more depth b bs = omega arith
+
+opening-hash : (b : ℕ) (bs : List ℕ) → (b == 35) ≡ true → opening_len (b ∷ bs) ≡ suc (opening_len bs)
+opening-hash b bs e = ap (λ (k : ℕ). opening_by k (b ∷ bs)) (count-one (λ (c : ℕ). c == 35) b bs e) ∙ opening-more (run_len 35 bs) b bs
+
+opening-other : (b : ℕ) (bs : List ℕ) → (b == 35) ≡ false → opening_len (b ∷ bs) ≡ prefix_len is_white (b ∷ bs)
+opening-other b bs e = ap (λ (k : ℕ). opening_by k (b ∷ bs)) (count-none (λ (c : ℕ). c == 35) b bs e) ∙ omega arith
+
+-- the same behind an indent
+abbrev front_by : ℕ → List ℕ → ℕ
+front_by indent line = let depth = run_len 35 (drop indent line) in opening_by (indent + depth) line
+
+front-white : (b : ℕ) (bs : List ℕ) → is_white b ≡ true → front_len (b ∷ bs) ≡ suc (front_len bs)
+front-white b bs e =
+    let indent = prefix_len is_white bs in
+    let depth = run_len 35 (drop indent bs) in
+    let sum : suc indent + depth ≡ suc (indent + depth) = omega arith in
+    ap (λ (k : ℕ). front_by k (b ∷ bs)) (count-one is_white b bs e)
+    ∙ ap (λ (k : ℕ). opening_by k (b ∷ bs)) sum
+    ∙ opening-more (indent + depth) b bs
+
+front-other : (b : ℕ) (bs : List ℕ) → is_white b ≡ false → front_len (b ∷ bs) ≡ opening_len (b ∷ bs)
+front-other b bs e =
+    let sum : 0 + run_len 35 (b ∷ bs) ≡ run_len 35 (b ∷ bs) = omega arith in
+    ap (λ (k : ℕ). front_by k (b ∷ bs)) (count-none is_white b bs e) ∙ ap (λ (k : ℕ). opening_by k (b ∷ bs)) sum
+
+-- Runs.
+
+run-goes : (run : Run) (b : ℕ) (bs : List ℕ) (p : Point) → goes_on run b ≡ true → line_runs run (b ∷ bs) p ≡ line_runs run bs (past_byte b p)
+run-goes run b bs p e = ap (λ (t : Bool). cond t (line_runs run bs (past_byte b p)) (closes run p ++ opens (rule.begun b) p ++ line_runs (rule.begun b) bs (past_byte b p))) e
+
+run-turns : (run into : Run) (b : ℕ) (bs : List ℕ) (p : Point) → goes_on run b ≡ false → rule.begun b ≡ into → line_runs run (b ∷ bs) p ≡ closes run p ++ opens into p ++ line_runs into bs (past_byte b p)
+run-turns run into b bs p e f =
+    ap (λ (t : Bool). cond t (line_runs run bs (past_byte b p)) (closes run p ++ opens (rule.begun b) p ++ line_runs (rule.begun b) bs (past_byte b p))) e
+    ∙ ap (λ (x : Run). closes run p ++ opens x p ++ line_runs x bs (past_byte b p)) f
+
+begun-white : (b : ℕ) → is_white b ≡ true → rule.begun b ≡ White
+begun-white b e = ap (λ (t : Bool). cond t White (cond (b == 35) Hashes rule.Text)) e
+
+begun-hash : (b : ℕ) → is_white b ≡ false → (b == 35) ≡ true → rule.begun b ≡ Hashes
+begun-hash b e f = ap (λ (t : Bool). cond t White (cond (b == 35) Hashes rule.Text)) e ∙ ap (λ (t : Bool). cond t Hashes rule.Text) f
+
+-- The opening sequence.
+
+-- whitespace is not shown
+white-quiet : (bs : List ℕ) (p : Point) → Roles Quiet (line_runs White (take (prefix_len is_white bs) bs) p)
+white-quiet [] p = (tt, tt)
+white-quiet (b ∷ bs) p = go (is_white b) refl (white-quiet bs (past_byte b p))
+  where
+    go : (x : Bool) → is_white b ≡ x → Roles Quiet (line_runs White (take (prefix_len is_white bs) bs) (past_byte b p)) → Roles Quiet (line_runs White (take (prefix_len is_white (b ∷ bs)) (b ∷ bs)) p)
+    go true e more = subst (λ (k : ℕ). Roles Quiet (line_runs White (take k (b ∷ bs)) p)) (sym (count-one is_white b bs e)) (subst (Roles Quiet) (sym (run-goes White b (take (prefix_len is_white bs) bs) p e)) more)
+    go false e more = subst (λ (k : ℕ). Roles Quiet (line_runs White (take k (b ∷ bs)) p)) (sym (count-none is_white b bs e)) (tt, tt)
+
+-- a heading is open, with these markers
+abbrev marked : Reading → List ℕ → Reading
+marked r markers = record r { text = None; leaf = Some (record (fresh OfHeadingAtx) { markers = markers }) }
+
+-- the first run of markers ends
+read-markers : (bytes : List ℕ) (r : Reading) (first p : Point) → r.text ≡ Some (begun first) → r.leaf ≡ Some (fresh OfHeadingAtx) → read_exit bytes (Tells AsMarkers) p r ≡ marked r (slice_range bytes (byte_at first) p.index)
+read-markers bytes r first p t l =
+    ap (λ (x : Option Text). told_at bytes AsMarkers p x r) t
+    ∙ ap (λ (x : Option OpenLeaf). record r { text = None; leaf = option_map (noted AsMarkers (record { spaces = columns_left first; text = slice_range bytes (byte_at first) p.index })) x }) l
+
+-- from inside the run on
+read-opening : (bytes : List ℕ) (r : Reading) (first : Point) (bs : List ℕ) (p : Point) → r.text ≡ Some (begun first) → r.leaf ≡ Some (fresh OfHeadingAtx) →
+    read bytes r (line_runs Hashes (take (opening_len bs) bs) p) ≡ marked r (slice_range bytes (byte_at first) (p.index + run_len 35 bs))
+read-opening bytes r first [] p t l = let end : p.index ≡ p.index + run_len 35 [] = omega arith in read-markers bytes r first p t l ∙ ap (λ (i : ℕ). marked r (slice_range bytes (byte_at first) i)) end
+read-opening bytes r first (b ∷ bs) p t l = go (b == 35) refl (is_white b) refl (read-opening bytes r first bs (past_byte b p) t l)
+  where
+    by : ℕ → Reading
+    by k = read bytes r (line_runs Hashes (take k (b ∷ bs)) p)
+
+    to : ℕ → Reading
+    to k = marked r (slice_range bytes (byte_at first) k)
+
+    none : (b == 35) ≡ false → p.index ≡ p.index + run_len 35 (b ∷ bs)
+    none e = let size = count-none (λ (c : ℕ). c == 35) b bs e in omega (arith, size)
+
+    go : (x : Bool) → (b == 35) ≡ x → (y : Bool) → is_white b ≡ y → read bytes r (line_runs Hashes (take (opening_len bs) bs) (past_byte b p)) ≡ to (p.index + 1 + run_len 35 bs) → by (opening_len (b ∷ bs)) ≡ to (p.index + run_len 35 (b ∷ bs))
+    go true e y f more =
+        let size = count-one (λ (c : ℕ). c == 35) b bs e in
+        let end : p.index + 1 + run_len 35 bs ≡ p.index + run_len 35 (b ∷ bs) = omega (arith, size) in
+        ap by (opening-hash b bs e) ∙ ap (read bytes r) (run-goes Hashes b (take (opening_len bs) bs) p e) ∙ more ∙ ap to end
+    go false e true f more =
+        let left = take (prefix_len is_white bs) bs in
+        ap by (opening-other b bs e ∙ count-one is_white b bs f)
+        ∙ ap (read bytes r) (run-turns Hashes White b left p e (begun-white b f))
+        ∙ read-quiet bytes (read_exit bytes (Tells AsMarkers) p r) (line_runs White left (past_byte b p)) (white-quiet bs (past_byte b p))
+        ∙ read-markers bytes r first p t l
+        ∙ ap to (none e)
+    go false e false f more = ap by (opening-other b bs e ∙ count-none is_white b bs f) ∙ read-markers bytes r first p t l ∙ ap to (none e)
+
+-- before the first marker
+abbrev Gap : Run → Type 0
+Gap Apart = Unit {0}
+Gap White = Unit {0}
+Gap _ = ⊥
+
+gap-white : (bytes : List ℕ) (r : Reading) (run : Run) (b : ℕ) (bs : List ℕ) (p : Point) → Gap run → is_white b ≡ true → read bytes r (line_runs run (b ∷ bs) p) ≡ read bytes r (line_runs White bs (past_byte b p))
+gap-white bytes r Apart b bs p gap e = ap (read bytes r) (run-turns Apart White b bs p refl (begun-white b e))
+gap-white bytes r White b bs p gap e = ap (read bytes r) (run-goes White b bs p e)
+gap-white bytes r run b bs p gap e = absurd gap
+
+gap-hash : (bytes : List ℕ) (r : Reading) (run : Run) (b : ℕ) (bs : List ℕ) (p : Point) → Gap run → is_white b ≡ false → (b == 35) ≡ true →
+    read bytes r (line_runs run (b ∷ bs) p) ≡ read bytes (record r { text = Some (begun p) }) (line_runs Hashes bs (past_byte b p))
+gap-hash bytes r Apart b bs p gap e f = ap (read bytes r) (run-turns Apart Hashes b bs p refl (begun-hash b e f))
+gap-hash bytes r White b bs p gap e f = ap (read bytes r) (run-turns White Hashes b bs p e (begun-hash b e f))
+gap-hash bytes r run b bs p gap e f = absurd gap
+
+-- the first byte of a heading
+heading-first : (b : ℕ) (bs : List ℕ) → is_heading (b ∷ bs) ≡ true → (b == 35) ≡ true
+heading-first b bs h = go (b == 35) refl
+  where
+    go : (x : Bool) → (b == 35) ≡ x → x ≡ true
+    go true e = refl
+    go false e = let bad : false ≡ true = sym (ap (λ (k : ℕ). nat_le 1 k && (nat_le (0 + k) 6 && is_parted (drop k (b ∷ bs)))) (count-none (λ (c : ℕ). c == 35) b bs e)) ∙ h in cc
+
+-- where a line has no whitespace any more
+abbrev behind_white : List ℕ → Point → Point
+behind_white line p = past_text (take (prefix_len is_white line) line) p
+
+-- the markers of a heading, and what stands around them
+read-front : (bytes : List ℕ) (r : Reading) (run : Run) (line : List ℕ) (p : Point) → Gap run → is_heading (trim_start line) ≡ true → r.leaf ≡ Some (fresh OfHeadingAtx) →
+    read bytes r (line_runs run (take (front_len line) line) p) ≡ marked r (slice_range bytes (byte_at (behind_white line p)) ((behind_white line p).index + run_len 35 (trim_start line)))
+read-front bytes r run [] p gap h l = cc
+read-front bytes r run (b ∷ bs) p gap h l = go (is_white b) refl (read-front bytes r White bs (past_byte b p) tt)
+  where
+    by : ℕ → Reading
+    by k = read bytes r (line_runs run (take k (b ∷ bs)) p)
+
+    -- with so much whitespace in front
+    to : ℕ → Reading
+    to k =
+        let q = past_text (take k (b ∷ bs)) p in
+        marked r (slice_range bytes (byte_at q) (q.index + run_len 35 (drop k (b ∷ bs))))
+
+    go : (x : Bool) → is_white b ≡ x →
+        (is_heading (trim_start bs) ≡ true → r.leaf ≡ Some (fresh OfHeadingAtx) → read bytes r (line_runs White (take (front_len bs) bs) (past_byte b p)) ≡ to (suc (prefix_len is_white bs))) →
+        by (front_len (b ∷ bs)) ≡ to (prefix_len is_white (b ∷ bs))
+    go true e more =
+        let size = count-one is_white b bs e in
+        ap by (front-white b bs e)
+        ∙ gap-white bytes r run b (take (front_len bs) bs) p gap e
+        ∙ more (sym (ap (λ (k : ℕ). is_heading (drop k (b ∷ bs))) size) ∙ h) l
+        ∙ ap to (sym size)
+    go false e more =
+        let none = count-none is_white b bs e in
+        let first = heading-first b bs (sym (ap (λ (k : ℕ). is_heading (drop k (b ∷ bs))) none) ∙ h) in
+        let size = count-one (λ (c : ℕ). c == 35) b bs first in
+        let end : p.index + 1 + run_len 35 bs ≡ p.index + run_len 35 (b ∷ bs) = omega (arith, size) in
+        ap by (front-other b bs e ∙ opening-hash b bs first)
+        ∙ gap-hash bytes r run b (take (opening_len bs) bs) p gap e first
+        ∙ read-opening bytes (record r { text = Some (begun p) }) p bs (past_byte b p) refl l
+        ∙ ap (λ (k : ℕ). marked r (slice_range bytes (byte_at p) k)) end
+        ∙ ap to (sym none)
+
+-- Behind the text.
+
+-- a further run of markers is a text
+abbrev text_in : Run → Point → Option Text
+text_in Hashes p = Some (begun p)
+text_in _ p = None
+
+abbrev InRun : Run → Option Text → Type 0
+InRun Hashes text = (first : Point) × (text ≡ Some (begun first))
+InRun _ text = text ≡ None
+
+in-run : (run : Run) (p : Point) → InRun run (text_in run p)
+in-run Hashes p = (p, refl)
+in-run Apart p = refl
+in-run White p = refl
+in-run rule.Text p = refl
+
+read-opens : (bytes : List ℕ) (r : Reading) (run : Run) (p : Point) → r.text ≡ None → read bytes r (opens run p) ≡ record r { text = text_in run p }
+read-opens bytes r Hashes p t = refl
+read-opens bytes r Apart p t = ap (λ (x : Option Text). record r { text = x }) t
+read-opens bytes r White p t = ap (λ (x : Option Text). record r { text = x }) t
+read-opens bytes r rule.Text p t = ap (λ (x : Option Text). record r { text = x }) t
+
+-- a run behind the first one of markers says nothing
+read-closes : (bytes : List ℕ) (r : Reading) (leaf : OpenLeaf) (m : ℕ) (ms : List ℕ) (run : Run) (p : Point) → r.leaf ≡ Some leaf → leaf.markers ≡ m ∷ ms → InRun run r.text → read bytes r (closes run p) ≡ record r { text = None }
+read-closes bytes r leaf m ms Hashes p l e t =
+    ap (λ (x : Option Text). told_at bytes AsMarkers p x r) t.1
+    ∙ ap (λ (x : Option OpenLeaf). record r { text = None; leaf = option_map (noted AsMarkers (record { spaces = columns_left t.0; text = slice_range bytes (byte_at t.0) p.index })) x }) l
+    ∙ ap (λ (x : List ℕ). record r { text = None; leaf = Some (elim x [ [] ↦ record leaf { markers = slice_range bytes (byte_at t.0) p.index } | c ∷ cs ↦ leaf ]) }) e
+    ∙ ap (λ (x : Option OpenLeaf). record r { text = None; leaf = x }) (sym l)
+read-closes bytes r leaf m ms Apart p l e t = ap (λ (x : Option Text). record r { text = x }) t
+read-closes bytes r leaf m ms White p l e t = ap (λ (x : Option Text). record r { text = x }) t
+read-closes bytes r leaf m ms rule.Text p l e t = ap (λ (x : Option Text). record r { text = x }) t
+
+read-runs : (bytes : List ℕ) (r : Reading) (leaf : OpenLeaf) (m : ℕ) (ms : List ℕ) (run : Run) (line : List ℕ) (p : Point) → r.leaf ≡ Some leaf → leaf.markers ≡ m ∷ ms → InRun run r.text →
+    read bytes r (line_runs run line p) ≡ record r { text = None }
+read-runs bytes r leaf m ms run [] p l e t = read-closes bytes r leaf m ms run p l e t
+read-runs bytes r leaf m ms run (b ∷ bs) p l e t =
+    go (goes_on run b) refl (read-runs bytes r leaf m ms run bs (past_byte b p) l e t) (read-runs bytes (record r { text = text_in (rule.begun b) p }) leaf m ms (rule.begun b) bs (past_byte b p) l e (in-run (rule.begun b) p))
+  where
+    into : Run
+    into = rule.begun b
+
+    mid : Reading
+    mid = record r { text = text_in into p }
+
+    go : (x : Bool) → goes_on run b ≡ x → read bytes r (line_runs run bs (past_byte b p)) ≡ record r { text = None } → read bytes mid (line_runs into bs (past_byte b p)) ≡ record r { text = None } →
+        read bytes r (line_runs run (b ∷ bs) p) ≡ record r { text = None }
+    go true k same turned = ap (read bytes r) (run-goes run b bs p k) ∙ same
+    go false k same turned =
+        ap (read bytes r) (run-turns run into b bs p k refl)
+        ∙ read-from bytes r mid (closes run p ++ opens into p) (line_runs into bs (past_byte b p))
+        (read-from bytes r (record r { text = None }) (closes run p) (opens into p) (read-closes bytes r leaf m ms run p l e t) ∙ read-opens bytes (record r { text = None }) into p refl)
+        ∙ turned
+
+-- Pieces.
+
+take-take : (n m : ℕ) (xs : List ℕ) → n ≤ m → take n (take m xs) ≡ take n xs
+take-take zero m xs h = refl
+take-take (suc n) zero xs h = absurd (omega arith)
+take-take (suc n) (suc m) [] h = refl
+take-take (suc n) (suc m) (x ∷ xs) h = ap (λ (l : List ℕ). x ∷ l) (take-take n m xs (omega arith))
+
+-- a piece of a line is one of the text
+slice-inside : (bytes line : List ℕ) (from end i size : ℕ) → slice_range bytes from end ≡ line → end ≡ from + length line → i + size ≤ length line → slice_range bytes (from + i) (from + i + size) ≡ take size (drop i line)
+slice-inside bytes line from end i size is long le =
+    let left = end - (from + i) in
+    let one : from + i + size - (from + i) ≡ size = omega arith in
+    let all : i + left ≡ end - from = omega arith in
+    ap (λ (k : ℕ). take k (drop (from + i) bytes)) one
+    ∙ sym (take-take size left (drop (from + i) bytes) (omega arith))
+    ∙ ap (λ (l : List ℕ). take size (take left l)) (sym (drop-drop i from bytes))
+    ∙ ap (take size) (sym (drop-take i left (drop from bytes)) ∙ ap (λ (k : ℕ). drop i (take k (drop from bytes))) all ∙ ap (drop i) is)
+
+past-whole : (text : List ℕ) (p : Point) → p.vs ≡ 0 → (past_text text p).vs ≡ 0
+past-whole [] p e = e
+past-whole (b ∷ bs) p e = past-vs b bs p
+
+no_ending-take : (n : ℕ) (bytes : List ℕ) → NoEnding bytes → NoEnding (take n bytes)
+no_ending-take zero bytes h = tt
+no_ending-take (suc n) [] h = tt
+no_ending-take (suc n) (b ∷ bs) h = (h.0, no_ending-take n bs h.1)
+
+-- The text.
+
+-- whether no whitespace comes first
+abbrev Bare : List ℕ → Type 0
+Bare bytes = prefix_len is_white bytes ≡ 0
+
+bare-trim : (bytes : List ℕ) → Bare (trim_start bytes)
+bare-trim [] = refl
+bare-trim (b ∷ bs) = go (is_white b) refl (bare-trim bs)
+  where
+    go : (x : Bool) → is_white b ≡ x → Bare (trim_start bs) → Bare (trim_start (b ∷ bs))
+    go true e more = subst (λ (k : ℕ). Bare (drop k (b ∷ bs))) (sym (count-one is_white b bs e)) more
+    go false e more = subst (λ (k : ℕ). Bare (drop k (b ∷ bs))) (sym (count-none is_white b bs e)) (count-none is_white b bs e)
+
+bare-take : (n : ℕ) (bytes : List ℕ) → Bare bytes → Bare (take n bytes)
+bare-take zero bytes h = refl
+bare-take (suc n) [] h = refl
+bare-take (suc n) (b ∷ bs) h = go (is_white b) refl
+  where
+    go : (x : Bool) → is_white b ≡ x → Bare (take (suc n) (b ∷ bs))
+    go true e = let bad : suc (prefix_len is_white bs) ≡ 0 = sym (count-one is_white b bs e) ∙ h in absurd (omega (arith, bad))
+    go false e = count-none is_white b (take n bs) e
+
+-- the text of a heading begins with no whitespace
+bare-text : (after : List ℕ) → Bare (heading_text after)
+bare-text after = go (is_parted (reverse (without_closing (trim after))))
+  where
+    text : Bare (trim after)
+    text = bare-take _ (trim_start after) (bare-trim after)
+
+    front : Bare (without_closing (trim after))
+    front = bare-take _ (trim after) text
+
+    go : (x : Bool) → Bare (cond x (trim_end (without_closing (trim after))) (trim after))
+    go true = bare-take _ (without_closing (trim after)) front
+    go false = text
+
+-- a text on one line is that line
+text-lines : (text : List ℕ) → NoEnding text → Bare text → trim_each (split_lines text) ≡ text ∷ []
+text-lines text none bare = ap trim_each (split-line text none) ∙ ap (λ (k : ℕ). drop k text ∷ []) bare
+
+-- a heading is open, with its markers and its text
+abbrev titled : Reading → List ℕ → List (List ℕ) → Reading
+titled r markers lines = record r { text = None; leaf = Some (record (fresh OfHeadingAtx) { markers = markers; text = lines }) }
+
+read-part : (bytes : List ℕ) (r : Reading) (markers : List ℕ) (begin end : Point) (text : List ℕ) → begin.vs ≡ 0 → slice_range bytes begin.index end.index ≡ text → NoEnding text → Bare text →
+    read bytes (marked r markers) (read_text bytes (chunk_unless_empty (length text) begin end)) ≡ titled r markers (heading_lines text)
+read-part bytes r markers begin end [] whole is none bare = refl
+read-part bytes r markers begin end (b ∷ bs) whole is none bare =
+    let chunk : Chunk = record { first = begin; after = end } in
+    let inside : List Event = together (plain_chunks bytes (chunk ∷ [])) in
+    let some : length (b ∷ bs) == 0 ≡ false = grind (arith, nat_tests) in
+    let text : text_to bytes end.index (text_after bytes (begun begin) inside) ≡ b ∷ bs =
+    ap (text_to bytes end.index) (text-inline bytes (begun begin) inside (plain-roles QuietOrEnding bytes (chunk ∷ []) tt tt))
+    ∙ ap (λ (vs : ℕ). slice_range bytes (cond (vs == 0) begin.index (begin.index + 1)) end.index) whole
+    ∙ is in
+    ap (λ (x : Bool). read bytes (marked r markers) (read_text bytes (cond x None (Some chunk)))) some
+    ∙ read-told bytes (marked r markers) n.HeadingAtxText AsHeading begin end inside refl refl (plain-roles Between bytes (chunk ∷ []) tt tt)
+    ∙ ap (λ (x : List ℕ). titled r markers (trim_each (split_lines x))) text
+    ∙ ap (titled r markers) (text-lines (b ∷ bs) none bare)
+
+-- Headings.
+
+heading-depth : (bytes : List ℕ) → is_heading bytes ≡ true → 1 ≤ run_len 35 bytes
+heading-depth bytes h = let some : nat_le 1 (run_len 35 bytes) ≡ true = (and_parts (nat_le 1 (run_len 35 bytes)) (nat_le (0 + run_len 35 bytes) 6 && is_parted (drop (run_len 35 bytes) bytes)) h).0 in grind (arith, nat_tests)
+
+not-empty : (bytes : List ℕ) → 1 ≤ length bytes → (b : ℕ) × (bs : List ℕ) × (bytes ≡ b ∷ bs)
+not-empty [] h = absurd (omega (arith, h))
+not-empty (b ∷ bs) h = (b, bs, refl)
+
+-- a line in a text
+record IsAt (bytes line : List ℕ) (p : Point) (end : ℕ) : Type 0 where
+  text : slice_range bytes p.index end ≡ line
+  size : end ≡ p.index + length line
+  whole : p.vs ≡ 0
+  no_ending : NoEnding line
+  heading : is_heading (trim_start line) ≡ true
+  -- where the text of the heading stands in it
+  place : take (length (text_of line)) (drop (front_len line) line) ≡ text_of line
+  fits : front_len line + length (text_of line) ≤ length line
+
+abbrev markers_of : List ℕ → List ℕ → Point → List ℕ
+markers_of bytes line p = let q = behind_white line p in slice_range bytes (byte_at q) (q.index + run_len 35 (trim_start line))
+
+markers-are : (bytes line : List ℕ) (p : Point) (end : ℕ) → IsAt bytes line p end → length (markers_of bytes line p) ≡ run_len 35 (trim_start line)
+markers-are bytes line p end is =
+    let indent = prefix_len is_white line in
+    let depth = run_len 35 (trim_start line) in
+    let q = behind_white line p in
+    let fits = is.fits in
+    let place : q.index ≡ p.index + indent = past-index (take indent line) p ∙ ap (λ (k : ℕ). p.index + k) (length-prefix_len is_white line) in
+    ap (λ (vs : ℕ). length (slice_range bytes (cond (vs == 0) q.index (q.index + 1)) (q.index + depth))) (past-whole (take indent line) p is.whole)
+    ∙ ap (λ (k : ℕ). length (slice_range bytes k (k + depth))) place
+    ∙ ap length (slice-inside bytes line p.index end indent depth is.text is.size (omega (arith, fits)))
+    ∙ length-prefix_len (λ (c : ℕ). c == 35) (trim_start line)
+
+-- the text of a heading, where it stands
+text-is : (bytes line : List ℕ) (p : Point) (end : ℕ) → IsAt bytes line p end →
+    slice_range bytes (past_text (take (front_len line) line) p).index (past_text (take (front_len line + length (text_of line)) line) p).index ≡ text_of line
+text-is bytes line p end is =
+    let first = front_len line in
+    let size = length (text_of line) in
+    let fits = is.fits in
+    let from : (past_text (take first line) p).index ≡ p.index + first = past-index (take first line) p ∙ ap (λ (k : ℕ). p.index + k) (length-take-le first line (omega (arith, fits))) in
+    let to : (past_text (take (first + size) line) p).index ≡ p.index + (first + size) = past-index (take (first + size) line) p ∙ ap (λ (k : ℕ). p.index + k) (length-take-le (first + size) line fits) in
+    let sum : p.index + (first + size) ≡ p.index + first + size = omega arith in
+    ap (λ (k : ℕ). slice_range bytes k (past_text (take (first + size) line) p).index) from
+    ∙ ap (slice_range bytes (p.index + first)) (to ∙ sum)
+    ∙ slice-inside bytes line p.index end first size is.text is.size fits
+    ∙ is.place
+
+text-no_ending : (bytes line : List ℕ) (p : Point) (end : ℕ) → IsAt bytes line p end → NoEnding (text_of line)
+text-no_ending bytes line p end is = subst NoEnding is.place (no_ending-take (length (text_of line)) (drop (front_len line) line) (no_ending-drop (front_len line) line is.no_ending))
+
+-- what stands in a heading is read as its markers and its text
+read-inside : (bytes line : List ℕ) (p : Point) (end : ℕ) (r : Reading) → IsAt bytes line p end → r.text ≡ None →
+    read bytes (record r { leaf = Some (fresh OfHeadingAtx) }) (read_title bytes (title_of line p)) ≡ record r { leaf = Some (record (fresh OfHeadingAtx) { markers = markers_of bytes line p; text = heading_lines (text_of line) }) }
+read-inside bytes line p end r is t =
+    let opened : Reading = record r { leaf = Some (fresh OfHeadingAtx) } in
+    let markers : List ℕ = markers_of bytes line p in
+    let lines : List (List ℕ) = heading_lines (text_of line) in
+    let leaf : OpenLeaf = record (fresh OfHeadingAtx) { markers = markers; text = lines } in
+    let first = front_len line in
+    let size = length (text_of line) in
+    let from = past_text (take first line) p in
+    let to = past_text (take (first + size) line) p in
+    let title : Title = title_of line p in
+    let depth = heading-depth (trim_start line) is.heading in
+    let some = not-empty markers (omega (arith, depth, markers-are bytes line p end is)) in
+    read-from bytes opened (titled r markers lines) (title.front ++ read_text bytes title.text) title.back
+    (read-from bytes opened (marked r markers) title.front (read_text bytes title.text) (read-front bytes opened Apart line p tt is.heading refl)
+    ∙ read-part bytes r markers from to (text_of line) (past-whole (take first line) p is.whole) (text-is bytes line p end is) (text-no_ending bytes line p end is) (bare-text (drop (prefix_len is_white line + run_len 35 (trim_start line)) line)))
+    ∙ read-runs bytes (titled r markers lines) leaf some.0 some.1 Apart (drop (first + size) line) to refl some.2 refl
+    ∙ ap (λ (x : Option Text). record r { text = x; leaf = Some leaf }) (sym t)
+
+read-at : (bytes line : List ℕ) (p q : Point) (end : ℕ) (r : Reading) → IsAt bytes line p end → r.text ≡ None → r.leaf ≡ None → read bytes r (around n.HeadingAtx p q (read_title bytes (title_of line p))) ≡ add_block (heading_block line) r
+read-at bytes line p q end r is t l =
+    let indent = prefix_len is_white line in
+    let depth = run_len 35 (trim_start line) in
+    let leaf : OpenLeaf = record (fresh OfHeadingAtx) { markers = markers_of bytes line p; text = heading_lines (text_of line) } in
+    read-leaf bytes r n.HeadingAtx OfHeadingAtx p q (read_title bytes (title_of line p)) leaf refl l (read-inside bytes line p end r is t)
+    ∙ ap (λ (k : ℕ). add_block (Heading k (heading_lines (text_of line))) r) (markers-are bytes line p end is)
+    ∙ ap (λ (x : List ℕ). add_block (Heading depth (heading_lines (heading_text x))) r) (sym (drop-drop depth indent line))
+
+-- The events of a line that is a heading are read as its heading.
+pub read-heading : (options : ParseOptions) (bytes line : List ℕ) (row : Row) (r : Reading) → IsRow options bytes line row → is_heading (trim_start line) ≡ true → r.text ≡ None → r.leaf ≡ None →
+    read bytes r (around n.HeadingAtx row.first row.end (read_title bytes (row_title bytes row))) ≡ add_block (heading_block line) r
+read-heading options bytes line row r is h t l =
+    ap (λ (x : List ℕ). read bytes r (around n.HeadingAtx row.first row.end (read_title bytes (title_of x row.first)))) is.text
+    ∙ read-at bytes line row.first row.end row.end.index r (record { text = is.text; size = is.size; whole = is.first_whole; no_ending = is.no_ending; heading = h; place = text-place line h; fits = text-fits line h }) t l
