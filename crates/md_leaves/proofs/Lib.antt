@@ -8,3 +8,4 @@ pub mod HeadingSteps
 pub mod HeadingWhole
 pub mod BomSteps
 pub mod HeadingWalkLemmas
+pub mod TitleRuns
