@@ -9,3 +9,5 @@ pub mod HeadingWhole
 pub mod BomSteps
 pub mod HeadingWalkLemmas
 pub mod TitleRuns
+pub mod TitleTexts
+pub mod TitleLemmas

@@ -117,8 +117,9 @@ hashes-last (b ∷ bs) h =
     let here : (b == 35) ≡ true = pass-first is_hash b bs h in
     rw here (hashes-last bs (pass-rest is_hash b bs h))
 
-pub hashes-stop : (b : ℕ) (bs rest : List ℕ) → AllPass is_hash (b ∷ bs) → first_is is_hash rest ≡ false → first_is (goes_on (last_run Apart (b ∷ bs))) rest ≡ false
-hashes-stop b bs rest h e =
+pub hashes-stop : (bs rest : List ℕ) → AllPass is_hash bs → first_is is_hash rest ≡ false → first_is (goes_on (last_run Apart bs)) rest ≡ false
+hashes-stop [] rest h e = apart-stops rest
+hashes-stop (b ∷ bs) rest h e =
     let run : last_run Apart (b ∷ bs) ≡ Hashes = rw (begun-hash b (pass-first is_hash b bs h)) (hashes-last bs (pass-rest is_hash b bs h)) in
     rw run e
 
