@@ -1,10 +1,11 @@
 -- The walk over a heading's line gives its parts, with its text as one part.
-use Rattle.std.proofs.Common.{◌≡◌, ℕ, suc, ◌+◌, ◌≤◌, Bool, true, false, ◌&&◌, List, [], ◌∷◌, ◌++◌, length, take, drop, Option, Some, None, refl, sym, ◌∙◌, ap, ap₂, arith, subst, append_assoc, append-nil, length-append}
+use Rattle.std.proofs.Common.{◌≡◌, ℕ, suc, ◌+◌, ◌≤◌, Bool, true, false, ◌&&◌, ◌||◌, List, [], ◌∷◌, ◌++◌, length, get_or, take, drop, Option, Some, None, refl, sym, ◌∙◌, ap, ap₂, arith, subst, append_assoc, append-nil, length-append}
 use Rattle.std.specs.Prelude.{◌==◌, nat_le, not}
 use Rattle.std.specs.List.{AllPass}
 use Rattle.std.proofs.lemmas.Bool.{and_parts, false≢true}
 use Rattle.std.proofs.lemmas.Bool.Decides.{nat_tests}
 use Rattle.std.proofs.lemmas.List.{drop_at, take_at}
+use Rattle.std.proofs.lemmas.List.Elements.{All-append, All-nil}
 use Rattle.md_engine.specs.declared.event.Event.{Event}
 use Rattle.md_engine.specs.declared.event.Name.TheVariants as n
 use Rattle.md_engine.specs.declared.event.Point.{Point}
@@ -237,14 +238,107 @@ all-runs line x p =
       ∙ ap (λ (es : List Event). line_runs Apart x.hashes p1 ++ es) (runs-cut Apart x.gap rest p2 (white-stops x.gap rest x.gap_is x.behind_gap))
     )
 
--- the parts of a heading, each by its bytes
-title-parts : (line : List ℕ) (x : Parted line) (p : Point) →
-    let front = x.indent ++ (x.hashes ++ x.gap) in
-    let begin = past_text front p in
-    let end = past_text (text_of line) begin in
-    unread_title (title_of line p) ≡ (line_runs Apart front p ++ linked_text (chunk_unless_empty (length (text_of line)) begin end)) ++ line_runs Apart x.back end
-title-parts line x p = ?
+-- the events of a heading's parts: its front, all up to the end of its text, and what is left
+abbrev Titled : List ℕ → List ℕ → List ℕ → ℕ → Point → List Event
+Titled front until left size p = (line_runs Apart front p ++ linked_text (chunk_unless_empty size (past_text front p) (past_text until p))) ++ line_runs Apart left (past_text until p)
 
+titled-runs : (indent hashes gap text left : List ℕ) (size : ℕ) (p : Point) (front : List Event) → line_runs Apart (indent ++ (hashes ++ gap)) p ≡ front →
+    let p3 = past_text gap (past_text hashes (past_text indent p)) in
+    let end = past_text text p3 in
+    Titled (indent ++ (hashes ++ gap)) ((indent ++ (hashes ++ gap)) ++ text) left size p ≡ (front ++ linked_text (chunk_unless_empty size p3 end)) ++ line_runs Apart left end
+titled-runs indent hashes gap text left size p front is =
+    let p3 = past_text gap (past_text hashes (past_text indent p)) in
+    let begin : past_text (indent ++ (hashes ++ gap)) p ≡ p3 = past-append indent (hashes ++ gap) p ∙ past-append hashes gap (past_text indent p) in
+    let until : past_text ((indent ++ (hashes ++ gap)) ++ text) p ≡ past_text text p3 = past-append (indent ++ (hashes ++ gap)) text p ∙ ap (past_text text) begin in
+    ap (λ (e : Point). (line_runs Apart (indent ++ (hashes ++ gap)) p ++ linked_text (chunk_unless_empty size (past_text (indent ++ (hashes ++ gap)) p) e)) ++ line_runs Apart left e) until
+    ∙ ap₂ (λ (es : List Event) (b : Point). (es ++ linked_text (chunk_unless_empty size b (past_text text p3))) ++ line_runs Apart left (past_text text p3)) is begin
+
+title-parts : (line : List ℕ) (x : Parted line) (p : Point) → unread_title (title_of line p) ≡ Titled (x.indent ++ (x.hashes ++ x.gap)) ((x.indent ++ (x.hashes ++ x.gap)) ++ text_of line) x.back (length (text_of line)) p
+title-parts line x p =
+    let size = length (text_of line) in
+    let end = front_len line + size in
+    let front = x.indent ++ (x.hashes ++ x.gap) in
+    ap (λ (t : List ℕ). Titled t (take end line) (drop end line) size p) (parts-take line x)
+    ∙ ap₂ (λ (t u : List ℕ). Titled front t u size p) (parts-until line x) (parts-drop line x)
+
+apart-all : (a b c d e : List Event) → (a ++ (b ++ (c ++ d))) ++ e ≡ a ++ (b ++ (c ++ (d ++ e)))
+apart-all a b c d e = simp append_assoc
+
+joined-all : (a b c d e f : List Event) → a ++ (b ++ (c ++ (d ++ (e ++ f)))) ≡ (((a ++ (b ++ c)) ++ d) ++ e) ++ f
+joined-all a b c d e f = simp append_assoc
+
+-- in a heading the walk sets the text, and goes on behind it
 pub title-resolved : (line : List ℕ) (p q : Point) (es : List Event) → is_heading (trim_start line) ≡ true →
     resolved Before (line_runs Apart line p ++ exit n.HeadingAtx q ∷ es) ≡ unread_title (title_of line p) ++ exit n.HeadingAtx q ∷ resolved Outside es
-title-resolved line p q es h = ?
+title-resolved line p q es heads =
+    ap (λ (t : List Event). resolved Before (t ++ ended q es)) (all-runs line x p)
+    ∙ ap (resolved Before) (apart-all i h g t (ended q es))
+    ∙ before-white x.indent p (h ++ (g ++ (t ++ ended q es))) x.indent_is
+    ∙ ap (λ (s : List Event). i ++ s) (
+      before-opening x.hashes p1 (g ++ (t ++ ended q es)) (hashes-some line x.hashes x.depth heads) x.hashes_are
+      ∙ ap (λ (s : List Event). h ++ s) (opened-white x.gap p2 (t ++ ended q es) x.gap_is ∙ ap (λ (s : List Event). g ++ s) (given (text_of line) x.back p3 q es x.behind_gap x.shape))
+    )
+    ∙ joined-all i h g (linked_text (chunk_unless_empty (length (text_of line)) p3 end)) (line_runs Apart x.back end) (ended q (resolved Outside es))
+    ∙ ap (λ (s : List Event). s ++ ended q (resolved Outside es)) (sym (title-parts line x p ∙ titled-runs x.indent x.hashes x.gap (text_of line) x.back (length (text_of line)) p (i ++ (h ++ g)) (front-runs line x p)))
+  where
+    x : Parted line
+    x = parted line
+
+    p1 : Point
+    p1 = past_text x.indent p
+
+    p2 : Point
+    p2 = past_text x.hashes p1
+
+    p3 : Point
+    p3 = past_text x.gap p2
+
+    end : Point
+    end = past_text (text_of line) p3
+
+    i : List Event
+    i = line_runs Apart x.indent p
+
+    h : List Event
+    h = line_runs Apart x.hashes p1
+
+    g : List Event
+    g = line_runs Apart x.gap p2
+
+    t : List Event
+    t = line_runs Apart (text_of line ++ x.back) p3
+
+-- Around its text a heading has whitespace and `#` alone.
+
+abbrev pub is_mark : ℕ → Bool
+is_mark b = is_white b || (b == 35)
+
+marks-white : (bytes : List ℕ) → AllPass is_white bytes → AllPass is_mark bytes
+marks-white bytes h k d lt = ap (λ (x : Bool). x || (get_or bytes k d == 35)) (h k d lt)
+
+marks-hashes : (bytes : List ℕ) → AllPass is_hash bytes → AllPass is_mark bytes
+marks-hashes bytes h k d lt = go (is_white (get_or bytes k d)) (h k d lt)
+  where
+    go : (x : Bool) → (get_or bytes k d == 35) ≡ true → (x || (get_or bytes k d == 35)) ≡ true
+    go true e = refl
+    go false e = e
+
+marks-append : (xs ys : List ℕ) → AllPass is_mark xs → AllPass is_mark ys → AllPass is_mark (xs ++ ys)
+marks-append xs ys h k = All-append (λ (b : ℕ). is_mark b ≡ true) xs ys h k
+
+pub front-marks : (line : List ℕ) → AllPass is_mark (take (front_len line) line)
+front-marks line =
+    let x = parted line in
+    subst (AllPass is_mark) (sym (parts-take line x)) (marks-append x.indent (x.hashes ++ x.gap) (marks-white x.indent x.indent_is) (marks-append x.hashes x.gap (marks-hashes x.hashes x.hashes_are) (marks-white x.gap x.gap_is)))
+
+back-marks : (text back : List ℕ) → Shape text back → AllPass is_mark back
+back-marks text back (Empty none nil) = subst (AllPass is_mark) (sym nil) (All-nil (λ (b : ℕ). is_mark b ≡ true))
+back-marks text back (Closed b hashes white none is h w) = subst (AllPass is_mark) (sym is) (marks-append (b ∷ hashes) white (marks-hashes (b ∷ hashes) h) (marks-white white w))
+back-marks text back (Plain run w) = marks-white back w
+back-marks text back (Behind c gap b hashes white run is g h w) =
+    subst (AllPass is_mark) (sym is) (marks-append (c ∷ gap) ((b ∷ hashes) ++ white) (marks-white (c ∷ gap) g) (marks-append (b ∷ hashes) white (marks-hashes (b ∷ hashes) h) (marks-white white w)))
+
+pub behind-marks : (line : List ℕ) → AllPass is_mark (drop (front_len line + length (text_of line)) line)
+behind-marks line =
+    let x = parted line in
+    subst (AllPass is_mark) (sym (parts-drop line x)) (back-marks (text_of line) x.back x.shape)
