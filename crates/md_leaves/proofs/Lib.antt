@@ -8,3 +8,6 @@ pub mod HeadingSteps
 pub mod HeadingWhole
 pub mod BomSteps
 pub mod HeadingWalkLemmas
+pub mod TitleRuns
+pub mod TitleTexts
+pub mod TitleLemmas
