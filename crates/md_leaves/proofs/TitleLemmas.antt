@@ -1,5 +1,5 @@
 -- The walk over a heading's line gives its parts, with its text as one part.
-use Rattle.std.proofs.Common.{◌≡◌, ℕ, suc, ◌+◌, ◌≤◌, Bool, true, false, ◌&&◌, ◌||◌, List, [], ◌∷◌, ◌++◌, length, get_or, take, drop, Option, Some, None, refl, sym, ◌∙◌, ap, ap₂, arith, subst, append_assoc, append-nil, length-append}
+use Rattle.std.proofs.Common.{◌≡◌, ℕ, suc, ◌+◌, ◌≤◌, Bool, true, false, ◌||◌, List, [], ◌∷◌, ◌++◌, length, get_or, take, drop, Option, Some, None, refl, sym, ◌∙◌, ap, ap₂, arith, subst, append_assoc, length-append}
 use Rattle.std.specs.Prelude.{◌==◌, nat_le, not}
 use Rattle.std.specs.List.{AllPass}
 use Rattle.std.proofs.lemmas.Bool.{and_parts, false≢true}
@@ -14,7 +14,7 @@ use Rattle.md_leaves.specs.HeadingText.{Before, Opened, Outside, Within, linked_
 use Rattle.md_leaves.specs.HeadingTitle.{chunk_unless_empty, front_len, line_runs, text_of, title_of, unread_title}
 use Rattle.md_leaves.proofs.BreakLemmas.{eq-of}
 use Rattle.md_leaves.proofs.HeadingLemmas.{white-no_hash}
-use Rattle.md_leaves.proofs.TitleRuns.{Comes, before-hashes, before-white, first_is, hash-runs, hashes-stop, is_hash, last_run, opened-white, pass-first, past-append, runs-cut, text-walk, white-runs, white-stops, within-hashes, within-white}
+use Rattle.md_leaves.proofs.TitleRuns.{Comes, before-hashes, before-white, first_is, hash-runs, hashes-stop, is_hash, last_run, opened-white, pass-first, past-append, runs-cut, text-walk, white-stops, within-hashes, within-white}
 use Rattle.md_leaves.proofs.TitleTexts.{Behind, Closed, Empty, Parted, Plain, Shape, first-front, is_solid, parted}
 use Rattle.md_seam.specs.declared.inline.Chunk.{Chunk}
 use Rattle.md_seam.specs.Nested.{exit, pair}

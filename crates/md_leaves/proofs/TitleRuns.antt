@@ -7,7 +7,7 @@ use Rattle.md_engine.specs.declared.event.Event.{Event}
 use Rattle.md_engine.specs.declared.event.Name.TheVariants as n
 use Rattle.md_engine.specs.declared.event.Point.{Point}
 use Rattle.md_leaves.specs.HeadingRule.{Apart, Hashes, Run, Text, White, begun, closes, goes_on, opens}
-use Rattle.md_leaves.specs.HeadingText.{Before, Opened, Outside, Within, linked_text, resolved, text_between}
+use Rattle.md_leaves.specs.HeadingText.{Before, Opened, Within, resolved}
 use Rattle.md_leaves.specs.HeadingTitle.{line_runs}
 use Rattle.md_leaves.proofs.BreakLemmas.{eq-of}
 use Rattle.md_seam.specs.Nested.{enter, exit, pair}

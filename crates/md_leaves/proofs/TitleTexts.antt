@@ -7,10 +7,10 @@ use Rattle.std.proofs.lemmas.List.{drop-drop, length-reverse, reverse-append, re
 use Rattle.std.proofs.lemmas.List.Elements.{All-cons, All-nil}
 use Rattle.std.proofs.lemmas.List.Folds.{length-prefix_len}
 use Rattle.md_engine.proofs.Sound.{All-reverse}
-use Rattle.md_leaves.specs.HeadingRule.{Apart, Hashes, Run, Text, White, begun, goes_on, is_heading}
+use Rattle.md_leaves.specs.HeadingRule.{Apart, Hashes, Run, Text, White, begun, goes_on}
 use Rattle.md_leaves.specs.HeadingTitle.{front_len, text_of}
-use Rattle.md_leaves.proofs.TitleRuns.{first_is, is_hash, last-append, last_run, pass-first, pass-rest, text-last}
-use Rattle.md_seam.specs.Leaves.{heading_text, without_closing}
+use Rattle.md_leaves.proofs.TitleRuns.{first_is, is_hash, last-append, last_run, pass-first, text-last}
+use Rattle.md_seam.specs.Leaves.{without_closing}
 use Rattle.md_seam.specs.Rest.{is_parted, is_white, run_len, trim_end, trim_start}
 
 -- A list in two: what passes a test in front, or at its end.
