@@ -1,6 +1,5 @@
 -- What a text is read as, where only headings and breaks are on: its events nest, and spell its tree.
-use Rattle.std.proofs.Common.{◌≡◌, ◌^◌, ◌-◌, ◌<◌, ◌≤◌, ◌⊎◌, inl, inr, arith, ℕ, Bool, true, suc, List, [], ◌++◌, length, drop, refl, ap, sym, ◌∙◌, subst}
-use Rattle.std.specs.Prelude.{◌/◌}
+use Rattle.std.proofs.Common.{◌≡◌, ◌^◌, ◌-◌, ◌<◌, ◌⊎◌, inl, inr, arith, ℕ, Bool, true, suc, List, [], ◌++◌, length, drop, refl, ap, sym, ◌∙◌, subst}
 use Rattle.std.specs.Str.{IsUtf8}
 use Rattle.md_engine.specs.declared.configuration.ParseOptions.{ParseOptions}
 use Rattle.md_engine.specs.declared.event.Content.{Content}
@@ -23,7 +22,7 @@ use Rattle.markdown_blocks.specs.FlowReads.{FlowReads, ReadsContent, ReadsNone, 
 use Rattle.markdown_blocks.specs.Outlined.{IsOutlined, are_shallow}
 use Rattle.markdown_blocks.specs.Parsed.{IsBuilt, IsSmall}
 use Rattle.markdown_blocks.specs.Resolved.{resolved_as}
-use Rattle.markdown_blocks.specs.Rows.{Row, groups, groups_events, rows_events}
+use Rattle.markdown_blocks.specs.Rows.{Row, groups, groups_events}
 use Rattle.markdown_blocks.specs.Sections.{sections}
 use Rattle.markdown_blocks.specs.Unread.{titled_groups, unread_groups}
 use Rattle.markdown_blocks.proofs.BetweenRows.{rows-between}
