@@ -34,8 +34,9 @@ use Rattle.markdown_blocks.proofs.ParagraphReads.{content-reads}
 use Rattle.markdown_blocks.proofs.PlainEvents.{groups-outlined}
 use Rattle.markdown_blocks.proofs.RowFacts.{AreRows}
 use Rattle.markdown_blocks.proofs.RowLemmas.{fresh-rows}
+use Rattle.markdown_blocks.proofs.SectionsLemmas.{sections-shallow}
 use Rattle.markdown_blocks.proofs.SpelledRows.{spelled-rows}
-use Rattle.markdown_blocks.proofs.TreeSections.{sections-shallow, tree-sections}
+use Rattle.markdown_blocks.proofs.TreeSections.{tree-sections}
 
 -- the lines of a text, behind its mark
 abbrev lines_of : List ℕ → List (List ℕ)
