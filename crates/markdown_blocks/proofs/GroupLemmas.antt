@@ -1,8 +1,10 @@
 -- The events of the lines of a text, joined and read, are those of its blocks.
-use Rattle.std.proofs.Common.{◌≡◌, ℕ, ◌<◌, Bool, true, ◌&&◌, List, [], ◌∷◌, ◌++◌, length, slice_range, refl, ap, sym, ◌∙◌, subst, append_assoc, append-nil, arith}
+use Rattle.std.proofs.Common.{◌≡◌, ◌≢◌, ℕ, ◌+◌, ◌-◌, ◌<◌, ◌≤◌, Bool, true, false, cond, ◌&&◌, List, [], ◌∷◌, ◌++◌, length, take, drop, slice_range, refl, ap, sym, ◌∙◌, subst, append_assoc, append-nil, drop-drop, arith}
 use Rattle.std.specs.Prelude.{◌==◌, IsTrue, Option, Some, None}
 use Rattle.std.specs.List.{list_all}
 use Rattle.std.proofs.lemmas.Bool.{and_from, eq-eqb}
+use Rattle.std.proofs.lemmas.Bool.Decides.{nat_tests}
+use Rattle.std.proofs.lemmas.List.{drop-append-le, length-take-le, take-append-drop}
 use Rattle.md_engine.specs.declared.configuration.ParseOptions.{ParseOptions}
 use Rattle.md_engine.specs.declared.event.Content.{Content}
 use Rattle.md_engine.specs.declared.event.Content.TheVariants as content
@@ -14,20 +16,32 @@ use Rattle.md_engine.specs.declared.event.Point.{Point}
 use Rattle.md_content.specs.Chunks.{content_link}
 use Rattle.md_content.specs.Joined.{joined}
 use Rattle.md_content.specs.Paragraph.{text_link}
+use Rattle.md_leaves.specs.Heading.{heading_link}
+use Rattle.md_leaves.specs.HeadingRule as heading
+use Rattle.md_leaves.specs.HeadingText.{Before, Outside, begins, headings_resolved, is_enter, is_heading, linked_text, resolved}
+use Rattle.md_leaves.specs.HeadingTitle.{Title, front_len, line_runs, text_of, title_of, unread_title}
 use Rattle.md_seam.specs.declared.inline.Chunk.{Chunk}
 use Rattle.md_seam.specs.declared.inline.PartKind.TheVariants.{Text}
 use Rattle.md_seam.specs.Inline.{are_lines, is_none, is_one_line, plain_events}
-use Rattle.md_seam.specs.Nested.{around, enter, exit, pair}
-use Rattle.md_seam.specs.Places.{same_place}
+use Rattle.md_seam.specs.Leaves.{is_rule}
+use Rattle.md_seam.specs.Nested.{around, exit, pair}
+use Rattle.md_seam.specs.Places.{past_text, same_place}
+use Rattle.md_seam.specs.Rest.{is_blank, trim_start}
+use Rattle.md_seam.specs.Spelled.{role}
 use Rattle.md_seam.specs.Substituted.{Readings, Substituted, chunks_behind}
 use Rattle.md_seam.specs.Texts.{split_lines}
+use Rattle.md_seam.proofs.InlineLemmas.{past-index}
+use Rattle.md_seam.proofs.ReachedLemmas.{and_false}
+use Rattle.md_seam.proofs.SpelledLemmas.{Quiet, Roles}
 use Rattle.md_seam.proofs.TextsLemmas.{Ending, EndsBefore, LineFeed, NoEnding, Return, Both, ending_bytes, split-line, split-next}
-use Rattle.markdown_blocks.specs.FlowReads.{NoText}
-use Rattle.markdown_blocks.specs.Rows.{BlankRow, BreakRow, Group, Lines, Row, RowKind, Single, TextRow, behind_row, chunks_of, ending_events, groups, groups_events, last_row, line_kind, onto_groups, row_events, rows_events}
-use Rattle.markdown_blocks.specs.Unread.{joined_groups, linked, unread_groups, unread_paragraph}
-use Rattle.markdown_blocks.proofs.JoinedLemmas.{EachEnds, EachNoContent, NoContent, behind-is, ending-is, ending-no_content, events-no_content, joined-rows, no_content-unlinked}
+use Rattle.markdown_blocks.specs.FlowReads.{NoHeading, NoText}
+use Rattle.markdown_blocks.specs.Rows.{BlankRow, BreakRow, Group, HeadingRow, Lines, Row, RowKind, Single, TextRow, behind_row, chunks_of, ending_events, group_events, groups, groups_events, last_row, line_kind, onto_groups, paragraph_events, read_text, read_title, row_events, row_events_by, row_title, rows_events, single_events_by}
+use Rattle.markdown_blocks.specs.Unread.{joined_groups, linked, titled_group, titled_groups, titled_row_by, unread_group, unread_groups, unread_paragraph}
+use Rattle.markdown_blocks.proofs.FeedLines.{past_text-whole, slice-front}
+use Rattle.markdown_blocks.proofs.JoinedLemmas.{EachEnds, EachNoContent, HasNoContent, behind-is, ending-is, ending-no_content, events-no_content, joined-rows, no_content-unwanted}
 use Rattle.markdown_blocks.proofs.RowFacts.{AreRows, IsEnding, IsRow, first-is, line-text}
-use Rattle.markdown_blocks.proofs.SubstitutedLemmas.{Rest, Unlinked, passes, places, unlinked-append}
+use Rattle.markdown_blocks.proofs.SubstitutedLemmas.{Becomes, Rest, Unwanted, becomes-append, becomes-around, becomes-same, no_links-unwanted, part-becomes, passes, places}
+use Rattle.markdown_blocks.proofs.TitleFacts.{back-unlinked, front-unlinked, heading-resolved, text-fits, text-place}
 
 -- The groups of a text.
 
@@ -43,11 +57,18 @@ abbrev pub EndsBeforeGroups : Row → List Group → Type 0
 EndsBeforeGroups row [] = Unit {0}
 EndsBeforeGroups row (group ∷ gs) = (q : Point) × (row.after ≡ Some q)
 
--- groups whose paragraphs are such
-abbrev pub AreGroups : (Row → List Row → Type 0) → List Group → Type 0
-AreGroups P [] = Unit {0}
-AreGroups P (Single row ∷ gs) = Unlinked (row_events row) × AreGroups P gs
-AreGroups P (Lines row rows ∷ gs) = P row rows × EndsBeforeGroups (last_row row rows) gs × AreGroups P gs
+-- a line that is no text
+pub record IsSingle (options : ParseOptions) (bytes : List ℕ) (row : Row) : Type 0 where
+  pub line : List ℕ
+  pub is : IsRow options bytes line row
+  pub other : row.kind ≢ TextRow
+  pub quiet : HasNoContent row
+
+-- groups that are such
+abbrev pub AreGroups : ParseOptions → List ℕ → List Group → Type 0
+AreGroups options bytes [] = Unit {0}
+AreGroups options bytes (Single row ∷ gs) = IsSingle options bytes row × AreGroups options bytes gs
+AreGroups options bytes (Lines row rows ∷ gs) = IsParagraph options bytes row rows × EndsBeforeGroups (last_row row rows) gs × AreGroups options bytes gs
 
 -- the first line of groups begins here
 abbrev FirstAt : Point → List Group → Type 0
@@ -57,27 +78,30 @@ FirstAt p (Lines row rows ∷ gs) = row.first ≡ p
 
 onto-first : (p : Point) (row : Row) (kind : RowKind) (gs : List Group) → row.first ≡ p → FirstAt p (onto_groups row kind gs)
 onto-first p row BlankRow gs h = h
+onto-first p row HeadingRow gs h = h
 onto-first p row BreakRow gs h = h
 onto-first p row TextRow [] h = h
 onto-first p row TextRow (Single first ∷ gs) h = h
 onto-first p row TextRow (Lines first rows ∷ gs) h = h
 
 -- a line goes before groups
-onto-are : (options : ParseOptions) (bytes line : List ℕ) (row : Row) (q : Point) (gs : List Group) → IsRow options bytes line row → row.after ≡ Some q → IsEnding bytes row.end q → NoContent row.inside →
-    FirstAt q gs → AreGroups (IsParagraph options bytes) gs → (kind : RowKind) → row.kind ≡ kind → AreGroups (IsParagraph options bytes) (onto_groups row kind gs)
-onto-are options bytes line row q gs is after ending h first are BlankRow e = (no_content-unlinked (row_events row) (events-no_content row BlankRow e (λ k. cc) h), are)
-onto-are options bytes line row q gs is after ending h first are BreakRow e = (no_content-unlinked (row_events row) (events-no_content row BreakRow e (λ k. cc) h), are)
+onto-are : (options : ParseOptions) (bytes line : List ℕ) (row : Row) (q : Point) (gs : List Group) → IsRow options bytes line row → row.after ≡ Some q → IsEnding bytes row.end q → HasNoContent row →
+    FirstAt q gs → AreGroups options bytes gs → (kind : RowKind) → row.kind ≡ kind → AreGroups options bytes (onto_groups row kind gs)
+onto-are options bytes line row q gs is after ending h first are BlankRow e = (record { line = line; is = is; other = λ k. cc; quiet = h }, are)
+onto-are options bytes line row q gs is after ending h first are HeadingRow e = (record { line = line; is = is; other = λ k. cc; quiet = h }, are)
+onto-are options bytes line row q gs is after ending h first are BreakRow e = (record { line = line; is = is; other = λ k. cc; quiet = h }, are)
 onto-are options bytes line row q [] is after ending h first are TextRow e = ((line, is, e), tt, tt)
 onto-are options bytes line row q (Single below ∷ gs) is after ending h first are TextRow e = ((line, is, e), (q, after), are)
 onto-are options bytes line row q (Lines below rows ∷ gs) is after ending h first are TextRow e = ((line, is, e, q, after, ending, first, are.0), are.1, are.2)
 
-last-are : (options : ParseOptions) (bytes line : List ℕ) (row : Row) → IsRow options bytes line row → NoContent row.inside → (kind : RowKind) → row.kind ≡ kind → AreGroups (IsParagraph options bytes) (onto_groups row kind [])
-last-are options bytes line row is h BlankRow e = (no_content-unlinked (row_events row) (events-no_content row BlankRow e (λ k. cc) h), tt)
-last-are options bytes line row is h BreakRow e = (no_content-unlinked (row_events row) (events-no_content row BreakRow e (λ k. cc) h), tt)
+last-are : (options : ParseOptions) (bytes line : List ℕ) (row : Row) → IsRow options bytes line row → HasNoContent row → (kind : RowKind) → row.kind ≡ kind → AreGroups options bytes (onto_groups row kind [])
+last-are options bytes line row is h BlankRow e = (record { line = line; is = is; other = λ k. cc; quiet = h }, tt)
+last-are options bytes line row is h HeadingRow e = (record { line = line; is = is; other = λ k. cc; quiet = h }, tt)
+last-are options bytes line row is h BreakRow e = (record { line = line; is = is; other = λ k. cc; quiet = h }, tt)
 last-are options bytes line row is h TextRow e = ((line, is, e), tt, tt)
 
--- The groups of the lines of a text are paragraphs and lines without links.
-pub groups-are : (options : ParseOptions) (bytes : List ℕ) (p : Point) (lines : List (List ℕ)) (rows : List Row) → AreRows options bytes p lines rows → EachNoContent rows → AreGroups (IsParagraph options bytes) (groups rows)
+-- The groups of the lines of a text are paragraphs, and lines that are no text.
+pub groups-are : (options : ParseOptions) (bytes : List ℕ) (p : Point) (lines : List (List ℕ)) (rows : List Row) → AreRows options bytes p lines rows → EachNoContent rows → AreGroups options bytes (groups rows)
 groups-are options bytes p [] rows h k = absurd h
 groups-are options bytes p (line ∷ []) [] h k = absurd h
 groups-are options bytes p (line ∷ next ∷ lines) [] h k = absurd h
@@ -95,6 +119,17 @@ rows-end options bytes p lines (row ∷ []) h = tt
 rows-end options bytes p [] (row ∷ below ∷ rows) h = absurd h
 rows-end options bytes p (line ∷ []) (row ∷ below ∷ rows) h = absurd h
 rows-end options bytes p (line ∷ next ∷ lines) (row ∷ below ∷ rows) h = (h.2, h.3, rows-end options bytes h.2 (next ∷ lines) (below ∷ rows) h.5)
+
+-- Where the lines stand.
+
+-- a piece of a text, and what stands behind it
+pub piece : (bytes : List ℕ) (i j : ℕ) → i ≤ j → drop i bytes ≡ slice_range bytes i j ++ drop j bytes
+piece bytes i j le =
+    sym (take-append-drop (j - i) (drop i bytes))
+    ∙ ap (λ (l : List ℕ). slice_range bytes i j ++ l) (drop-drop (j - i) i bytes ∙ ap (λ (k : ℕ). drop k bytes) (omega arith))
+
+pub row-line : (options : ParseOptions) (bytes line : List ℕ) (row : Row) → IsRow options bytes line row → drop row.first.index bytes ≡ line ++ drop row.end.index bytes
+row-line options bytes line row is = piece bytes row.first.index row.end.index (omega (arith, is.size)) ∙ ap (λ (l : List ℕ). l ++ drop row.end.index bytes) is.text
 
 -- The chunks of a paragraph are lines.
 
@@ -152,11 +187,6 @@ behind-lines wants row [] h = go row.after
     go (Some q) = refl
 behind-lines wants row (group ∷ gs) h = ap (λ (l : List Event). chunks_behind wants (l ++ joined_groups (group ∷ gs))) (ending-is n.LineEnding row h.0 h.1)
 
--- nor behind the end of one
-behind-paragraph : (wants : Content → Bool) (p : Point) (es : List Event) → chunks_behind wants (exit n.Paragraph p ∷ es) ≡ []
-behind-paragraph wants p [] = refl
-behind-paragraph wants p (e ∷ es) = refl
-
 chunks-some : (row : Row) (rows : List Row) → (chunk : Chunk) × (chunks : List Chunk) × (chunks_of row rows ≡ chunk ∷ chunks)
 chunks-some row [] = (record { first = row.first; after = row.end }, [], refl)
 chunks-some row (next ∷ rows) = (record { first = row.first; after = behind_row row }, chunks_of next rows, refl)
@@ -170,73 +200,179 @@ places-lines wants reads left name link row rows ys out w h s =
     subst (λ (l : List Chunk). (answer : List Event) × (read : reads link.content l answer) × Rest wants reads answer ys out) (sym some.2)
     (places wants reads left name link some.0 some.1 ys out w h (subst (λ (l : List Chunk). Substituted wants reads left 0 (linked name link l ++ ys) out) some.2 s))
 
-ending-unlinked : (row : Row) → Unlinked (ending_events n.LineEnding row)
-ending-unlinked row = no_content-unlinked (ending_events n.LineEnding row) (ending-no_content n.LineEnding row refl)
+ending-unwanted : (wants : Content → Bool) (row : Row) → Unwanted wants (ending_events n.LineEnding row)
+ending-unwanted wants row = no_content-unwanted wants (ending_events n.LineEnding row) (ending-no_content wants n.LineEnding row refl)
 
--- Joined lines, read: paragraphs whose text is not read yet.
-pub content-read : (P : Row → List Row → Type 0) (wants : Content → Bool) (reads : Readings) → wants content.Content ≡ true →
-    ((row : Row) (rows : List Row) → P row rows → (answer : List Event) → reads content.Content (chunks_of row rows) answer → answer ≡ unread_paragraph row rows) →
-    (gs : List Group) → AreGroups P gs → (left out : List Event) → Substituted wants reads left 0 (joined_groups gs) out → out ≡ unread_groups gs
-content-read P wants reads w unique [] are left out s = s
-content-read P wants reads w unique (Single row ∷ gs) are left out s =
-    let one : (rest : List Event) × (is : out ≡ row_events row ++ rest) × Substituted wants reads left 0 (joined_groups gs) rest = passes wants reads left 0 (row_events row) (joined_groups gs) out are.0 s in
-    one.1 ∙ ap (λ (l : List Event). row_events row ++ l) (content-read P wants reads w unique gs are.1 left one.0 one.2)
-content-read P wants reads w unique (Lines row rows ∷ gs) are left out s =
+-- a line that is no text, of which a reader reads no text
+single-unwanted : (options : ParseOptions) (bytes : List ℕ) (wants : Content → Bool) (row : Row) → IsSingle options bytes row → (row.kind ≡ HeadingRow → wants content.Text ≡ false) → Unwanted wants (row_events row)
+single-unwanted options bytes wants row is w = no_content-unwanted wants (row_events row) (events-no_content wants row row.kind refl is.other (is.quiet wants w))
+
+-- a reader of content gives for each paragraph of a text its lines, whose text is not read yet
+abbrev pub ReadsContent : ParseOptions → List ℕ → Readings → Type 0
+ReadsContent options bytes reads =
+    (row : Row) (rows : List Row) → IsParagraph options bytes row rows → (answer : List Event) → reads content.Content (chunks_of row rows) answer → answer ≡ unread_paragraph row rows
+
+groups-content : (options : ParseOptions) (bytes : List ℕ) (wants : Content → Bool) (reads : Readings) → wants content.Content ≡ true → wants content.Text ≡ false → ReadsContent options bytes reads →
+    (gs : List Group) → AreGroups options bytes gs → (left out : List Event) → Substituted wants reads left 0 (joined_groups gs) out → out ≡ unread_groups gs
+groups-content options bytes wants reads w other unique [] are left out s = s
+groups-content options bytes wants reads w other unique (Single row ∷ gs) are left out s =
+    let one : (rest : List Event) × (is : out ≡ row_events row ++ rest) × Substituted wants reads left 0 (joined_groups gs) rest =
+    passes wants reads left 0 (row_events row) (joined_groups gs) out (single-unwanted options bytes wants row are.0 (λ k. other)) s in
+    one.1 ∙ ap (λ (l : List Event). row_events row ++ l) (groups-content options bytes wants reads w other unique gs are.1 left one.0 one.2)
+groups-content options bytes wants reads w other unique (Lines row rows ∷ gs) are left out s =
     let ending : List Event = ending_events n.LineEnding (last_row row rows) in
     let ys : List Event = ending ++ joined_groups gs in
     let one : (answer : List Event) × (read : reads content.Content (chunks_of row rows) answer) × Rest wants reads answer ys out =
     places-lines wants reads left n.Content content_link row rows ys out w (behind-lines wants (last_row row rows) gs are.1)
     (subst (λ (l : List Event). Substituted wants reads left 0 l out) (append_assoc (linked n.Content content_link (chunks_of row rows)) ending (joined_groups gs)) s) in
     let rest : Rest wants reads one.0 ys out = one.2 in
-    let two : (more : List Event) × (is : rest.0 ≡ ending ++ more) × Substituted wants reads rest.1 0 (joined_groups gs) more = passes wants reads rest.1 0 ending (joined_groups gs) rest.0 (ending-unlinked (last_row row rows)) rest.3 in
+    let two : (more : List Event) × (is : rest.0 ≡ ending ++ more) × Substituted wants reads rest.1 0 (joined_groups gs) more = passes wants reads rest.1 0 ending (joined_groups gs) rest.0 (ending-unwanted wants (last_row row rows)) rest.3 in
     rest.2
     ∙ ap (λ (l : List Event). l ++ rest.0) (unique row rows are.0 one.0 one.1)
-    ∙ ap (λ (l : List Event). unread_paragraph row rows ++ l) (two.1 ∙ ap (λ (l : List Event). ending ++ l) (content-read P wants reads w unique gs are.2 rest.1 two.0 two.2))
+    ∙ ap (λ (l : List Event). unread_paragraph row rows ++ l) (two.1 ∙ ap (λ (l : List Event). ending ++ l) (groups-content options bytes wants reads w other unique gs are.2 rest.1 two.0 two.2))
     ∙ sym (append_assoc (unread_paragraph row rows) ending (unread_groups gs))
 
--- what stands around what a paragraph holds
-around-append : (p q : Point) (inside ending es : List Event) → (around n.Paragraph p q inside ++ ending) ++ es ≡ enter n.Paragraph p ∷ inside ++ (exit n.Paragraph q ∷ ending ++ es)
-around-append p q inside ending es =
-    ap (λ (l : List Event). enter n.Paragraph p ∷ l)
-    (append_assoc (inside ++ exit n.Paragraph q ∷ []) ending es ∙ append_assoc inside (exit n.Paragraph q ∷ []) (ending ++ es))
+-- The events of the lines of a text, joined, and their content read: paragraphs whose text is not read yet.
+pub content-read : (options : ParseOptions) (bytes : List ℕ) (p : Point) (lines : List (List ℕ)) (rows : List Row) → AreRows options bytes p lines rows → EachNoContent rows →
+    (wants : Content → Bool) (reads : Readings) → wants content.Content ≡ true → wants content.Text ≡ false → ReadsContent options bytes reads →
+    (unread : List Event) → Substituted wants reads [] 0 (joined (rows_events rows)) unread → unread ≡ unread_groups (groups rows)
+content-read options bytes p lines rows are quiet wants reads w other unique unread s =
+    groups-content options bytes wants reads w other unique (groups rows) (groups-are options bytes p lines rows are quiet) [] unread
+    (subst (λ (l : List Event). Substituted wants reads [] 0 l unread) (joined-rows rows (rows-end options bytes p lines rows are) quiet) s)
 
-paragraph-joins : (p q : Point) (plain ending answer rest more begun out behind : List Event) → out ≡ enter n.Paragraph p ∷ begun → begun ≡ answer ++ rest → answer ≡ plain → rest ≡ exit n.Paragraph q ∷ ending ++ more → more ≡ behind →
-    out ≡ (around n.Paragraph p q plain ++ ending) ++ behind
-paragraph-joins p q plain ending answer rest more begun out behind begins is unique ends same =
-    begins
-    ∙ ap (λ (l : List Event). enter n.Paragraph p ∷ l)
-    (is ∙ ap (λ (l : List Event). l ++ rest) unique ∙ ap (λ (l : List Event). plain ++ l) (ends ∙ ap (λ (l : List Event). exit n.Paragraph q ∷ ending ++ l) same))
-    ∙ sym (around-append p q plain ending behind)
+-- Where no line is text there is no content.
+pub no-content : (rows : List Row) → NoText rows → rows_events rows ≡ unread_groups (groups rows)
+no-content [] h = refl
+no-content (row ∷ rows) h = go (no-content rows h.1) row.kind refl
+  where
+    go : rows_events rows ≡ unread_groups (groups rows) → (kind : RowKind) → row.kind ≡ kind → row_events row ++ rows_events rows ≡ unread_groups (onto_groups row kind (groups rows))
+    go same BlankRow e = ap (λ (l : List Event). row_events row ++ l) same
+    go same HeadingRow e = ap (λ (l : List Event). row_events row ++ l) same
+    go same BreakRow e = ap (λ (l : List Event). row_events row ++ l) same
+    go same TextRow e = absurd (h.0 e)
 
--- Paragraphs, read: the events of a text.
-pub text-read : (P : Row → List Row → Type 0) (bytes : List ℕ) (wants : Content → Bool) (reads : Readings) → wants content.Text ≡ true →
-    ((row : Row) (rows : List Row) → P row rows → (answer : List Event) → reads content.Text (chunks_of row rows) answer → answer ≡ plain_events bytes (record { kind = Text; chunks = chunks_of row rows })) →
-    (gs : List Group) → AreGroups P gs → (left out : List Event) → Substituted wants reads left 0 (unread_groups gs) out → out ≡ groups_events bytes gs
-text-read P bytes wants reads w unique [] are left out s = s
-text-read P bytes wants reads w unique (Single row ∷ gs) are left out s =
-    let one : (rest : List Event) × (is : out ≡ row_events row ++ rest) × Substituted wants reads left 0 (unread_groups gs) rest = passes wants reads left 0 (row_events row) (unread_groups gs) out are.0 s in
-    one.1 ∙ ap (λ (l : List Event). row_events row ++ l) (text-read P bytes wants reads w unique gs are.1 left one.0 one.2)
-text-read P bytes wants reads w unique (Lines row rows ∷ gs) are left out s =
+-- The text of headings.
+
+-- no heading begins among some events
+abbrev pub AreOutside : List Event → Type 0
+AreOutside [] = Unit {0}
+AreOutside (e ∷ es) = (begins is_heading e ≡ false) × AreOutside es
+
+outside-append : (xs ys : List Event) → AreOutside xs → AreOutside ys → AreOutside (xs ++ ys)
+outside-append [] ys h k = k
+outside-append (e ∷ xs) ys h k = (h.0, outside-append xs ys h.1 k)
+
+-- they stay as they are
+outside-passes : (xs ys : List Event) → AreOutside xs → headings_resolved (xs ++ ys) ≡ xs ++ headings_resolved ys
+outside-passes [] ys h = refl
+outside-passes (e ∷ xs) ys h = ap (λ (x : Bool). e ∷ resolved (cond x Before Outside) (xs ++ ys)) h.0 ∙ ap (λ (l : List Event). e ∷ l) (outside-passes xs ys h.1)
+
+quiet-name : (name : Name) → Quiet (role name) → is_heading name ≡ false
+quiet-name n.HeadingAtx h = absurd h
+quiet-name _ h = refl
+
+quiet-outside : (es : List Event) → Roles Quiet es → AreOutside es
+quiet-outside [] h = tt
+quiet-outside (e ∷ es) h = (and_false (is_enter e.kind) (is_heading e.name) (quiet-name e.name h.0), quiet-outside es h.1)
+
+linked-outside : (link : Link) (chunks : List Chunk) → AreOutside (linked n.Data link chunks)
+linked-outside link [] = tt
+linked-outside link (chunk ∷ chunks) = (refl, (refl, linked-outside link chunks))
+
+ending-outside : (name : Name) (row : Row) → is_heading name ≡ false → AreOutside (ending_events name row)
+ending-outside name row h = go row.after
+  where
+    go : (after : Option Point) → AreOutside (elim after [ None ↦ [] | Some q ↦ pair name row.end q ])
+    go None = tt
+    go (Some q) = (h, (refl, tt))
+
+around-outside : (name : Name) (p q : Point) (inside : List Event) → is_heading name ≡ false → AreOutside inside → AreOutside (around name p q inside)
+around-outside name p q inside other h = (other, outside-append inside (exit name q ∷ []) h (refl, tt))
+
+-- a line of a heading
+pub heading-line : (options : ParseOptions) (line : List ℕ) → line_kind options line ≡ HeadingRow → heading.is_heading (trim_start line) ≡ true
+heading-line options line h = go (is_blank line) options.constructs.heading_atx (heading.is_heading (trim_start line)) (options.constructs.thematic_break && is_rule (trim_start line)) h
+  where
+    go : (x y z t : Bool) → cond x BlankRow (cond (y && z) HeadingRow (cond t BreakRow TextRow)) ≡ HeadingRow → z ≡ true
+    go true y z t h = cc
+    go false true true t h = refl
+    go false true false true h = cc
+    go false true false false h = cc
+    go false false z true h = cc
+    go false false z false h = cc
+
+-- the text of a line is set if it is a heading
+single-set : (options : ParseOptions) (bytes : List ℕ) (row : Row) (es : List Event) → IsSingle options bytes row → (kind : RowKind) → row.kind ≡ kind →
+    headings_resolved (row_events_by kind row ++ es) ≡ titled_row_by bytes kind row ++ headings_resolved es
+single-set options bytes row es is BlankRow e =
+    outside-passes (row.inside ++ ending_events n.BlankLineEnding row) es
+    (outside-append row.inside (ending_events n.BlankLineEnding row) (quiet-outside row.inside (is.is.inside (λ k. cc)).quiet) (ending-outside n.BlankLineEnding row refl))
+single-set options bytes row es is HeadingRow e =
+    let ending : List Event = ending_events n.LineEnding row in
+    let titled : Title → List Event = λ title. around n.HeadingAtx row.first row.end (unread_title title) in
+    let title : Title = title_of is.line row.first in
+    ap (λ (l : List Event). headings_resolved ((around n.HeadingAtx row.first row.end l ++ ending) ++ es)) (is.is.heading e)
+    ∙ ap headings_resolved (append_assoc (around n.HeadingAtx row.first row.end (line_runs heading.Apart is.line row.first)) ending es)
+    ∙ heading-resolved is.line row.first row.end (ending ++ es) (heading-line options is.line (sym is.is.kind ∙ e))
+    ∙ ap (λ (l : List Event). titled title ++ l) (outside-passes ending es (ending-outside n.LineEnding row refl))
+    ∙ sym (append_assoc (titled title) ending (headings_resolved es))
+    ∙ ap (λ (line : List ℕ). (titled (title_of line row.first) ++ ending) ++ headings_resolved es) (sym is.is.text)
+single-set options bytes row es is BreakRow e =
+    outside-passes (around n.ThematicBreak row.first row.end row.inside ++ ending_events n.LineEnding row) es
+    (outside-append (around n.ThematicBreak row.first row.end row.inside) (ending_events n.LineEnding row)
+    (around-outside n.ThematicBreak row.first row.end row.inside refl (quiet-outside row.inside (is.is.inside (λ k. cc)).quiet)) (ending-outside n.LineEnding row refl))
+single-set options bytes row es is TextRow e = absurd (is.other e)
+
+groups-set : (options : ParseOptions) (bytes : List ℕ) (gs : List Group) → AreGroups options bytes gs → headings_resolved (unread_groups gs) ≡ titled_groups bytes gs
+groups-set options bytes [] are = refl
+groups-set options bytes (Single row ∷ gs) are =
+    single-set options bytes row (unread_groups gs) are.0 row.kind refl
+    ∙ ap (λ (l : List Event). titled_row_by bytes row.kind row ++ l) (groups-set options bytes gs are.1)
+groups-set options bytes (Lines row rows ∷ gs) are =
     let last : Row = last_row row rows in
-    let ending : List Event = ending_events n.LineEnding last in
-    let inside : List Event = linked n.Data text_link (chunks_of row rows) in
-    let plain : List Event = plain_events bytes (record { kind = Text; chunks = chunks_of row rows }) in
-    let ys : List Event = exit n.Paragraph last.end ∷ ending ++ unread_groups gs in
-    let begun : (rest : List Event) × (is : out ≡ enter n.Paragraph row.first ∷ rest) × Substituted wants reads left 0 (inside ++ ys) rest =
-    passes wants reads left 0 (enter n.Paragraph row.first ∷ []) (inside ++ ys) out (refl, tt) (subst (λ (l : List Event). Substituted wants reads left 0 l out) (around-append row.first last.end inside ending (unread_groups gs)) s) in
-    let one : (answer : List Event) × (read : reads content.Text (chunks_of row rows) answer) × Rest wants reads answer ys begun.0 =
-    places-lines wants reads left n.Data text_link row rows ys begun.0 w (behind-paragraph wants last.end (ending ++ unread_groups gs)) begun.2 in
-    let rest : Rest wants reads one.0 ys begun.0 = one.2 in
-    let two : (more : List Event) × (is : rest.0 ≡ exit n.Paragraph last.end ∷ ending ++ more) × Substituted wants reads rest.1 0 (unread_groups gs) more =
-    passes wants reads rest.1 0 (exit n.Paragraph last.end ∷ ending) (unread_groups gs) rest.0 (refl, ending-unlinked last) rest.3 in
-    paragraph-joins row.first last.end plain ending one.0 rest.0 two.0 begun.0 out (groups_events bytes gs) begun.1 rest.2 (unique row rows are.0 one.0 one.1) two.1 (text-read P bytes wants reads w unique gs are.2 rest.1 two.0 two.2)
+    outside-passes (unread_group (Lines row rows)) (unread_groups gs)
+    (outside-append (unread_paragraph row rows) (ending_events n.LineEnding last) (around-outside n.Paragraph row.first last.end (linked n.Data text_link (chunks_of row rows)) refl (linked-outside text_link (chunks_of row rows))) (ending-outside n.LineEnding last refl))
+    ∙ ap (λ (l : List Event). unread_group (Lines row rows) ++ l) (groups-set options bytes gs are.2)
 
--- What the readers give.
+-- The text of each heading is set.
+pub headings-set : (options : ParseOptions) (bytes : List ℕ) (p : Point) (lines : List (List ℕ)) (rows : List Row) → AreRows options bytes p lines rows → EachNoContent rows →
+    headings_resolved (unread_groups (groups rows)) ≡ titled_groups bytes (groups rows)
+headings-set options bytes p lines rows are quiet = groups-set options bytes (groups rows) (groups-are options bytes p lines rows are quiet)
 
--- a reader of content gives for each paragraph of a text its lines, whose text is not read yet
-abbrev pub ReadsContent : ParseOptions → List ℕ → Readings → Type 0
-ReadsContent options bytes reads =
-    (row : Row) (rows : List Row) → IsParagraph options bytes row rows → (answer : List Event) → reads content.Content (chunks_of row rows) answer → answer ≡ unread_paragraph row rows
+-- no group is a heading
+abbrev NoTitles : List Group → Type 0
+NoTitles [] = Unit {0}
+NoTitles (Single row ∷ gs) = (row.kind ≢ HeadingRow) × NoTitles gs
+NoTitles (Lines row rows ∷ gs) = NoTitles gs
+
+no_titles : (rows : List Row) → NoHeading rows → NoTitles (groups rows)
+no_titles [] h = tt
+no_titles (row ∷ rows) h = onto (groups rows) (no_titles rows h.1) row.kind refl
+  where
+    onto : (gs : List Group) → NoTitles gs → (kind : RowKind) → row.kind ≡ kind → NoTitles (onto_groups row kind gs)
+    onto gs k BlankRow e = (h.0, k)
+    onto gs k HeadingRow e = (h.0, k)
+    onto gs k BreakRow e = (h.0, k)
+    onto [] k TextRow e = tt
+    onto (Single first ∷ gs) k TextRow e = k
+    onto (Lines first rows ∷ gs) k TextRow e = k
+
+no_titles-same : (bytes : List ℕ) (gs : List Group) → NoTitles gs → unread_groups gs ≡ titled_groups bytes gs
+no_titles-same bytes [] h = refl
+no_titles-same bytes (Single row ∷ gs) h = go (no_titles-same bytes gs h.1) row.kind refl
+  where
+    go : unread_groups gs ≡ titled_groups bytes gs → (kind : RowKind) → row.kind ≡ kind → row_events_by kind row ++ unread_groups gs ≡ titled_row_by bytes kind row ++ titled_groups bytes gs
+    go same BlankRow e = ap (λ (l : List Event). row_events_by BlankRow row ++ l) same
+    go same HeadingRow e = absurd (h.0 e)
+    go same BreakRow e = ap (λ (l : List Event). row_events_by BreakRow row ++ l) same
+    go same TextRow e = ap (λ (l : List Event). row_events_by TextRow row ++ l) same
+no_titles-same bytes (Lines row rows ∷ gs) h = ap (λ (l : List Event). unread_group (Lines row rows) ++ l) (no_titles-same bytes gs h)
+
+-- Where no line is a heading there is no text to set.
+pub no-headings : (bytes : List ℕ) (rows : List Row) → NoHeading rows → unread_groups (groups rows) ≡ titled_groups bytes (groups rows)
+no-headings bytes rows h = no_titles-same bytes (groups rows) (no_titles rows h)
+
+-- The text of headings and paragraphs.
 
 -- a reader of text gives for chunks that are lines, none of which ends within a tab, what the plain layer does
 abbrev pub ReadsText : List ℕ → Readings → Type 0
@@ -244,40 +380,129 @@ ReadsText bytes reads =
     (chunks : List Chunk) (answer : List Event) → reads content.Text chunks answer → (end : Point) → IsTrue (are_lines bytes end chunks) → IsTrue (list_all (λ (chunk : Chunk). chunk.after.vs == 0) chunks) →
     answer ≡ plain_events bytes (record { kind = Text; chunks = chunks })
 
--- The events of the lines of a text, joined, and read two times, are those of its blocks.
-pub groups-read : (options : ParseOptions) (bytes : List ℕ) (p : Point) (lines : List (List ℕ)) (rows : List Row) → AreRows options bytes p lines rows → EachNoContent rows →
-    (wants_content wants_text : Content → Bool) (reads_content reads_text : Readings) → wants_content content.Content ≡ true → wants_text content.Text ≡ true → ReadsContent options bytes reads_content → ReadsText bytes reads_text →
-    (unread events : List Event) → Substituted wants_content reads_content [] 0 (joined (rows_events rows)) unread → Substituted wants_text reads_text [] 0 unread events → events ≡ groups_events bytes (groups rows)
-groups-read options bytes p lines rows are quiet wants_content wants_text reads_content reads_text wc wt rc rt unread events sc st =
-    let P : Row → List Row → Type 0 = IsParagraph options bytes in
-    let good : AreGroups P (groups rows) = groups-are options bytes p lines rows are quiet in
-    let is : unread ≡ unread_groups (groups rows) =
-    content-read P wants_content reads_content wc rc (groups rows) good [] unread
-    (subst (λ (l : List Event). Substituted wants_content reads_content [] 0 l unread) (joined-rows rows (rows-end options bytes p lines rows are) quiet) sc) in
-    text-read P bytes wants_text reads_text wt
-    (λ row rows h answer r. rt (chunks_of row rows) answer r (last_row row rows).end (paragraph-lines options bytes row rows h) (paragraph-whole options bytes row rows h)) (groups rows) good [] events
-    (subst (λ (l : List Event). Substituted wants_text reads_text [] 0 l events) is st)
+no_ending-front : (xs ys : List ℕ) → NoEnding (xs ++ ys) → NoEnding xs
+no_ending-front [] ys h = tt
+no_ending-front (b ∷ xs) ys h = (h.0, no_ending-front xs ys h.1)
 
--- No line is text.
+no_ending-back : (xs ys : List ℕ) → NoEnding (xs ++ ys) → NoEnding ys
+no_ending-back [] ys h = h
+no_ending-back (b ∷ xs) ys h = no_ending-back xs ys h.1
 
-singles-are : (bytes : List ℕ) (rows : List Row) → EachNoContent rows → NoText rows → Unlinked (rows_events rows) × (groups_events bytes (groups rows) ≡ rows_events rows)
-singles-are bytes [] h k = (tt, refl)
-singles-are bytes (row ∷ rows) h k = go (singles-are bytes rows h.1 k.1) row.kind refl
+-- where the text of a heading stands on its line, and in the text
+record IsTitle (bytes line : List ℕ) (p : Point) : Type 0 where
+  slice : slice_range bytes (past_text (take (front_len line) line) p).index (past_text (take (front_len line + length (text_of line)) line) p).index ≡ text_of line
+  no_ending : NoEnding (text_of line)
+
+title-is : (options : ParseOptions) (bytes line : List ℕ) (row : Row) → IsRow options bytes line row → heading.is_heading (trim_start line) ≡ true → IsTitle bytes line row.first
+title-is options bytes line row is h =
+    let first : ℕ = front_len line in
+    let text : List ℕ = text_of line in
+    let size : ℕ = length text in
+    let fits = text-fits line h in
+    let behind : List ℕ = drop size (drop first line) ++ drop row.end.index bytes in
+    let parts : drop first line ≡ text ++ drop size (drop first line) = sym (take-append-drop size (drop first line)) ∙ ap (λ (l : List ℕ). l ++ drop size (drop first line)) (text-place line h) in
+    let begin : (past_text (take first line) row.first).index ≡ row.first.index + first = past-index (take first line) row.first ∙ ap (λ (i : ℕ). row.first.index + i) (length-take-le first line (omega arith)) in
+    let end : (past_text (take (first + size) line) row.first).index ≡ row.first.index + (first + size) =
+    past-index (take (first + size) line) row.first ∙ ap (λ (i : ℕ). row.first.index + i) (length-take-le (first + size) line fits) in
+    let stands : drop (row.first.index + first) bytes ≡ text ++ behind =
+    sym (drop-drop first row.first.index bytes)
+    ∙ ap (drop first) (row-line options bytes line row is)
+    ∙ drop-append-le first line (drop row.end.index bytes) (omega arith)
+    ∙ ap (λ (l : List ℕ). l ++ drop row.end.index bytes) parts
+    ∙ append_assoc text (drop size (drop first line)) (drop row.end.index bytes) in
+    let front : NoEnding (drop first line) = no_ending-back (take first line) (drop first line) (subst NoEnding (sym (take-append-drop first line)) is.no_ending) in
+    record {
+      slice =
+          slice-front bytes (past_text (take first line) row.first).index (past_text (take (first + size) line) row.first).index text behind (ap (λ (i : ℕ). drop i bytes) begin ∙ stands) (omega arith);
+      no_ending = no_ending-front text (drop size (drop first line)) (subst NoEnding parts front);
+    }
+
+-- the text of a heading is read
+text-becomes : (options : ParseOptions) (bytes line : List ℕ) (row : Row) (wants : Content → Bool) (reads : Readings) → wants content.Text ≡ true → ReadsText bytes reads →
+    IsRow options bytes line row → heading.is_heading (trim_start line) ≡ true → Becomes wants reads (linked_text (title_of line row.first).text) (read_text bytes (title_of line row.first).text)
+text-becomes options bytes line row wants reads w rt is h = go (length (text_of line) == 0) refl
   where
-    single : Unlinked (rows_events rows) × (groups_events bytes (groups rows) ≡ rows_events rows) → NoContent (row_events row) → Unlinked (row_events row ++ rows_events rows) × (row_events row ++ groups_events bytes (groups rows) ≡ row_events row ++ rows_events rows)
-    single same quiet = (unlinked-append (row_events row) (rows_events rows) (no_content-unlinked (row_events row) quiet) same.0, ap (λ (l : List Event). row_events row ++ l) same.1)
+    begin : Point
+    begin = past_text (take (front_len line) line) row.first
 
-    go : Unlinked (rows_events rows) × (groups_events bytes (groups rows) ≡ rows_events rows) → (kind : RowKind) → row.kind ≡ kind →
-        Unlinked (row_events row ++ rows_events rows) × (groups_events bytes (onto_groups row kind (groups rows)) ≡ row_events row ++ rows_events rows)
-    go same BlankRow e = single same (events-no_content row BlankRow e (λ k. cc) h.0)
-    go same BreakRow e = single same (events-no_content row BreakRow e (λ k. cc) h.0)
-    go same TextRow e = absurd (k.0 e)
+    end : Point
+    end = past_text (take (front_len line + length (text_of line)) line) row.first
 
--- Where no line is text there is no content, and nothing to read.
-pub singles-read : (bytes : List ℕ) (rows : List Row) → EachNoContent rows → NoText rows → (wants : Content → Bool) (reads : Readings) (events : List Event) →
-    Substituted wants reads [] 0 (rows_events rows) events → events ≡ groups_events bytes (groups rows)
-singles-read bytes rows quiet none wants reads events s =
-    let are : Unlinked (rows_events rows) × (groups_events bytes (groups rows) ≡ rows_events rows) = singles-are bytes rows quiet none in
-    let one : (rest : List Event) × (is : events ≡ rows_events rows ++ rest) × (rest ≡ []) =
-    passes wants reads [] 0 (rows_events rows) [] events are.0 (subst (λ (l : List Event). Substituted wants reads [] 0 l events) (sym (append-nil (rows_events rows))) s) in
-    one.1 ∙ ap (λ (l : List Event). rows_events rows ++ l) one.2 ∙ append-nil (rows_events rows) ∙ sym are.1
+    chunk : Chunk
+    chunk = record { first = begin; after = end }
+
+    title : IsTitle bytes line row.first
+    title = title-is options bytes line row is h
+
+    lines : 0 < length (text_of line) → are_lines bytes end (chunk ∷ []) ≡ true
+    lines some =
+        and_from _ _
+        (ap (λ (l : List ℕ). is_one_line (split_lines l) (same_place end end)) title.slice
+        ∙ one-last (text_of line) some title.no_ending (same_place end end) (and_from _ _ (eq-eqb end.index end.index refl) (eq-eqb end.vs end.vs refl)))
+        refl
+
+    whole : list_all (λ (chunk : Chunk). chunk.after.vs == 0) (chunk ∷ []) ≡ true
+    whole = and_from (end.vs == 0) true (eq-eqb end.vs 0 (past_text-whole (take (front_len line + length (text_of line)) line) row.first is.first_whole)) refl
+
+    go : (x : Bool) → (length (text_of line) == 0) ≡ x → Becomes wants reads (linked_text (cond x None (Some chunk))) (read_text bytes (cond x None (Some chunk)))
+    go true e = becomes-same wants reads [] tt
+    go false e =
+        part-becomes wants reads n.HeadingAtxText n.Data heading_link begin end chunk [] (plain_events bytes (record { kind = Text; chunks = chunk ∷ [] })) w refl
+        (λ answer r. rt (chunk ∷ []) answer r end (lines (grind (arith, nat_tests))) whole)
+
+title-becomes : (options : ParseOptions) (bytes line : List ℕ) (row : Row) (wants : Content → Bool) (reads : Readings) → wants content.Text ≡ true → ReadsText bytes reads →
+    IsRow options bytes line row → heading.is_heading (trim_start line) ≡ true → Becomes wants reads (unread_title (title_of line row.first)) (read_title bytes (title_of line row.first))
+title-becomes options bytes line row wants reads w rt is h =
+    let title : Title = title_of line row.first in
+    becomes-append wants reads (title.front ++ linked_text title.text) (title.front ++ read_text bytes title.text) title.back title.back
+    (becomes-append wants reads title.front title.front (linked_text title.text) (read_text bytes title.text) (becomes-same wants reads title.front (no_links-unwanted wants title.front (front-unlinked line row.first h)))
+    (text-becomes options bytes line row wants reads w rt is h))
+    (becomes-same wants reads title.back (no_links-unwanted wants title.back (back-unlinked line row.first h)))
+
+single-becomes : (options : ParseOptions) (bytes : List ℕ) (row : Row) (wants : Content → Bool) (reads : Readings) → wants content.Text ≡ true → ReadsText bytes reads → IsSingle options bytes row →
+    (kind : RowKind) → row.kind ≡ kind → Becomes wants reads (titled_row_by bytes kind row) (single_events_by bytes kind row)
+single-becomes options bytes row wants reads w rt is BlankRow e = becomes-same wants reads (row_events_by BlankRow row) (subst (λ (kind : RowKind). Unwanted wants (row_events_by kind row)) e (single-unwanted options bytes wants row is (λ k. cc)))
+single-becomes options bytes row wants reads w rt is HeadingRow e =
+    let ending : List Event = ending_events n.LineEnding row in
+    becomes-append wants reads (around n.HeadingAtx row.first row.end (unread_title (row_title bytes row))) (around n.HeadingAtx row.first row.end (read_title bytes (row_title bytes row))) ending ending
+    (becomes-around wants reads n.HeadingAtx row.first row.end (unread_title (row_title bytes row)) (read_title bytes (row_title bytes row))
+    (subst (λ (line : List ℕ). Becomes wants reads (unread_title (title_of line row.first)) (read_title bytes (title_of line row.first))) (sym is.is.text)
+    (title-becomes options bytes is.line row wants reads w rt is.is (heading-line options is.line (sym is.is.kind ∙ e)))))
+    (becomes-same wants reads ending (ending-unwanted wants row))
+single-becomes options bytes row wants reads w rt is BreakRow e = becomes-same wants reads (row_events_by BreakRow row) (subst (λ (kind : RowKind). Unwanted wants (row_events_by kind row)) e (single-unwanted options bytes wants row is (λ k. cc)))
+single-becomes options bytes row wants reads w rt is TextRow e = absurd (is.other e)
+
+lines-become : (options : ParseOptions) (bytes : List ℕ) (row : Row) (rows : List Row) (wants : Content → Bool) (reads : Readings) → wants content.Text ≡ true → ReadsText bytes reads → IsParagraph options bytes row rows →
+    Becomes wants reads (unread_group (Lines row rows)) (paragraph_events bytes row rows)
+lines-become options bytes row rows wants reads w rt is =
+    let last : Row = last_row row rows in
+    let ending : List Event = ending_events n.LineEnding last in
+    let plain : List Event = plain_events bytes (record { kind = Text; chunks = chunks_of row rows }) in
+    let some : (chunk : Chunk) × (chunks : List Chunk) × (chunks_of row rows ≡ chunk ∷ chunks) = chunks-some row rows in
+    let unique : (answer : List Event) → reads content.Text (chunks_of row rows) answer → answer ≡ plain = λ answer r. rt (chunks_of row rows) answer r last.end (paragraph-lines options bytes row rows is) (paragraph-whole options bytes row rows is) in
+    becomes-append wants reads (unread_paragraph row rows) (around n.Paragraph row.first last.end plain) ending ending
+    (subst (λ (chunks : List Chunk). Becomes wants reads (around n.Paragraph row.first last.end (linked n.Data text_link chunks)) (around n.Paragraph row.first last.end plain)) (sym some.2)
+    (part-becomes wants reads n.Paragraph n.Data text_link row.first last.end some.0 some.1 plain w refl
+    (subst (λ (chunks : List Chunk). (answer : List Event) → reads content.Text chunks answer → answer ≡ plain) some.2 unique)))
+    (becomes-same wants reads ending (ending-unwanted wants last))
+
+groups-become : (options : ParseOptions) (bytes : List ℕ) (wants : Content → Bool) (reads : Readings) → wants content.Text ≡ true → ReadsText bytes reads →
+    (gs : List Group) → AreGroups options bytes gs → Becomes wants reads (titled_groups bytes gs) (groups_events bytes gs)
+groups-become options bytes wants reads w rt [] are = becomes-same wants reads [] tt
+groups-become options bytes wants reads w rt (Single row ∷ gs) are =
+    becomes-append wants reads (titled_group bytes (Single row)) (group_events bytes (Single row)) (titled_groups bytes gs) (groups_events bytes gs)
+    (single-becomes options bytes row wants reads w rt are.0 row.kind refl) (groups-become options bytes wants reads w rt gs are.1)
+groups-become options bytes wants reads w rt (Lines row rows ∷ gs) are =
+    becomes-append wants reads (titled_group bytes (Lines row rows)) (group_events bytes (Lines row rows)) (titled_groups bytes gs) (groups_events bytes gs)
+    (lines-become options bytes row rows wants reads w rt are.0) (groups-become options bytes wants reads w rt gs are.2)
+
+-- The text of headings and paragraphs, read: the events of a text.
+pub text-read : (options : ParseOptions) (bytes : List ℕ) (p : Point) (lines : List (List ℕ)) (rows : List Row) → AreRows options bytes p lines rows → EachNoContent rows →
+    (wants : Content → Bool) (reads : Readings) → wants content.Text ≡ true → ReadsText bytes reads →
+    (events : List Event) → Substituted wants reads [] 0 (titled_groups bytes (groups rows)) events → events ≡ groups_events bytes (groups rows)
+text-read options bytes p lines rows are quiet wants reads w rt events s =
+    let titled : List Event = titled_groups bytes (groups rows) in
+    let rest : Rest wants reads (groups_events bytes (groups rows)) [] events =
+    groups-become options bytes wants reads w rt (groups rows) (groups-are options bytes p lines rows are quiet) [] [] events
+    (subst (λ (l : List Event). Substituted wants reads [] 0 l events) (sym (append-nil titled)) s) in
+    rest.2 ∙ ap (λ (l : List Event). groups_events bytes (groups rows) ++ l) rest.3 ∙ append-nil (groups_events bytes (groups rows))

@@ -1,8 +1,7 @@
 -- A paragraph over the cells of its lines is these lines, whose text is not read yet.
-use Rattle.std.proofs.Common.{◌≡◌, ℕ, zero, suc, ◌+◌, ◌-◌, ◌^◌, ◌<◌, ◌≤◌, Bool, true, false, cond, List, [], ◌∷◌, ◌++◌, length, drop, slice_range, refl, ap, sym, ◌∙◌, subst, append_assoc, append-nil, drop-drop, length-append, length-drop, arith}
+use Rattle.std.proofs.Common.{◌≡◌, ℕ, zero, suc, ◌+◌, ◌-◌, ◌^◌, ◌<◌, ◌≤◌, Bool, true, false, cond, List, [], ◌∷◌, ◌++◌, length, drop, refl, ap, sym, ◌∙◌, subst, append_assoc, append-nil, drop-drop, length-append, length-drop, arith}
 use Rattle.std.specs.Prelude.{◌==◌, Some, nat_le, slice_get}
 use Rattle.std.proofs.lemmas.Bool.Decides.{nat_tests}
-use Rattle.std.proofs.lemmas.List.{take-append-drop}
 use Rattle.md_engine.specs.declared.configuration.ParseOptions.{ParseOptions}
 use Rattle.md_engine.specs.declared.event.Event.{Event}
 use Rattle.md_engine.specs.declared.event.Name.TheVariants as n
@@ -21,22 +20,13 @@ use Rattle.md_seam.specs.Nested.{around, enter, enter_link, exit}
 use Rattle.markdown_blocks.specs.Rows.{Row, TextRow, chunks_of, last_row}
 use Rattle.markdown_blocks.specs.Unread.{linked, unread_paragraph}
 use Rattle.markdown_blocks.proofs.FeedLines.{HasEnding, HasLine, NoFeed, begun-same, cell, ending-feed, ending-some, feed-none, line-feed, no_feed-spread, past_ending, point_after-append, spread, spread-end}
-use Rattle.markdown_blocks.proofs.GroupLemmas.{IsParagraph, ReadsContent, text-some}
+use Rattle.markdown_blocks.proofs.GroupLemmas.{IsParagraph, ReadsContent, piece, row-line, text-some}
 use Rattle.markdown_blocks.proofs.JoinedLemmas.{behind-is}
 use Rattle.markdown_blocks.proofs.RowFacts.{IsEnding, IsRow}
 
 -- Where the lines stand.
 
--- a piece of a text, and what stands behind it
-piece : (bytes : List ℕ) (i j : ℕ) → i ≤ j → drop i bytes ≡ slice_range bytes i j ++ drop j bytes
-piece bytes i j le =
-    sym (take-append-drop (j - i) (drop i bytes))
-    ∙ ap (λ (l : List ℕ). slice_range bytes i j ++ l) (drop-drop (j - i) i bytes ∙ ap (λ (k : ℕ). drop k bytes) (omega arith))
-
-row-line : (options : ParseOptions) (bytes line : List ℕ) (row : Row) → IsRow options bytes line row → drop row.first.index bytes ≡ line ++ drop row.end.index bytes
-row-line options bytes line row is = piece bytes row.first.index row.end.index (omega (arith, is.size)) ∙ ap (λ (l : List ℕ). l ++ drop row.end.index bytes) is.text
-
--- it lies within the text
+-- a line lies within the text
 row-within : (options : ParseOptions) (bytes line : List ℕ) (row : Row) → IsRow options bytes line row → row.kind ≡ TextRow → row.end.index ≤ length bytes
 row-within options bytes line row is text =
     let some = text-some options line (sym is.kind ∙ text) in
