@@ -1,34 +1,54 @@
-use Rattle.std.proofs.Common.{◌≡◌, ap, refl}
+use Rattle.std.proofs.Common.{◌≡◌, ap, refl, subst, sym}
+use Rattle.std.proofs.lemmas.List.Elements.{All-append}
 use Rattle.std.specs.String.{string_bytes}
+use Rattle.md_engine.specs.declared.event.Event.{Event}
+use Rattle.md_engine.specs.declared.event.Point.{Point}
+use Rattle.md_engine.specs.Place.{IsPlaced}
 use Rattle.md_engine.specs.World.{Setting}
 use Rattle.md_seam.specs.Inline.{PlainReads}
+use Rattle.md_seam.specs.Parts.{ArePlaced}
 use Rattle.md_seam.proofs.ReachedLemmas.{events-placed}
 use Rattle.markdown_blocks.proofs.FlowReads.{reads-labels, reads-setting}
+use Rattle.markdown_blocks.proofs.MarkLemmas.{body-placed}
 use Rattle.markdown_blocks.proofs.Parses.{Reads, parsed-reads}
 use Rattle.markdown_blocks.proofs.Settings.{map-nil}
 use Rattle.markdown_blocks.specs.TextReads.{text_kind, wants_text}
 use Rattle.markdown_blocks.proofs.parser.parse.Goals as goal
 
-pub read_flow-requires : goal.read_flow-requires
-read_flow-requires c = rw c.as_bytes-bytes.ensures.value c.requires.size
+pub read_mark-requires : goal.read_mark-requires
+read_mark-requires c = rw c.as_bytes-bytes.ensures.value c.requires.size
+
+pub read_flow-requires-clause-small : goal.read_flow-requires-clause-small
+read_flow-requires-clause-small c = rw c.as_bytes-bytes.ensures.value c.requires.size
+
+pub read_flow-requires-clause-placed : goal.read_flow-requires-clause-placed
+read_flow-requires-clause-placed c =
+    let P : Point → Type 0 = λ p. IsPlaced c.as_bytes-bytes.result.now p in
+    subst P (sym c.in_ok-front.ensures.point) (body-placed c.as_bytes-bytes.result.now (rw c.as_bytes-bytes.ensures.value c.requires.size))
 
 pub subtokenize-requires : goal.subtokenize-requires
 subtokenize-requires c =
-    let same : c.in_ok-tokenizer.tokenizer.bytes.now ≡ c.as_bytes-bytes.result.now = ap (λ (x : Setting). x.bytes) (reads-setting _ _ _ _ c.in_ok-tokenizer.ensures) in
+    let same : c.in_ok-tokenizer.tokenizer.bytes.now ≡ c.as_bytes-bytes.result.now = ap (λ (x : Setting). x.bytes) (reads-setting _ _ _ _ _ c.in_ok-tokenizer.ensures) in
     rw c.deref.ensures.value (rw same at c.in_ok-tokenizer.tokenizer.sound.right)
 
 pub returns : goal.returns
 returns c =
-    let none = reads-labels _ _ _ _ c.in_ok-tokenizer.ensures in
+    let bytes = c.as_bytes-bytes.result.now in
+    let body = c.in_ok-body.body.items in
+    let none = reads-labels _ _ _ _ _ c.in_ok-tokenizer.ensures in
     let read : Reads c.args.options.now c.args.value.now c.in_ok-events.events.items =
-    parsed-reads c.args.options.now c.as_bytes-bytes.result.now c.args.value.now _ _ c.deref.result.now c.in_ok-events.events.items c.as_bytes-bytes.ensures.value c.requires.built c.utf8.value c.requires.size
-    c.in_ok-tokenizer.ensures wants_text (λ content chunks events. PlainReads c.as_bytes-bytes.result.now (record { kind = text_kind content; chunks = chunks }) events) refl (λ chunks answer reads end lines whole. reads end lines whole)
-    c.deref.ensures.value c.in_ok-events.ensures.substituted in
+    parsed-reads c.args.options.now bytes c.args.value.now c.in_ok-front.front.point _ _ c.in_ok-front.front.events.items c.deref.result.now body c.in_ok-events.events.items
+    c.as_bytes-bytes.ensures.value c.requires.built c.utf8.value c.requires.size c.in_ok-front.ensures.point c.in_ok-front.ensures.events c.in_ok-tokenizer.ensures
+    wants_text (λ content chunks events. PlainReads bytes (record { kind = text_kind content; chunks = chunks }) events) refl (λ chunks answer reads end lines whole. reads end lines whole)
+    c.deref.ensures.value c.in_ok-body.ensures.substituted c.in_ok-events.ensures in
+    let of_mark : ArePlaced bytes c.in_ok-front.front.events.items = rw c.in_ok-front.ensures.bytes_are at c.in_ok-front.front.sound.right in
+    let placed : ArePlaced bytes c.in_ok-events.events.items =
+    rw c.in_ok-events.ensures (All-append (λ (e : Event). IsPlaced bytes e.point) c.in_ok-front.front.events.items body of_mark c.in_ok-body.ensures.placed) in
     record {
       bytes = c.as_bytes-bytes.ensures.value;
       options_are = refl;
       nested = read.nested;
-      placed = events-placed c.args.value.now c.in_ok-events.events.items (rw c.as_bytes-bytes.ensures.value at c.in_ok-events.ensures.placed);
+      placed = events-placed c.args.value.now c.in_ok-events.events.items (rw c.as_bytes-bytes.ensures.value at placed);
       tree = read.tree;
       outlined = read.outlined;
       definitions = map-nil string_bytes c.in_ok-tokenizer.found.definitions.items none.definitions;
