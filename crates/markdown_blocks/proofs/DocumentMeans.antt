@@ -7,7 +7,7 @@ use Rattle.md_engine.specs.declared.state.Name.{Name as StateName}
 use Rattle.md_engine.specs.declared.state.Name.TheVariants as n
 use Rattle.md_engine.specs.declared.state.State.TheVariants.{Next}
 use Rattle.md_engine.specs.declared.tokenizer.Frame.{Frame}
-use Rattle.md_engine.specs.Meaning.{Accepts, Cell, Fails, Feed, Here, Outcome, Refuses, Steps, here, resume}
+use Rattle.md_engine.specs.Meaning.{Accepts, Fails, Feed, Outcome, Refuses, Steps, here, resume}
 use Rattle.md_engine.specs.Run.{reading}
 use Rattle.md_engine.specs.Scheme.{stands}
 use Rattle.md_engine.specs.Standing.{MeansAt, StandsOn}

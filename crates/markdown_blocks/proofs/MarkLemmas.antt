@@ -1,22 +1,22 @@
 -- The byte order mark in front of a text: its bytes, where the lines begin behind it, and what its events add.
-use Rattle.std.proofs.Common.{◌≡◌, ℕ, ◌-◌, ◌/◌, ◌^◌, ◌≤◌, Bool, true, false, cond, nat_eq, nat_lt, ◌||◌, ◌&&◌, ◌==◌, List, [], ◌∷◌, ◌++◌, length, drop, slice_index, refl, ap, ◌∙◌, sym, subst, arith}
+use Rattle.std.proofs.Common.{◌≡◌, ℕ, ◌-◌, ◌/◌, ◌^◌, ◌≤◌, Bool, true, false, cond, nat_lt, ◌||◌, ◌&&◌, ◌==◌, List, [], ◌∷◌, ◌++◌, length, drop, slice_index, refl, ap, ◌∙◌, sym, subst, arith}
 use Rattle.std.specs.List.{list_all}
 use Rattle.std.proofs.lemmas.Bool.{and_from}
 use Rattle.std.proofs.lemmas.Bool.Decides.{Decides-eqb}
-use Rattle.std.proofs.lemmas.List.Folds.{list_all-append}
 use Rattle.std.proofs.lemmas.Slice.Eq.{starts_is}
 use Rattle.md_engine.specs.declared.event.Event.{Event}
 use Rattle.md_engine.specs.declared.event.Name.TheVariants.{ByteOrderMark}
-use Rattle.md_engine.specs.declared.event.Point.{Point}
 use Rattle.md_engine.specs.Place.{IsPlaced, IsReached, first_point, walked}
 use Rattle.md_seam.specs.Nested.{Balanced, Forward, Nested, pair}
 use Rattle.md_seam.specs.Preamble.{has_mark, without_mark}
 use Rattle.md_seam.specs.Spelled.{Reading, read, spelled, unread}
 use Rattle.md_seam.proofs.NestedLemmas.{balanced-append}
-use Rattle.md_seam.proofs.SpelledLemmas.{Quiet, Roles, read-from, read-quiet}
+use Rattle.md_seam.proofs.PlacesLemmas.{all-append}
+use Rattle.md_seam.proofs.SpelledLemmas.{read-from, read-quiet}
 use Rattle.markdown_blocks.specs.Between.{is_between}
 use Rattle.markdown_blocks.specs.Document.{body_point, mark_end, mark_events}
 use Rattle.markdown_blocks.specs.Outlined.{IsOutlined, are_shallow, has_plain_name, is_whole}
+use Rattle.markdown_blocks.proofs.Settings.{placed-first}
 
 -- The text.
 
@@ -63,10 +63,6 @@ reached-end : (rest : List ℕ) → IsReached (239 ∷ 187 ∷ 191 ∷ rest) mar
 unfolding walked
 reached-end rest = (3, refl)
 
-reached-first : (bytes : List ℕ) → IsReached bytes first_point
-unfolding walked
-reached-first bytes = (0, refl)
-
 pub body-placed : (bytes : List ℕ) → length bytes ≤ (2 ^ 64 - 1) / 8 → IsPlaced bytes (body_point bytes)
 body-placed bytes small = go (has_mark bytes) refl
   where
@@ -82,14 +78,7 @@ body-placed bytes small = go (has_mark bytes) refl
           vs = omega arith;
           reached = ∣ subst P (sym (mark-bytes bytes e)) (reached-end (drop 3 bytes)) ∣₁;
         }
-    go false e = record {
-      sized = omega (arith, small);
-      index = omega arith;
-      line = omega arith;
-      column = omega arith;
-      vs = omega arith;
-      reached = ∣ reached-first bytes ∣₁;
-    }
+    go false e = placed-first bytes small
 
 -- it stands between characters
 either : (a b c d e : Bool) → e ≡ true → (a || b || c || d || e) ≡ true
@@ -153,14 +142,11 @@ mark-whole bytes = go (has_mark bytes)
     go true = refl
     go false = refl
 
-all-both : (p : Event → Bool) (xs ys : List Event) → list_all p xs ≡ true → list_all p ys ≡ true → list_all p (xs ++ ys) ≡ true
-all-both p xs ys h k = list_all-append p xs ys ∙ and_from (list_all p xs) (list_all p ys) h k
-
 pub mark-outlined : (bytes : List ℕ) (events : List Event) → IsOutlined events bytes → IsOutlined (mark_events bytes ++ events) bytes
 mark-outlined bytes events is = record {
-  names = all-both has_plain_name (mark_events bytes) events (mark-names bytes) is.names;
+  names = all-append has_plain_name (mark_events bytes) events (mark-names bytes) is.names;
   text = is.text;
-  between = all-both (λ (e : Event). is_between bytes e.point.index) (mark_events bytes) events (mark-between bytes) is.between;
-  whole = all-both is_whole (mark_events bytes) events (mark-whole bytes) is.whole;
+  between = all-append (λ (e : Event). is_between bytes e.point.index) (mark_events bytes) events (mark-between bytes) is.between;
+  whole = all-append is_whole (mark_events bytes) events (mark-whole bytes) is.whole;
   depths = ap are_shallow (mark-spelled bytes events) ∙ is.depths;
 }
