@@ -14,9 +14,10 @@ use Rattle.md_leaves.specs.HeadingText.{Before, Opened, Outside, Within, linked_
 use Rattle.md_leaves.specs.HeadingTitle.{chunk_unless_empty, front_len, line_runs, text_of, title_of, unread_title}
 use Rattle.md_leaves.proofs.BreakLemmas.{eq-of}
 use Rattle.md_leaves.proofs.HeadingLemmas.{white-no_hash}
-use Rattle.md_leaves.proofs.TitleRuns.{Comes, before-hashes, before-white, first_is, hash-runs, hashes-stop, is_hash, last_run, opened-white, pass-first, past-append, runs-cut, text-walk, white-stops, within-hashes, within-white}
+use Rattle.md_leaves.proofs.TitleRuns.{Comes, before-hashes, before-white, hash-runs, hashes-stop, is_hash, last_run, opened-white, pass-first, past-append, runs-cut, text-walk, white-stops, within-hashes, within-white}
 use Rattle.md_leaves.proofs.TitleTexts.{Behind, Closed, Empty, Parted, Plain, Shape, first-front, is_solid, parted}
 use Rattle.md_seam.specs.declared.inline.Chunk.{Chunk}
+use Rattle.md_seam.specs.Bytes.{begins}
 use Rattle.md_seam.specs.Nested.{exit, pair}
 use Rattle.md_seam.specs.Places.{past_text}
 use Rattle.md_seam.specs.Rest.{is_white, run_len, trim_start}
@@ -30,11 +31,11 @@ ends-white : (white : List ℕ) (p q first : Point) (after last : Option Point) 
     resolved (Within first after last closing since) (line_runs Apart white p ++ ended q es) ≡ text_between first after ++ (closing ++ (since ++ (line_runs Apart white p ++ ended q (resolved Outside es))))
 ends-white white p q first after last closing since es w = within-white white p first after last closing since (ended q es) w ∙ (simp append_assoc)
 
-white-hash : (bytes : List ℕ) → AllPass is_white bytes → first_is is_hash bytes ≡ false
+white-hash : (bytes : List ℕ) → AllPass is_white bytes → begins is_hash bytes ≡ false
 white-hash [] h = refl
 white-hash (b ∷ bs) h = white-no_hash b (pass-first is_white b bs h)
 
-white-text : (bytes : List ℕ) → AllPass is_white bytes → first_is (goes_on Text) bytes ≡ false
+white-text : (bytes : List ℕ) → AllPass is_white bytes → begins (goes_on Text) bytes ≡ false
 white-text [] h = refl
 white-text (b ∷ bs) h = ap not (pass-first is_white b bs h)
 
@@ -67,15 +68,16 @@ given-closed b hashes white p q es h w =
     ∙ ends-white white r q p None (Some r) closing [] es w
     ∙ sym (ap (λ (t : List Event). t ++ ended q (resolved Outside es)) cut)
 
-given-plain : (text back : List ℕ) (p q : Point) (es : List Event) → first_is is_white (text ++ back) ≡ false → last_run Apart text ≡ Text → AllPass is_white back → Given text back p q es
+-- text up to the whitespace at the line's end
+given-plain : (text back : List ℕ) (p q : Point) (es : List Event) → begins is_white (text ++ back) ≡ false → last_run Apart text ≡ Text → AllPass is_white back → Given text back p q es
 given-plain [] back p q es start run w = cc
 given-plain (t ∷ ts) back p q es start run w =
     let r = past_text (t ∷ ts) p in
     let text = line_runs Apart (t ∷ ts) p in
     let left = line_runs Apart back r in
-    let stops : first_is (goes_on (last_run Apart (t ∷ ts))) back ≡ false = ap (λ (x : Run). first_is (goes_on x) back) run ∙ white-text back w in
+    let stops : begins (goes_on (last_run Apart (t ∷ ts))) back ≡ false = ap (λ (x : Run). begins (goes_on x) back) run ∙ white-text back w in
     let came : resolved Opened (text ++ (left ++ ended q es)) ≡ resolved (Within p (Some r) (Some r) [] []) (left ++ ended q es) =
-        subst (λ (x : Run). Comes x p r (left ++ ended q es) (resolved Opened (text ++ (left ++ ended q es)))) run (text-walk t ts p (left ++ ended q es) start) in
+    subst (λ (x : Run). Comes x p r (left ++ ended q es) (resolved Opened (text ++ (left ++ ended q es)))) run (text-walk t ts p (left ++ ended q es) start) in
     ap (λ (es' : List Event). resolved Opened (es' ++ ended q es)) (runs-cut Apart (t ∷ ts) back p stops)
     ∙ ap (resolved Opened) (append_assoc text left (ended q es))
     ∙ came
@@ -95,7 +97,7 @@ solid-stops Hashes c e white = white-no_hash c white
 solid-stops Text c e white = ap not white
 
 -- a closing sequence behind text
-given-behind : (text : List ℕ) (c : ℕ) (gap : List ℕ) (b : ℕ) (hashes white : List ℕ) (p q : Point) (es : List Event) → first_is is_white (text ++ ((c ∷ gap) ++ ((b ∷ hashes) ++ white))) ≡ false →
+given-behind : (text : List ℕ) (c : ℕ) (gap : List ℕ) (b : ℕ) (hashes white : List ℕ) (p q : Point) (es : List Event) → begins is_white (text ++ ((c ∷ gap) ++ ((b ∷ hashes) ++ white))) ≡ false →
     is_solid (last_run Apart text) ≡ true → AllPass is_white (c ∷ gap) → AllPass is_hash (b ∷ hashes) → AllPass is_white white → Given text ((c ∷ gap) ++ ((b ∷ hashes) ++ white)) p q es
 given-behind [] c gap b hashes white p q es start run g h w = cc
 given-behind (t ∷ ts) c gap b hashes white p q es start run g h w =
@@ -147,12 +149,12 @@ given-behind (t ∷ ts) c gap b hashes white p q es start run g h w =
     comes : (after : Option Point) × (closing : List Event) × (resolved Opened (text ++ (parted_by ++ (seq ++ (left ++ ended q es)))) ≡ resolved (Within p after (Some r) closing []) (parted_by ++ (seq ++ (left ++ ended q es))))
     comes = solid-comes (last_run Apart (t ∷ ts)) p r (parted_by ++ (seq ++ (left ++ ended q es))) (resolved Opened (text ++ (parted_by ++ (seq ++ (left ++ ended q es))))) run (text-walk t ts p (parted_by ++ (seq ++ (left ++ ended q es))) start)
 
-given : (text back : List ℕ) (p q : Point) (es : List Event) → first_is is_white (text ++ back) ≡ false → Shape text back → Given text back p q es
+given : (text back : List ℕ) (p q : Point) (es : List Event) → begins is_white (text ++ back) ≡ false → Shape text back → Given text back p q es
 given text back p q es start (Empty none nil) = rw (none, nil) refl
 given text back p q es start (Closed b hashes white none is h w) = rw (none, is) (given-closed b hashes white p q es h w)
 given text back p q es start (Plain run w) = given-plain text back p q es start run w
 given text back p q es start (Behind c gap b hashes white run is g h w) =
-    subst (λ (t : List ℕ). Given text t p q es) (sym is) (given-behind text c gap b hashes white p q es (ap (λ (t : List ℕ). first_is is_white (text ++ t)) (sym is) ∙ start) run g h w)
+    subst (λ (t : List ℕ). Given text t p q es) (sym is) (given-behind text c gap b hashes white p q es (ap (λ (t : List ℕ). begins is_white (text ++ t)) (sym is) ∙ start) run g h w)
 
 -- The whole line.
 
@@ -209,7 +211,7 @@ title-fits line =
     let size : length ((x.indent ++ (x.hashes ++ x.gap)) ++ text_of line) ≡ front_len line + length (text_of line) = parts-size line x in
     omega arith
 
--- its runs, piece by piece
+-- the runs of a line, piece by piece
 front-runs : (line : List ℕ) (x : Parted line) (p : Point) →
     let p1 = past_text x.indent p in
     let p2 = past_text x.hashes p1 in
@@ -217,8 +219,8 @@ front-runs : (line : List ℕ) (x : Parted line) (p : Point) →
 front-runs line x p =
     let p1 = past_text x.indent p in
     let rest = text_of line ++ x.back in
-    let none : first_is is_white (x.hashes ++ x.gap) ≡ false = first-front is_white (x.hashes ++ x.gap) rest (ap (first_is is_white) (append_assoc x.hashes x.gap rest) ∙ x.behind_indent) in
-    let other : first_is is_hash x.gap ≡ false = first-front is_hash x.gap rest x.behind_hashes in
+    let none : begins is_white (x.hashes ++ x.gap) ≡ false = first-front is_white (x.hashes ++ x.gap) rest (ap (begins is_white) (append_assoc x.hashes x.gap rest) ∙ x.behind_indent) in
+    let other : begins is_hash x.gap ≡ false = first-front is_hash x.gap rest x.behind_hashes in
     runs-cut Apart x.indent (x.hashes ++ x.gap) p (white-stops x.indent (x.hashes ++ x.gap) x.indent_is none)
     ∙ ap (λ (es : List Event). line_runs Apart x.indent p ++ es) (runs-cut Apart x.hashes x.gap p1 (hashes-stop x.hashes x.gap x.hashes_are other))
 
@@ -234,8 +236,8 @@ all-runs line x p =
     ap (λ (bytes : List ℕ). line_runs Apart bytes p) x.whole
     ∙ runs-cut Apart x.indent (x.hashes ++ (x.gap ++ rest)) p (white-stops x.indent (x.hashes ++ (x.gap ++ rest)) x.indent_is x.behind_indent)
     ∙ ap (λ (es : List Event). line_runs Apart x.indent p ++ es) (
-      runs-cut Apart x.hashes (x.gap ++ rest) p1 (hashes-stop x.hashes (x.gap ++ rest) x.hashes_are x.behind_hashes)
-      ∙ ap (λ (es : List Event). line_runs Apart x.hashes p1 ++ es) (runs-cut Apart x.gap rest p2 (white-stops x.gap rest x.gap_is x.behind_gap))
+    runs-cut Apart x.hashes (x.gap ++ rest) p1 (hashes-stop x.hashes (x.gap ++ rest) x.hashes_are x.behind_hashes)
+    ∙ ap (λ (es : List Event). line_runs Apart x.hashes p1 ++ es) (runs-cut Apart x.gap rest p2 (white-stops x.gap rest x.gap_is x.behind_gap))
     )
 
 -- the events of a heading's parts: its front, all up to the end of its text, and what is left
@@ -275,8 +277,8 @@ title-resolved line p q es heads =
     ∙ ap (resolved Before) (apart-all i h g t (ended q es))
     ∙ before-white x.indent p (h ++ (g ++ (t ++ ended q es))) x.indent_is
     ∙ ap (λ (s : List Event). i ++ s) (
-      before-opening x.hashes p1 (g ++ (t ++ ended q es)) (hashes-some line x.hashes x.depth heads) x.hashes_are
-      ∙ ap (λ (s : List Event). h ++ s) (opened-white x.gap p2 (t ++ ended q es) x.gap_is ∙ ap (λ (s : List Event). g ++ s) (given (text_of line) x.back p3 q es x.behind_gap x.shape))
+    before-opening x.hashes p1 (g ++ (t ++ ended q es)) (hashes-some line x.hashes x.depth heads) x.hashes_are
+    ∙ ap (λ (s : List Event). h ++ s) (opened-white x.gap p2 (t ++ ended q es) x.gap_is ∙ ap (λ (s : List Event). g ++ s) (given (text_of line) x.back p3 q es x.behind_gap x.shape))
     )
     ∙ joined-all i h g (linked_text (chunk_unless_empty (length (text_of line)) p3 end)) (line_runs Apart x.back end) (ended q (resolved Outside es))
     ∙ ap (λ (s : List Event). s ++ ended q (resolved Outside es)) (sym (title-parts line x p ∙ titled-runs x.indent x.hashes x.gap (text_of line) x.back (length (text_of line)) p (i ++ (h ++ g)) (front-runs line x p)))
@@ -308,7 +310,7 @@ title-resolved line p q es heads =
     t : List Event
     t = line_runs Apart (text_of line ++ x.back) p3
 
--- Around its text a heading has whitespace and `#` alone.
+-- Around the text stand whitespace and `#` alone.
 
 abbrev pub is_mark : ℕ → Bool
 is_mark b = is_white b || (b == 35)

@@ -10,14 +10,10 @@ use Rattle.md_leaves.specs.HeadingRule.{Apart, Hashes, Run, Text, White, begun, 
 use Rattle.md_leaves.specs.HeadingText.{Before, Opened, Within, resolved}
 use Rattle.md_leaves.specs.HeadingTitle.{line_runs}
 use Rattle.md_leaves.proofs.BreakLemmas.{eq-of}
+use Rattle.md_seam.specs.Bytes.{begins}
 use Rattle.md_seam.specs.Nested.{enter, exit, pair}
 use Rattle.md_seam.specs.Places.{past_byte, past_text}
 use Rattle.md_seam.specs.Rest.{is_white}
-
--- whether the first byte passes
-abbrev pub first_is : (ℕ → Bool) → List ℕ → Bool
-first_is f [] = false
-first_is f (b ∷ bs) = f b
 
 abbrev pub is_hash : ℕ → Bool
 is_hash b = b == 35
@@ -35,12 +31,12 @@ pub past-append : (xs ys : List ℕ) (p : Point) → past_text (xs ++ ys) p ≡ 
 past-append [] ys p = refl
 past-append (b ∷ bs) ys p = past-append bs ys (past_byte b p)
 
-pub apart-stops : (bytes : List ℕ) → first_is (goes_on Apart) bytes ≡ false
+pub apart-stops : (bytes : List ℕ) → begins (goes_on Apart) bytes ≡ false
 apart-stops [] = refl
 apart-stops (b ∷ bs) = refl
 
 -- where a run ends, the runs behind it are those of what follows
-pub runs-cut : (run : Run) (xs ys : List ℕ) (p : Point) → first_is (goes_on (last_run run xs)) ys ≡ false →
+pub runs-cut : (run : Run) (xs ys : List ℕ) (p : Point) → begins (goes_on (last_run run xs)) ys ≡ false →
     line_runs run (xs ++ ys) p ≡ line_runs run xs p ++ line_runs Apart ys (past_text xs p)
 runs-cut run [] [] p e = sym (append-nil (closes run p))
 runs-cut run [] (y ∷ ys) p e = rw e (append_assoc (closes run p) (opens (begun y) p) (line_runs (begun y) ys (past_byte y p)))
@@ -52,8 +48,8 @@ runs-cut run (b ∷ bs) ys p e = go (goes_on run b) refl (runs-cut run bs ys (pa
     More : Run → Type 0
     More r = line_runs r (bs ++ ys) q ≡ line_runs r bs q ++ line_runs Apart ys (past_text bs q)
 
-    go : (x : Bool) → goes_on run b ≡ x → (first_is (goes_on (last_run run bs)) ys ≡ false → More run) → (first_is (goes_on (last_run (begun b) bs)) ys ≡ false → More (begun b)) →
-        first_is (goes_on (last_run (cond (goes_on run b) run (begun b)) bs)) ys ≡ false → line_runs run (b ∷ (bs ++ ys)) p ≡ line_runs run (b ∷ bs) p ++ line_runs Apart ys (past_text bs q)
+    go : (x : Bool) → goes_on run b ≡ x → (begins (goes_on (last_run run bs)) ys ≡ false → More run) → (begins (goes_on (last_run (begun b) bs)) ys ≡ false → More (begun b)) →
+        begins (goes_on (last_run (cond (goes_on run b) run (begun b)) bs)) ys ≡ false → line_runs run (b ∷ (bs ++ ys)) p ≡ line_runs run (b ∷ bs) p ++ line_runs Apart ys (past_text bs q)
     go true k same next e = rw k (same (rw k at e))
     go false k same next e =
         let front = closes run p ++ opens (begun b) p in
@@ -104,7 +100,7 @@ white-last (b ∷ bs) h =
     rw here (white-last bs (pass-rest is_white b bs h))
 
 -- what follows whitespace is another run
-pub white-stops : (bs rest : List ℕ) → AllPass is_white bs → first_is is_white rest ≡ false → first_is (goes_on (last_run Apart bs)) rest ≡ false
+pub white-stops : (bs rest : List ℕ) → AllPass is_white bs → begins is_white rest ≡ false → begins (goes_on (last_run Apart bs)) rest ≡ false
 white-stops [] rest h e = apart-stops rest
 white-stops (b ∷ bs) rest h e =
     let here : is_white b ≡ true = pass-first is_white b bs h in
@@ -117,7 +113,7 @@ hashes-last (b ∷ bs) h =
     let here : (b == 35) ≡ true = pass-first is_hash b bs h in
     rw here (hashes-last bs (pass-rest is_hash b bs h))
 
-pub hashes-stop : (bs rest : List ℕ) → AllPass is_hash bs → first_is is_hash rest ≡ false → first_is (goes_on (last_run Apart bs)) rest ≡ false
+pub hashes-stop : (bs rest : List ℕ) → AllPass is_hash bs → begins is_hash rest ≡ false → begins (goes_on (last_run Apart bs)) rest ≡ false
 hashes-stop [] rest h e = apart-stops rest
 hashes-stop (b ∷ bs) rest h e =
     let run : last_run Apart (b ∷ bs) ≡ Hashes = rw (begun-hash b (pass-first is_hash b bs h)) (hashes-last bs (pass-rest is_hash b bs h)) in

@@ -9,7 +9,8 @@ use Rattle.std.proofs.lemmas.List.Folds.{length-prefix_len}
 use Rattle.md_engine.proofs.Sound.{All-reverse}
 use Rattle.md_leaves.specs.HeadingRule.{Apart, Hashes, Run, Text, White, begun, goes_on}
 use Rattle.md_leaves.specs.HeadingTitle.{front_len, text_of}
-use Rattle.md_leaves.proofs.TitleRuns.{first_is, is_hash, last-append, last_run, pass-first, text-last}
+use Rattle.md_leaves.proofs.TitleRuns.{is_hash, last-append, last_run, pass-first, text-last}
+use Rattle.md_seam.specs.Bytes.{begins}
 use Rattle.md_seam.specs.Leaves.{without_closing}
 use Rattle.md_seam.specs.Rest.{is_parted, is_white, run_len, trim_end, trim_start}
 
@@ -25,11 +26,11 @@ front-passes f (b ∷ bs) = go (f b) refl (front-passes f bs)
         rw one (All-cons (λ (x : ℕ). f x ≡ true) b (take (prefix_len f bs) bs) e h)
     go false e h = All-nil (λ (x : ℕ). f x ≡ true)
 
-pub front-stops : (f : ℕ → Bool) (bytes : List ℕ) → first_is f (drop (prefix_len f bytes) bytes) ≡ false
+pub front-stops : (f : ℕ → Bool) (bytes : List ℕ) → begins f (drop (prefix_len f bytes) bytes) ≡ false
 front-stops f [] = refl
 front-stops f (b ∷ bs) = go (f b) refl (front-stops f bs)
   where
-    go : (x : Bool) → f b ≡ x → first_is f (drop (prefix_len f bs) bs) ≡ false → first_is f (drop (cond x (1 + prefix_len f bs) 0) (b ∷ bs)) ≡ false
+    go : (x : Bool) → f b ≡ x → begins f (drop (prefix_len f bs) bs) ≡ false → begins f (drop (cond x (1 + prefix_len f bs) 0) (b ∷ bs)) ≡ false
     go true e h =
         let one : 1 + prefix_len f bs ≡ suc (prefix_len f bs) = omega arith in
         rw one h
@@ -59,8 +60,8 @@ kept-whole f bytes =
 tail-passes : (f : ℕ → Bool) (bytes : List ℕ) → AllPass f (tail f bytes)
 tail-passes f bytes = All-reverse (λ (x : ℕ). f x ≡ true) (take (suffix_len f bytes) (reverse bytes)) (front-passes f (reverse bytes))
 
-kept-ends : (f : ℕ → Bool) (bytes : List ℕ) → first_is f (reverse (kept f bytes)) ≡ false
-kept-ends f bytes = ap (first_is f) (ap reverse (kept-is f bytes) ∙ reverse-reverse (drop (suffix_len f bytes) (reverse bytes))) ∙ front-stops f (reverse bytes)
+kept-ends : (f : ℕ → Bool) (bytes : List ℕ) → begins f (reverse (kept f bytes)) ≡ false
+kept-ends f bytes = ap (begins f) (ap reverse (kept-is f bytes) ∙ reverse-reverse (drop (suffix_len f bytes) (reverse bytes))) ∙ front-stops f (reverse bytes)
 
 -- The last byte tells which run is open behind a text.
 
@@ -121,11 +122,11 @@ pub record Ending (rest text : List ℕ) : Type 0 where
   pub whole : rest ≡ text ++ back
   pub shape : Shape text back
 
-none-white : (bytes : List ℕ) → AllPass is_white bytes → first_is is_white bytes ≡ false → bytes ≡ []
+none-white : (bytes : List ℕ) → AllPass is_white bytes → begins is_white bytes ≡ false → bytes ≡ []
 none-white [] h e = refl
 none-white (b ∷ bs) h e = absurd (false≢true (sym e ∙ pass-first is_white b bs h))
 
-pub first-front : (f : ℕ → Bool) (xs ys : List ℕ) → first_is f (xs ++ ys) ≡ false → first_is f xs ≡ false
+pub first-front : (f : ℕ → Bool) (xs ys : List ℕ) → begins f (xs ++ ys) ≡ false → begins f xs ≡ false
 first-front f [] ys e = refl
 first-front f (x ∷ xs) ys e = e
 
@@ -133,11 +134,11 @@ none-reversed : (bytes : List ℕ) → reverse bytes ≡ [] → bytes ≡ []
 none-reversed bytes e = sym (reverse-reverse bytes) ∙ ap reverse e
 
 -- nothing is both parted and without whitespace at its end
-none-parted : (bytes : List ℕ) → is_parted bytes ≡ true → first_is is_white bytes ≡ false → bytes ≡ []
+none-parted : (bytes : List ℕ) → is_parted bytes ≡ true → begins is_white bytes ≡ false → bytes ≡ []
 none-parted [] h e = refl
 none-parted (b ∷ bs) h e = absurd (false≢true (sym e ∙ h))
 
-ending : (rest : List ℕ) → first_is is_white rest ≡ false → Ending rest (cond (is_parted (reverse (without_closing (trim_end rest)))) (trim_end (without_closing (trim_end rest))) (trim_end rest))
+ending : (rest : List ℕ) → begins is_white rest ≡ false → Ending rest (cond (is_parted (reverse (without_closing (trim_end rest)))) (trim_end (without_closing (trim_end rest))) (trim_end rest))
 ending rest start = go (is_parted (reverse front)) refl
   where
     body : List ℕ
@@ -158,14 +159,14 @@ ending rest start = go (is_parted (reverse front)) refl
     gap : List ℕ
     gap = tail is_white front
 
-    open_end : (ys : List ℕ) → reverse front ≡ ys → is_parted ys ≡ false → first_is is_hash ys ≡ false → last_run Apart body ≡ Text
+    open_end : (ys : List ℕ) → reverse front ≡ ys → is_parted ys ≡ false → begins is_hash ys ≡ false → last_run Apart body ≡ Text
     open_end [] e parted other = absurd (false≢true (sym parted))
     open_end (b ∷ bs) e parted other =
         ap (last_run Apart) (kept-whole is_hash body) ∙ last-append Apart front hashes
         ∙ ap (λ (run : Run). last_run run hashes) (text-behind front b bs e parted other)
         ∙ text-last hashes (tail-passes is_hash body)
 
-    solid_end : (t : ℕ) (ts : List ℕ) → text ≡ t ∷ ts → (ys : List ℕ) → reverse text ≡ ys → first_is is_white ys ≡ false → is_solid (last_run Apart text) ≡ true
+    solid_end : (t : ℕ) (ts : List ℕ) → text ≡ t ∷ ts → (ys : List ℕ) → reverse text ≡ ys → begins is_white ys ≡ false → is_solid (last_run Apart text) ≡ true
     solid_end t ts some [] e black = let bad : t ∷ ts ≡ [] = sym some ∙ none-reversed text e in cc
     solid_end t ts some (y ∷ ys) e black = solid-last text y ys e black
 
@@ -178,14 +179,14 @@ ending rest start = go (is_parted (reverse front)) refl
     closed_end : is_parted (reverse front) ≡ true → (ts gs hs : List ℕ) → text ≡ ts → gap ≡ gs → hashes ≡ hs → Ending rest text
     closed_end parted ts gs [] ets egs ehs =
         let same : body ≡ front = kept-whole is_hash body ∙ ap (λ (t : List ℕ). front ++ t) ehs ∙ append-nil front in
-        let none : front ≡ [] = none-reversed front (none-parted (reverse front) parted (ap (λ (t : List ℕ). first_is is_white (reverse t)) (sym same) ∙ kept-ends is_white rest)) in
+        let none : front ≡ [] = none-reversed front (none-parted (reverse front) parted (ap (λ (t : List ℕ). begins is_white (reverse t)) (sym same) ∙ kept-ends is_white rest)) in
         let left : rest ≡ white = kept-whole is_white rest ∙ ap (λ (t : List ℕ). t ++ white) (same ∙ none) in
-        let gone : white ≡ [] = none-white white (tail-passes is_white rest) (ap (first_is is_white) (sym left) ∙ start) in
+        let gone : white ≡ [] = none-white white (tail-passes is_white rest) (ap (begins is_white) (sym left) ∙ start) in
         let blank : text ≡ [] = ap trim_end none in
         record { back = []; whole = left ∙ gone ∙ sym (ap (λ (t : List ℕ). t ++ []) blank); shape = Empty blank refl }
     closed_end parted [] gs (b ∷ hs) ets egs ehs =
         let left : rest ≡ gap ++ (hashes ++ white) = apart ∙ ap (λ (t : List ℕ). t ++ (gap ++ (hashes ++ white))) ets in
-        let gone : gap ≡ [] = none-white gap (tail-passes is_white front) (first-front is_white gap (hashes ++ white) (ap (first_is is_white) (sym left) ∙ start)) in
+        let gone : gap ≡ [] = none-white gap (tail-passes is_white front) (first-front is_white gap (hashes ++ white) (ap (begins is_white) (sym left) ∙ start)) in
         record {
           back = (b ∷ hs) ++ white;
           whole = apart ∙ ap (λ (t : List ℕ). text ++ (t ++ (hashes ++ white))) gone ∙ ap (λ (t : List ℕ). text ++ (t ++ white)) ehs;
@@ -193,7 +194,7 @@ ending rest start = go (is_parted (reverse front)) refl
         }
     closed_end parted (t ∷ ts) [] (b ∷ hs) ets egs ehs =
         let same : front ≡ text = kept-whole is_white front ∙ ap (λ (t : List ℕ). text ++ t) egs ∙ append-nil text in
-        let none : front ≡ [] = none-reversed front (none-parted (reverse front) parted (ap (λ (t : List ℕ). first_is is_white (reverse t)) same ∙ kept-ends is_white front)) in
+        let none : front ≡ [] = none-reversed front (none-parted (reverse front) parted (ap (λ (t : List ℕ). begins is_white (reverse t)) same ∙ kept-ends is_white front)) in
         let bad : t ∷ ts ≡ [] = sym ets ∙ ap trim_end none in cc
     closed_end parted (t ∷ ts) (g ∷ gs) (b ∷ hs) ets egs ehs = record {
       back = (g ∷ gs) ++ ((b ∷ hs) ++ white);
@@ -216,9 +217,9 @@ pub record Parted (line : List ℕ) : Type 0 where
   pub indent_is : AllPass is_white indent
   pub hashes_are : AllPass is_hash hashes
   pub gap_is : AllPass is_white gap
-  pub behind_indent : first_is is_white (hashes ++ (gap ++ (text_of line ++ back))) ≡ false
-  pub behind_hashes : first_is is_hash (gap ++ (text_of line ++ back)) ≡ false
-  pub behind_gap : first_is is_white (text_of line ++ back) ≡ false
+  pub behind_indent : begins is_white (hashes ++ (gap ++ (text_of line ++ back))) ≡ false
+  pub behind_hashes : begins is_hash (gap ++ (text_of line ++ back)) ≡ false
+  pub behind_gap : begins is_white (text_of line ++ back) ≡ false
   pub depth : length hashes ≡ run_len 35 (trim_start line)
   pub shape : Shape (text_of line) back
 
@@ -233,9 +234,9 @@ parted line = record {
   indent_is = front-passes is_white line;
   hashes_are = front-passes is_hash (drop k line);
   gap_is = front-passes is_white after;
-  behind_indent = ap (first_is is_white) (sym (from_hashes ∙ ap (λ (t : List ℕ). hashes ++ t) from_gap)) ∙ front-stops is_white line;
-  behind_hashes = ap (first_is is_hash) (sym (same ∙ from_gap)) ∙ front-stops is_hash (drop k line);
-  behind_gap = ap (first_is is_white) (sym end.whole) ∙ front-stops is_white after;
+  behind_indent = ap (begins is_white) (sym (from_hashes ∙ ap (λ (t : List ℕ). hashes ++ t) from_gap)) ∙ front-stops is_white line;
+  behind_hashes = ap (begins is_hash) (sym (same ∙ from_gap)) ∙ front-stops is_hash (drop k line);
+  behind_gap = ap (begins is_white) (sym end.whole) ∙ front-stops is_white after;
   depth = length-prefix_len is_hash (drop k line);
   shape = end.shape;
 }
