@@ -13,7 +13,7 @@ use Rattle.md_leaves.specs.Blank.{blank_scheme}
 use Rattle.md_leaves.specs.Break.{at_break_code, before_code, break_ready, break_scheme, is_marker, sequence_code, start_code, without_marker}
 use Rattle.md_seam.specs.Spaces.{IsRest, calmed, is_current, rest_ready, sees_white, small_indent, any_size}
 use Rattle.md_seam.specs.Went.{entered, exited}
-use Rattle.md_seam.proofs.SpacesGoods.{Does, WhiteFits, seen-in, white_try}
+use Rattle.md_seam.proofs.SpacesGoods.{Does, WhiteFits, rest-calm, rest-none, seen-in, white_try}
 
 -- The blank line.
 
@@ -21,13 +21,6 @@ pub record BlankFits (T : Scheme) : Type 1 where
   pub white : WhiteFits T
   pub start : Fits T blank_scheme n.BlankLineStart
   pub behind : Fits T blank_scheme n.BlankLineAfter
-
--- at rest no whitespace is asked for
-rest-calm : (s : Scratch) → IsRest s → IsRest (calmed s)
-rest-calm s e = ap calmed e
-
-rest-none : (s : Scratch) → IsRest s → s.whitespace.size ≡ 0
-rest-none s e = ap (λ (t : Scratch). t.whitespace.size) e
 
 pub good_blank_start : (T : Scheme) (w : World) (x : Bool) → BlankFits T → rest_ready (spot w) (after_all T w.frames) → Does T n.BlankLineStart w (blank.start_code w x)
 good_blank_start T w true has r =

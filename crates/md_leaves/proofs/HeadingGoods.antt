@@ -19,7 +19,7 @@ use Rattle.md_leaves.specs.Bom.{bom_ready, bom_scheme, mark_at}
 use Rattle.md_leaves.specs.Heading.{at_break_code, before_code, behind_part, data_code, heading_link, heading_ready, heading_scheme, sees_text, sequence_further_code, sequence_open_code, start_code, without_size}
 use Rattle.md_seam.specs.Spaces.{IsRest, calmed, is_current, rest_ready, sees_white, small_indent, any_size}
 use Rattle.md_seam.specs.Went.{entered, entered_link, exited}
-use Rattle.md_seam.proofs.SpacesGoods.{Does, WhiteFits, seen-in, white_try}
+use Rattle.md_seam.proofs.SpacesGoods.{Does, WhiteFits, accepts-behind, rest-calm, rest-none, seen-in, white_try}
 
 -- The heading.
 
@@ -31,13 +31,6 @@ pub record HeadingFits (T : Scheme) : Type 1 where
   pub at_break : Fits T heading_scheme n.HeadingAtxAtBreak
   pub sequence_further : Fits T heading_scheme n.HeadingAtxSequenceFurther
   pub text : Fits T heading_scheme n.HeadingAtxData
-
--- at rest no whitespace is asked for
-rest-calm : (s : Scratch) → IsRest s → IsRest (calmed s)
-rest-calm s e = ap calmed e
-
-rest-none : (s : Scratch) → IsRest s → s.whitespace.size ≡ 0
-rest-none s e = ap (λ (t : Scratch). t.whitespace.size) e
 
 rest-size : (s : Scratch) → IsRest s → s.size ≡ 0
 rest-size s e = ap (λ (t : Scratch). t.size) e
@@ -155,13 +148,6 @@ good_bom_start T w true has r = (
 )
 good_bom_start T w false has r =
     (refuses T _ w _ _ w.events w.scratch r.1 r.0, refl)
-
--- a construct that ends behind the cell that is here
-accepts-behind : (T : Scheme) (n : StateName) (w : World) (P Q : Scratch → Type 0) (events : List Event) (s : Scratch) → w.point.index < w.setting.limit → Ends P Q (spot w) (after_all T w.frames) → P s →
-    Good T n w Ok (record w { events = events; point = after w.setting w.point; scratch = s })
-accepts-behind T n w P Q events s inside e is =
-    let less = weighs w.setting.limit 0 (state_number T (Next n) (spot w)) 0 (T.level n) (omega arith) (omega arith) in
-    (e.ok s (after w.setting w.point) w.setting is (grown-same w.setting) (takes w.setting w.point inside), omega (arith, less))
 
 pub good_bom_inside : (T : Scheme) (w : World) (x y : Bool) → BomFits T → bom_ready n.BomInside (spot w) (after_all T w.frames) →
     is_current (mark_at w.scratch.size) (seen (spot w)) ≡ x → nat_lt w.scratch.size 2 ≡ y → Does T n.BomInside w (bom.inside_code w x y)

@@ -6,17 +6,18 @@ use Rattle.md_engine.specs.declared.event.Event.{Event}
 use Rattle.md_engine.specs.declared.event.Point.{Point}
 use Rattle.md_engine.specs.declared.state.Name.{Name as StateName}
 use Rattle.md_engine.specs.declared.state.Name.TheVariants as n
-use Rattle.md_engine.specs.declared.state.State.TheVariants.{Nok, Next}
+use Rattle.md_engine.specs.declared.state.State.TheVariants.{Nok, Next, Ok}
 use Rattle.md_engine.specs.declared.state.State.{State}
 use Rattle.md_engine.specs.declared.event.Name.TheVariants.{SpaceOrTab}
 use Rattle.md_engine.specs.declared.tokenizer.Scratch.{Scratch}
-use Rattle.md_engine.specs.Scheme.{After, Ends, Fits, Good, Grown, Reaches, Scheme, Spot, after_all, seen, spot, spot_at, stands, work}
+use Rattle.md_engine.specs.Scheme.{After, Ends, Fits, Good, Grown, Reaches, Scheme, Spot, after_all, seen, spot, spot_at, stands, state_number, work}
 use Rattle.md_engine.specs.Run.{plain}
-use Rattle.md_engine.specs.World.{Setting, World}
+use Rattle.md_engine.specs.World.{Setting, World, after}
 use Rattle.md_engine.proofs.Falls.{later, later_at}
 use Rattle.md_engine.proofs.Local.{accepts, begins_try, consumes, refuses, turns}
-use Rattle.md_engine.proofs.Points.{cells-grow, stays, takes}
-use Rattle.md_seam.specs.Spaces.{after_code, asking, calmed, inside_code, rest_ready, start_code, white_ready, white_scheme, white_then}
+use Rattle.md_engine.proofs.Points.{cells-grow, grown-same, stays, takes}
+use Rattle.md_engine.proofs.Powers.{weighs}
+use Rattle.md_seam.specs.Spaces.{IsRest, after_code, asking, calmed, inside_code, rest_ready, start_code, white_ready, white_scheme, white_then}
 use Rattle.md_seam.specs.Went.{Went, entered, exited}
 
 -- what a state does keeps what the table needs, and falls; no state changes the setting
@@ -58,6 +59,20 @@ ends-grow P Q x K t e up = later_at P Q x K x.point t x.scratch up (stays t.limi
 
 pub rest-grows : (x : Spot) (K : After) (t : Setting) → rest_ready x K → Grown x.setting t → rest_ready (record x { setting = t }) K
 rest-grows x K t r up = (r.0, ends-grow _ _ x K t r.1 up)
+
+-- at rest no whitespace is asked for
+pub rest-calm : (s : Scratch) → IsRest s → IsRest (calmed s)
+rest-calm s e = ap calmed e
+
+pub rest-none : (s : Scratch) → IsRest s → s.whitespace.size ≡ 0
+rest-none s e = ap (λ (t : Scratch). t.whitespace.size) e
+
+-- a construct that ends behind the cell that is here
+pub accepts-behind : (T : Scheme) (n : StateName) (w : World) (P Q : Scratch → Type 0) (events : List Event) (s : Scratch) → w.point.index < w.setting.limit → Ends P Q (spot w) (after_all T w.frames) → P s →
+    Good T n w Ok (record w { events = events; point = after w.setting w.point; scratch = s })
+accepts-behind T n w P Q events s inside e is =
+    let less = weighs w.setting.limit 0 (state_number T (Next n) (spot w)) 0 (T.level n) (omega arith) (omega arith) in
+    (e.ok s (after w.setting w.point) w.setting is (grown-same w.setting) (takes w.setting w.point inside), omega (arith, less))
 
 pub record WhiteFits (T : Scheme) : Type 1 where
   pub start : Fits T white_scheme n.SpaceOrTabStart

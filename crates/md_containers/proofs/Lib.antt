@@ -1,0 +1,2 @@
+pub mod QuoteGoods
+pub mod QuoteSteps

@@ -1,0 +1,56 @@
+-- The prefix of a block quote.
+use Rattle.std.specs.Prelude.{ℕ, Bool, true, false}
+use Rattle.md_engine.specs.declared.event.Name.TheVariants.{BlockQuote, BlockQuoteMarker, BlockQuotePrefix, SpaceOrTab}
+use Rattle.md_engine.specs.declared.state.Name.{Name as StateName}
+use Rattle.md_engine.specs.declared.state.Name.TheVariants.{BlockQuoteStart, BlockQuoteContStart, BlockQuoteContBefore, BlockQuoteContAfter}
+use Rattle.md_engine.specs.declared.state.State.TheVariants.{Ok, Nok, Next, Retry}
+use Rattle.md_engine.specs.Scheme.{Scheme, Spot}
+use Rattle.md_engine.specs.World.{World}
+use Rattle.md_seam.specs.Spaces.{is_current, rest_ready, sees_white, small_indent, white_then}
+use Rattle.md_seam.specs.Went.{Went, entered, exited, taken}
+
+-- by whether quotes are on
+abbrev pub start_code : World → Bool → Went
+start_code w true = record { to = Retry BlockQuoteContStart; world = entered w BlockQuote }
+start_code w false = record { to = Nok; world = w }
+
+-- by whether whitespace stands here
+abbrev pub cont_start_code : World → Bool → Went
+cont_start_code w true = white_then w 1 (small_indent w.setting.options) (Next BlockQuoteContBefore) Nok
+cont_start_code w false = record { to = Retry BlockQuoteContBefore; world = w }
+
+-- by whether `>` stands here
+abbrev pub cont_before_code : World → Bool → Went
+cont_before_code w true = record { to = Next BlockQuoteContAfter; world = exited (taken (entered (entered w BlockQuotePrefix) BlockQuoteMarker)) BlockQuoteMarker }
+cont_before_code w false = record { to = Nok; world = w }
+
+-- by whether whitespace stands here
+abbrev pub cont_after_code : World → Bool → Went
+cont_after_code w true = record { to = Ok; world = exited (exited (taken (entered w SpaceOrTab)) SpaceOrTab) BlockQuotePrefix }
+cont_after_code w false = record { to = Ok; world = exited w BlockQuotePrefix }
+
+-- each state with what it does, where there is memory
+abbrev pub start_went : World → Went
+start_went w = start_code w w.setting.options.constructs.block_quote
+
+abbrev pub cont_start_went : World → Went
+cont_start_went w = cont_start_code w (sees_white w.current)
+
+abbrev pub cont_before_went : World → Went
+cont_before_went w = cont_before_code w (is_current 62 w.current)
+
+abbrev pub cont_after_went : World → Went
+cont_after_went w = cont_after_code w (sees_white w.current)
+
+abbrev pub quote_rank : StateName → Spot → ℕ
+quote_rank BlockQuoteStart x = 6
+quote_rank BlockQuoteContStart x = 5
+quote_rank BlockQuoteContBefore x = 3
+quote_rank _ x = 2
+
+abbrev pub quote_tries : StateName → ℕ
+quote_tries BlockQuoteContBefore = 4
+quote_tries _ = 1
+
+abbrev pub quote_scheme : Scheme
+quote_scheme = record { ready = λ n x K. rest_ready x K; level = λ n. 1; rank = quote_rank; tries = quote_tries }

@@ -1,0 +1,53 @@
+-- The rule of the prefix of a block quote, as what is left of it at each state (CommonMark 5.1).
+use Rattle.std.specs.Prelude.{◌≡◌, ◌==◌, if◌then◌else◌, List, [], ◌∷◌, ◌++◌}
+use Rattle.md_engine.specs.declared.configuration.ParseOptions.{ParseOptions}
+use Rattle.md_engine.specs.declared.event.Name.TheVariants.{BlockQuote, BlockQuoteMarker, BlockQuotePrefix, SpaceOrTab}
+use Rattle.md_engine.specs.declared.state.Name.TheVariants.{BlockQuoteStart, BlockQuoteContStart, BlockQuoteContBefore, BlockQuoteContAfter}
+use Rattle.md_engine.specs.Meaning.{Accepts, Behaviour, Cell, Here, Outcome, Refuses}
+use Rattle.md_seam.specs.Ahead.{HasWhite, begins_white, white_end, white_rest}
+use Rattle.md_seam.specs.Nested.{enter, exit, pair}
+use Rattle.md_seam.specs.Rest.{is_white}
+use Rattle.md_seam.specs.Spaces.{calmed, small_indent}
+
+-- the end of the prefix
+abbrev pub prefix_ended : List Cell → Here → Outcome
+prefix_ended cells h = Accepts (record h { events = h.events ++ exit BlockQuotePrefix h.point ∷ [] }) cells
+
+-- behind `>`: one column of whitespace belongs to the prefix
+unfoldable pub behind_marker : List Cell → Here → Outcome
+behind_marker [] h = prefix_ended [] h
+behind_marker (c ∷ cs) h =
+    if is_white c.byte
+    then prefix_ended cs (record h { events = h.events ++ pair SpaceOrTab h.point c.after; point = c.after })
+    else prefix_ended (c ∷ cs) h
+
+-- behind the indent
+unfoldable pub at_marker : List Cell → Here → Outcome
+at_marker [] h = Refuses h.scratch h.flags
+at_marker (c ∷ cs) h =
+    if c.byte == 62
+    then behind_marker cs (record h { events = h.events ++ enter BlockQuotePrefix h.point ∷ pair BlockQuoteMarker h.point c.after; point = c.after })
+    else Refuses h.scratch h.flags
+
+-- the prefix of a line: a small indent, `>`, and at most one column of whitespace
+unfoldable pub prefix_at : ParseOptions → List Cell → Here → Outcome
+prefix_at options cells h =
+    let room = small_indent options in
+    let p = white_end room cells h.point in
+    if begins_white cells
+    then at_marker (white_rest room cells) (record h { events = h.events ++ pair SpaceOrTab h.point p; point = p; scratch = calmed h.scratch })
+    else at_marker cells h
+
+-- the whole rule, if quotes are on
+unfoldable pub quote_at : ParseOptions → List Cell → Here → Outcome
+quote_at options cells h =
+    if options.constructs.block_quote
+    then prefix_at options cells (record h { events = h.events ++ enter BlockQuote h.point ∷ [] })
+    else Refuses h.scratch h.flags
+
+pub record HasQuote (B : Behaviour) (options : ParseOptions) : Type 0 where
+  pub white : HasWhite B
+  pub start : (cells : List Cell) (h : Here) → B BlockQuoteStart cells h ≡ quote_at options cells h
+  pub cont_start : (cells : List Cell) (h : Here) → B BlockQuoteContStart cells h ≡ prefix_at options cells h
+  pub cont_before : (cells : List Cell) (h : Here) → B BlockQuoteContBefore cells h ≡ at_marker cells h
+  pub cont_after : (cells : List Cell) (h : Here) → B BlockQuoteContAfter cells h ≡ behind_marker cells h

@@ -1,0 +1,105 @@
+// Block quotes (CommonMark 5.1).
+//
+//     block_quote_prefix ::= small_indent '>' [ space_or_tab ]
+//
+// A quote begins on a line with its prefix and goes on with each further line that has it. `start` adds the begin of
+// `BlockQuote` in front of the prefix. The prefix is its indent, and `BlockQuotePrefix` around `BlockQuoteMarker` and at most
+// one column of whitespace.
+
+ghost use Rattle.std.specs.Prelude.{◌≡◌, ◌≢◌};
+ghost use Rattle.md_engine.specs.World.{world};
+ghost use Rattle.md_engine.specs.declared.state.Name.{Name as StateName};
+ghost use Rattle.md_engine.specs.declared.state.State.{State};
+ghost use Rattle.md_containers.specs.Quote.{cont_after_went, cont_before_went, cont_start_went, start_went};
+ghost use Rattle.md_seam.specs.Went.{IsAt, NeedsNothing};
+
+use md_engine::event::Name;
+use md_engine::or_error;
+use md_engine::state::{Name as StateName, State};
+use md_engine::tokenizer::Tokenizer;
+use md_seam::space_or_tab::{is_space_or_tab, small_indent, space_or_tab_min_max};
+
+/// Before a quote.
+///
+/// ```markdown
+/// > | > a
+///     ^
+/// ```
+pub fn start(tokenizer: &mut Tokenizer) -> State
+    requires { IsAt NeedsNothing StateName.BlockQuoteStart (world tokenizer.old) }
+    ensures to { result ≢ State.Error → result ≡ (start_went (world tokenizer.old)).to }
+    ensures world { result ≢ State.Error → world tokenizer.new ≡ (start_went (world tokenizer.old)).world }
+{
+    if !tokenizer.options.constructs.block_quote {
+        return State::Nok;
+    }
+    or_error!(tokenizer.enter(Name::BlockQuote));
+    State::Retry(StateName::BlockQuoteContStart)
+}
+
+/// Before the prefix of a line.
+///
+/// ```markdown
+///   | > a
+/// > | > b
+///     ^
+/// ```
+pub fn cont_start(tokenizer: &mut Tokenizer) -> State
+    requires { IsAt NeedsNothing StateName.BlockQuoteContStart (world tokenizer.old) }
+    ensures to { result ≢ State.Error → result ≡ (cont_start_went (world tokenizer.old)).to }
+    ensures world { result ≢ State.Error → world tokenizer.new ≡ (cont_start_went (world tokenizer.old)).world }
+{
+    if is_space_or_tab(tokenizer.current) {
+        let max = small_indent(tokenizer);
+        space_or_tab_min_max(
+            tokenizer,
+            1,
+            max,
+            State::Next(StateName::BlockQuoteContBefore),
+            State::Nok,
+        )
+    } else {
+        State::Retry(StateName::BlockQuoteContBefore)
+    }
+}
+
+/// Behind the indent, at `>`.
+///
+/// ```markdown
+/// > | > a
+///     ^
+/// ```
+pub fn cont_before(tokenizer: &mut Tokenizer) -> State
+    requires { IsAt NeedsNothing StateName.BlockQuoteContBefore (world tokenizer.old) }
+    ensures to { result ≢ State.Error → result ≡ (cont_before_went (world tokenizer.old)).to }
+    ensures world { result ≢ State.Error → world tokenizer.new ≡ (cont_before_went (world tokenizer.old)).world }
+{
+    if tokenizer.current != Some(b'>') {
+        return State::Nok;
+    }
+    or_error!(tokenizer.enter(Name::BlockQuotePrefix));
+    or_error!(tokenizer.enter(Name::BlockQuoteMarker));
+    tokenizer.consume();
+    or_error!(tokenizer.exit(Name::BlockQuoteMarker));
+    State::Next(StateName::BlockQuoteContAfter)
+}
+
+/// Behind `>`: one column of whitespace belongs to the prefix, if it is there.
+///
+/// ```markdown
+/// > | > a
+///      ^
+/// ```
+pub fn cont_after(tokenizer: &mut Tokenizer) -> State
+    requires { IsAt NeedsNothing StateName.BlockQuoteContAfter (world tokenizer.old) }
+    ensures to { result ≢ State.Error → result ≡ (cont_after_went (world tokenizer.old)).to }
+    ensures world { result ≢ State.Error → world tokenizer.new ≡ (cont_after_went (world tokenizer.old)).world }
+{
+    if is_space_or_tab(tokenizer.current) {
+        or_error!(tokenizer.enter(Name::SpaceOrTab));
+        tokenizer.consume();
+        or_error!(tokenizer.exit(Name::SpaceOrTab));
+    }
+    or_error!(tokenizer.exit(Name::BlockQuotePrefix));
+    State::Ok
+}

@@ -1,0 +1,4 @@
+// Containers: block quotes.
+#![tactic(auto)]
+
+pub mod block_quote;
