@@ -1,6 +1,6 @@
 -- What an outline has read of some events is what the events spell out.
 use Rattle.std.proofs.Common.{◌≡◌, ℕ, ◌+◌, ◌<◌, ◌≤◌, Bool, true, false, cond, ◌||◌, ◌==◌, not, List, [], ◌∷◌, ◌++◌, length, drop, get_or, slice_range, Result, Ok, Err, refl, sym, ◌∙◌, ap, subst, append_assoc, append-nil, arith}
-use Rattle.std.specs.Prelude.{Option, Some, None, option_map, nat_le, nat_lt, OnOk}
+use Rattle.std.specs.Prelude.{Option, Some, None, option_map, nat_lt, OnOk}
 use Rattle.std.specs.List.{list_all}
 use Rattle.std.specs.Str.{IsUtf8}
 use Rattle.std.proofs.lemmas.Bool.{and_from, and_parts, true≢false}
@@ -21,7 +21,7 @@ use Rattle.md_seam.specs.Texts.{split_lines, trim_each}
 use Rattle.md_seam.specs.Tree.{Block, Blocks, Break, End, Heading, Line, More, Paragraph}
 use Rattle.markdown_blocks.specs.Between.{is_between}
 use Rattle.markdown_blocks.specs.Outlined.{IsOutlined, are_shallow, has_plain_name, is_plain, is_shallow, is_told, is_whole}
-use Rattle.markdown_blocks.specs.Sketched.{BeginsBetween, BreakSketch, HeadingSketch, IsCut, LeafIsText, LeafSketch, Sketch, byte_depth, heading_entries, leaf_ended, marked, paragraph_entries, shown_as, sketch_by, sketch_enter, sketch_exit, sketched, titled, title_entries, told, told_at, told_title, unsketched}
+use Rattle.markdown_blocks.specs.Sketched.{BeginsBetween, BreakSketch, HeadingSketch, IsCut, LeafIsText, LeafSketch, Sketch, byte_depth, heading_entries, leaf_ended, marked, paragraph_entries, shown_as, sketch_by, sketch_enter, sketch_exit, sketched, titled, title_entries, told, told_at, unsketched}
 use Rattle.markdown_blocks.specs.declared.outline.Purpose.{Purpose}
 use Rattle.markdown_blocks.specs.declared.outline.Purpose.TheVariants as purpose
 use Rattle.markdown_blocks.specs.declared.outline.Role.{Role}

@@ -152,7 +152,7 @@ fn push<'a>(
     }
 }
 
-/// Adds the lines of a paragraph's text.
+/// Adds the lines of a text.
 fn push_lines<'a>(lines: &mut Vec<OutlineLine<'a>>, text: &'a [u8]) -> Result<(), Message>
     ensures { OnOk result (IsUtf8 text.now → entries_of lines.new.items ≡ entries_of lines.old.items ++ text_entries text.now) }
 {
