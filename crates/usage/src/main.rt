@@ -1,4 +1,4 @@
-// How to use the library: this program prints how many paragraphs and breaks a text has, and the lines of the paragraphs.
+// How to use the library: this program prints the lines of the headings and paragraphs of a text, and a line for each break.
 #![tactic(auto)]
 
 ghost use Rattle.markdown_blocks.specs.Parsed.{IsSmall};
@@ -10,8 +10,8 @@ use markdown_blocks::parser::parse;
 use std::alloc::Global;
 use std::process::ExitCode;
 
-/// Thematic breaks, and no other construct.
-const BREAKS: ParseOptions = ParseOptions {
+/// ATX headings and thematic breaks, and no other construct.
+const LEAVES: ParseOptions = ParseOptions {
     constructs: Constructs {
         block_quote: false,
         code_fenced: false,
@@ -20,7 +20,7 @@ const BREAKS: ParseOptions = ParseOptions {
         frontmatter: false,
         gfm_footnote_definition: false,
         gfm_table: false,
-        heading_atx: false,
+        heading_atx: true,
         heading_setext: false,
         html_flow: false,
         list_item: false,
@@ -34,11 +34,11 @@ const BREAKS: ParseOptions = ParseOptions {
     },
 };
 
-/// The lines of all paragraphs, and a line `---` for each break.
+/// The lines of all headings and paragraphs, and a line `---` for each break.
 fn plain_text(alloc: Global, text: &str) -> Result<String, Message>
     requires { IsSmall text.now }
 {
-    let (events, state) = parse(alloc, text, &BREAKS)?;
+    let (events, state) = parse(alloc, text, &LEAVES)?;
     let mut plain = String::new(alloc);
     for line in outline(alloc, &events, &state)?.iter() {
         let part = match line.word {
@@ -54,7 +54,7 @@ fn plain_text(alloc: Global, text: &str) -> Result<String, Message>
 }
 
 fn main(rt: HostRuntime) -> ExitCode {
-    match plain_text(rt.alloc(), "  a\nb\n\n* * *\n\nc") {
+    match plain_text(rt.alloc(), "# a #\n  b\nc\n\n* * *\n\nd") {
         Ok(plain) if rt.print(&plain).is_ok() => ExitCode::SUCCESS,
         _ => ExitCode::FAILURE,
     }
