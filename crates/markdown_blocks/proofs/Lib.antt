@@ -5,6 +5,7 @@ pub mod FlowLemmas
 pub mod FlowMeans
 pub mod FlowRuns
 pub mod FlowEnds
+pub mod PiecesLemmas
 pub mod RowFacts
 pub mod FeedLines
 pub mod HeadingSpread
@@ -36,3 +37,4 @@ pub mod MarkLemmas
 pub mod DocumentStates
 pub mod DocumentMeans
 pub mod DocumentReads
+pub mod TileCovers

@@ -10,6 +10,7 @@ use Rattle.md_seam.specs.Places.{at_or_before, past_text}
 use Rattle.md_seam.proofs.SpelledLemmas.{Roles, Quiet}
 use Rattle.md_seam.proofs.TextsLemmas.{Ending, EndsBefore, NoEnding, ending_bytes}
 use Rattle.markdown_blocks.specs.Rows.{HeadingRow, Row, TextRow, line_kind}
+use Rattle.markdown_blocks.proofs.PiecesLemmas.{Tiled}
 
 -- what stands in a line that is no heading: nothing that the tree shows
 pub record IsInside (row : Row) : Type 0 where
@@ -17,6 +18,7 @@ pub record IsInside (row : Row) : Type 0 where
   pub balanced : Balanced row.inside
   pub forward : Forward row.first row.inside
   pub within : IsTrue (at_or_before (last_point row.first row.inside) row.end)
+  pub covers : row.kind ≢ TextRow → Tiled row.first row.end row.inside
 
 -- a line without its ending, as a row
 pub record IsRow (options : ParseOptions) (bytes line : List ℕ) (row : Row) : Type 0 where

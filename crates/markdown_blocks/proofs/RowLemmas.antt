@@ -1,12 +1,13 @@
 -- The lines that flow reads are those of the text.
 use Rattle.std.proofs.Common.{◌≡◌, ◌≢◌, ℕ, zero, suc, ◌+◌, ◌^◌, ◌<◌, ◌≤◌, Bool, true, false, cond, List, [], ◌∷◌, ◌++◌, length, drop, refl, sym, ap, ◌∙◌, subst, arith, append-nil, append_assoc, inl, inr, ◌⊎◌}
-use Rattle.std.specs.Prelude.{◌==◌, IsTrue, Some}
+use Rattle.std.specs.Prelude.{◌==◌, IsTrue, Some, map}
 use Rattle.std.specs.List.{prefix_len}
-use Rattle.std.proofs.lemmas.Bool.{eqb-true, or_from}
+use Rattle.std.proofs.lemmas.Bool.{eqb-true, or_from, and_parts}
 use Rattle.std.proofs.lemmas.Bool.Decides.{nat_tests}
 use Rattle.std.proofs.lemmas.List.{length-append, take-append-drop}
 use Rattle.md_engine.specs.declared.configuration.ParseOptions.{ParseOptions}
 use Rattle.md_engine.specs.declared.event.Event.{Event}
+use Rattle.md_engine.specs.declared.event.Kind.TheVariants.{Enter}
 use Rattle.md_engine.specs.declared.event.Name.{Name}
 use Rattle.md_engine.specs.declared.event.Name.TheVariants as n
 use Rattle.md_engine.specs.declared.event.Point.{Point}
@@ -17,21 +18,23 @@ use Rattle.md_engine.specs.World.{Setting}
 use Rattle.md_engine.proofs.TextFeed.{text-follows}
 use Rattle.md_leaves.specs.BlankRule.{blank_events}
 use Rattle.md_leaves.specs.BreakRule.{Apart, Marks, Run, White, runs}
-use Rattle.md_seam.specs.Ahead.{begins_white, from_ending, line_cells, line_end, point_after, white_rest}
-use Rattle.md_seam.specs.Nested.{Balanced, Forward, Matches, last_point, open_after, pair}
-use Rattle.md_seam.specs.Places.{at_or_before, past_byte, past_text}
-use Rattle.md_seam.specs.Rest.{is_white, trim_start}
+use Rattle.md_leaves.specs.HeadingRule.{is_heading_line}
+use Rattle.md_seam.specs.Ahead.{begins_white, from_ending, line_cells, line_end, point_after, white_rest, line_bytes, white_end}
+use Rattle.md_seam.specs.Nested.{Balanced, Forward, Matches, last_point, open_after, pair, enter, exit}
+use Rattle.md_seam.specs.Places.{at_or_before, past_byte, past_text, same_place}
+use Rattle.md_seam.specs.Rest.{is_white, trim_start, is_blank}
 use Rattle.md_seam.specs.Spaces.{small_indent}
 use Rattle.md_seam.specs.Texts.{split_lines}
-use Rattle.md_seam.proofs.InlineLemmas.{past-index}
+use Rattle.md_seam.proofs.InlineLemmas.{past-index, same-refl}
 use Rattle.md_seam.proofs.NestedLemmas.{at_or_before-refl, at_or_before-trans, balanced-append, balanced-none, forward-append, forward-from, last_point-append}
 use Rattle.md_seam.proofs.SpelledLemmas.{Quiet, Roles, roles-append}
 use Rattle.md_seam.proofs.TextsLemmas.{Both, Ending, EndsBefore, LineFeed, NoEnding, Return, ending_bytes, split-line, split-next}
 use Rattle.markdown_blocks.specs.FlowReads.{text_cells, text_rows, text_setting}
-use Rattle.markdown_blocks.specs.Rows.{BlankRow, BreakRow, HeadingRow, Row, RowKind, TextRow, after_ending, break_inside, first_cell, inside_of, row_at, row_kind, rows_at}
+use Rattle.markdown_blocks.specs.Rows.{BlankRow, BreakRow, HeadingRow, Row, RowKind, TextRow, after_ending, break_inside, first_cell, inside_of, row_at, row_kind, rows_at, is_break}
 use Rattle.markdown_blocks.proofs.FeedLines.{HasEnding, HasLine, behind_last, begun-none, byte-end, byte_cells, cell, columns_more, drop-past, ending-feed, ending-some, feed-none, front-within, is-ending, line-feed, next_column, past_ending, past_text-column, past_text-whole, slice-front, spread, spread-end, tab_cells}
 use Rattle.markdown_blocks.proofs.HeadingRuns.{heading-runs}
 use Rattle.markdown_blocks.proofs.LineKinds.{Stops, kind-spread, no_ending-trim, small-end, small-rest, spread-line, spread-line_end, spread-rest, white_front}
+use Rattle.markdown_blocks.proofs.PiecesLemmas.{Shut, Tiled, shut-exit, tiled-append, tiled-enter, tiled-none, tiled-pair}
 use Rattle.markdown_blocks.proofs.RowFacts.{AreRows, IsEnding, IsInside, IsRow}
 
 -- Points go forward.
@@ -171,6 +174,104 @@ inside-runs m cells p k =
     let spans = spans-runs Apart m cells p p (at_or_before-refl p) k in
     record { quiet = quiet-runs Apart m cells p; balanced = record { matches = matches-runs Apart m cells p; closed = closes-runs Apart m cells p }; forward = spans.0; within = spans.1 }
 
+-- The runs of a break cover it: behind an enter, they shut it.
+
+-- a run that was begun
+abbrev IsOpen : Run → Type 0
+IsOpen Apart = ⊥
+IsOpen Marks = Unit {0}
+IsOpen White = Unit {0}
+
+shut-runs : (run : Run) (m : ℕ) (cells : List Cell) (e : Event) (p : Point) → IsOpen run → e.kind ≡ Enter → Shut e (point_after cells p) (runs run m cells p)
+shut-runs Apart m cells e p ok h = absurd ok
+shut-runs Marks m [] e p ok h = shut-exit e (exit n.ThematicBreakSequence p) p [] h refl (tiled-none p p (same-refl p))
+shut-runs White m [] e p ok h = shut-exit e (exit n.SpaceOrTab p) p [] h refl (tiled-none p p (same-refl p))
+shut-runs Marks m (c ∷ cs) e p ok h =
+    let white : Event = enter n.SpaceOrTab p in
+    let end : Point = point_after cs c.after in
+    let more : List Event = runs White m cs c.after in
+    either (Shut e end) (c.byte == m) _ _ (shut-runs Marks m cs e c.after tt h)
+    (shut-exit e (exit n.ThematicBreakSequence p) end (white ∷ more) h refl (tiled-enter white end more refl (shut-runs White m cs white c.after tt refl)))
+shut-runs White m (c ∷ cs) e p ok h =
+    let marks : Event = enter n.ThematicBreakSequence p in
+    let end : Point = point_after cs c.after in
+    let more : List Event = runs Marks m cs c.after in
+    either (Shut e end) (c.byte == m) _ _ (shut-exit e (exit n.SpaceOrTab p) end (marks ∷ more) h refl (tiled-enter marks end more refl (shut-runs Marks m cs marks c.after tt refl)))
+    (shut-runs White m cs e c.after tt h)
+
+tiled-runs : (m : ℕ) (cells : List Cell) (p : Point) → Tiled p (point_after cells p) (runs Apart m cells p)
+tiled-runs m [] p = tiled-none p p (same-refl p)
+tiled-runs m (c ∷ cs) p =
+    let marks : Event = enter n.ThematicBreakSequence p in
+    let white : Event = enter n.SpaceOrTab p in
+    let end : Point = point_after cs c.after in
+    either (Tiled p end) (c.byte == m) _ _ (tiled-enter marks end (runs Marks m cs c.after) refl (shut-runs Marks m cs marks c.after tt refl))
+    (tiled-enter white end (runs White m cs c.after) refl (shut-runs White m cs white c.after tt refl))
+
+-- the whitespace at the begin of a line
+white-tiled : (cells : List Cell) (p q : Point) → (begins_white cells ≡ false → p ≡ q) → Tiled p q (cond (begins_white cells) (pair n.SpaceOrTab p q) [])
+white-tiled cells p q none = go (begins_white cells) none
+  where
+    go : (t : Bool) → (t ≡ false → p ≡ q) → Tiled p q (cond t (pair n.SpaceOrTab p q) [])
+    go true none = tiled-pair n.SpaceOrTab p q
+    go false none = tiled-none p q (subst (λ (r : Point). same_place p r ≡ true) (none refl) (same-refl p))
+
+-- a blank line that does not begin with whitespace is empty
+blank-none : (cells : List Cell) (p : Point) → is_blank (line_bytes cells) ≡ true → begins_white cells ≡ false → p ≡ line_end cells p
+blank-none [] p h k = refl
+blank-none (c ∷ cs) p h k = go (c.byte == 10) h
+  where
+    go : (t : Bool) → is_blank (map (λ (d : Cell). d.byte) (cond t [] (c ∷ line_cells cs))) ≡ true → p ≡ point_after (cond t [] (c ∷ line_cells cs)) p
+    go true h = refl
+    go false h =
+        let white : is_white c.byte ≡ true = (and_parts (is_white c.byte) (is_blank (line_bytes cs)) h).0 in
+        let none : is_white c.byte ≡ false = k in
+        absurd (cc)
+
+white-no_ending : (b : ℕ) → is_white b ≡ true → (b == 10) ≡ false
+white-no_ending b h = grind (arith, nat_tests)
+
+-- a line ends where it ends behind its whitespace
+white-line_end : (room : ℕ) (cells : List Cell) (p : Point) → line_end (white_rest room cells) (white_end room cells p) ≡ line_end cells p
+white-line_end room [] p = refl
+white-line_end zero (c ∷ cs) p = refl
+white-line_end (suc room) (c ∷ cs) p = go (is_white c.byte) refl (white-line_end room cs c.after)
+  where
+    go : (t : Bool) → is_white c.byte ≡ t → line_end (white_rest room cs) (white_end room cs c.after) ≡ line_end cs c.after →
+        line_end (cond t (white_rest room cs) (c ∷ cs)) (cond t (white_end room cs c.after) p) ≡ line_end (c ∷ cs) p
+    go false e h = refl
+    go true e h = h ∙ ap (λ (s : Bool). point_after (cond s [] (c ∷ line_cells cs)) p) (sym (white-no_ending c.byte e))
+
+white-none : (room : ℕ) (cells : List Cell) (p : Point) → begins_white cells ≡ false → p ≡ white_end room cells p
+white-none room [] p h = refl
+white-none zero (c ∷ cs) p h = refl
+white-none (suc room) (c ∷ cs) p h = ap (λ (t : Bool). cond t (white_end room cs c.after) p) (sym h)
+
+blank-tiled : (cells : List Cell) (p : Point) → is_blank (line_bytes cells) ≡ true → Tiled p (line_end cells p) (blank_events cells p)
+blank-tiled cells p h = white-tiled cells p (line_end cells p) (blank-none cells p h)
+
+break-tiled : (options : ParseOptions) (cells : List Cell) (p : Point) → Tiled p (line_end cells p) (break_inside options cells p)
+break-tiled options cells p =
+    let room : ℕ = small_indent options in
+    let rest : List Cell = white_rest room cells in
+    let q : Point = white_end room cells p in
+    subst (λ (r : Point). Tiled p r (break_inside options cells p)) (white-line_end room cells p)
+    (tiled-append p q (line_end rest q) (cond (begins_white cells) (pair n.SpaceOrTab p q) []) (runs Apart (first_cell rest) (line_cells rest) q)
+    (white-tiled cells p q (white-none room cells p)) (tiled-runs (first_cell rest) (line_cells rest) q))
+
+-- a blank line or a break is covered by what stands inside
+row-tiled : (options : ParseOptions) (cells : List Cell) (p : Point) (kind : RowKind) → row_kind options cells ≡ kind → kind ≢ HeadingRow → kind ≢ TextRow → Tiled p (line_end cells p) (inside_of options cells p kind)
+row-tiled options cells p BlankRow e heading text = blank-tiled cells p (blank (is_blank (line_bytes cells)) (is_heading_line options cells) (is_break options cells) e)
+  where
+    blank : (x y z : Bool) → cond x BlankRow (cond y HeadingRow (cond z BreakRow TextRow)) ≡ BlankRow → x ≡ true
+    blank true y z e = refl
+    blank false true z e = cc
+    blank false false true e = cc
+    blank false false false e = cc
+row-tiled options cells p HeadingRow e heading text = absurd (heading refl)
+row-tiled options cells p BreakRow e heading text = break-tiled options cells p
+row-tiled options cells p TextRow e heading text = absurd (text refl)
+
 -- A row.
 
 inside-blank : (line : Line) (bytes : List ℕ) (p : Point) (rest : List Cell) → NoEnding bytes → Stops rest → 1 ≤ p.column → Inside p (past_text bytes p) (blank_events (spread line bytes p ++ rest) p)
@@ -225,6 +326,7 @@ is-row options bytes said line behind p rest off short h k one vs text =
       balanced = inside.balanced;
       forward = inside.forward;
       within = subst (λ (q : Point). IsTrue (at_or_before (last_point p (inside_of options cells p (row_kind options cells))) q)) (sym end) inside.within;
+      covers = row-tiled options cells p (row_kind options cells) refl other;
     } in
     record {
       kind = kind-spread options said line p rest off short h k one;

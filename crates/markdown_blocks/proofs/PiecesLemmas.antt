@@ -1,0 +1,136 @@
+-- Events whose innermost pairs lie side by side, from one point to another.
+use Rattle.std.proofs.Common.{◌≡◌, true, List, [], ◌∷◌, ◌++◌, refl, ap, sym, ◌∙◌, subst, append_assoc, arith}
+use Rattle.std.proofs.lemmas.Bool.Decides.{nat_tests}
+use Rattle.md_engine.specs.declared.event.Event.{Event}
+use Rattle.md_engine.specs.declared.event.Kind.{Kind}
+use Rattle.md_engine.specs.declared.event.Kind.TheVariants.{Enter, Exit}
+use Rattle.md_engine.specs.declared.event.Name.{Name}
+use Rattle.md_engine.specs.declared.event.Point.{Point}
+use Rattle.md_seam.specs.Inline.{Covers, Piece, piece_of, pieces, pieces_from}
+use Rattle.md_seam.specs.Nested.{around, enter, exit, pair}
+use Rattle.md_seam.specs.Places.{same_place}
+use Rattle.md_seam.proofs.InlineLemmas.{same-refl}
+
+-- events that begin with an enter, if there are any
+abbrev pub Begins : List Event → Type 0
+Begins [] = Unit {0}
+Begins (e ∷ es) = e.kind ≡ Enter
+
+-- events behind one of a kind, so that the last of all is an exit
+abbrev pub Ends : Kind → List Event → Type 0
+Ends kind [] = kind ≡ Exit
+Ends kind (e ∷ es) = Ends e.kind es
+
+-- Events that cover what stands between two points, and make no pair with an event before or behind them.
+pub record Tiled (p q : Point) (es : List Event) : Type 0 where
+  pub begins : Begins es
+  pub ends : Ends Exit es
+  pub covers : Covers p (pieces es) q
+
+-- Events behind an enter, which with it cover what stands between its point and another.
+pub record Shut (e : Event) (q : Point) (es : List Event) : Type 0 where
+  pub ends : Ends e.kind es
+  pub covers : Covers e.point (pieces_from e es) q
+
+-- Covering.
+
+covers-from : (p q r : Point) (xs : List Piece) → same_place p q ≡ true → Covers q xs r → Covers p xs r
+covers-from p q r [] h k = through r k
+  where
+    through : (s : Point) → same_place q s ≡ true → same_place p s ≡ true
+    through s k = grind (arith, nat_tests)
+covers-from p q r (x ∷ xs) h k = (through x.first k.0, k.1)
+  where
+    through : (s : Point) → same_place q s ≡ true → same_place p s ≡ true
+    through s k = grind (arith, nat_tests)
+
+covers-append : (p q r : Point) (xs ys : List Piece) → Covers p xs q → Covers q ys r → Covers p (xs ++ ys) r
+covers-append p q r [] ys h k = covers-from p q r ys h k
+covers-append p q r (x ∷ xs) ys h k = (h.0, covers-append x.after q r xs ys h.1 k)
+
+-- no pair arises in front of an enter
+pieces-before : (e : Event) (es : List Event) → Begins es → pieces_from e es ≡ pieces es
+pieces-before e [] h = refl
+pieces-before e (f ∷ es) h = go e.kind f.kind h
+  where
+    go : (k l : Kind) → l ≡ Enter → piece_of e f k l ++ pieces_from f es ≡ pieces_from f es
+    go Enter Enter h = refl
+    go Enter Exit h = absurd (cc)
+    go Exit Enter h = refl
+    go Exit Exit h = refl
+
+pieces_from-append : (e : Event) (xs ys : List Event) → Begins ys → pieces_from e (xs ++ ys) ≡ pieces_from e xs ++ pieces ys
+pieces_from-append e [] ys h = pieces-before e ys h
+pieces_from-append e (f ∷ xs) ys h =
+    ap (λ (l : List Piece). piece_of e f e.kind f.kind ++ l) (pieces_from-append f xs ys h)
+    ∙ sym (append_assoc (piece_of e f e.kind f.kind) (pieces_from f xs) (pieces ys))
+
+pieces-append : (xs ys : List Event) → Begins ys → pieces (xs ++ ys) ≡ pieces xs ++ pieces ys
+pieces-append [] ys h = refl
+pieces-append (e ∷ xs) ys h = pieces_from-append e xs ys h
+
+-- and none behind an exit
+pieces-behind : (e : Event) (xs : List Event) (f : Event) → Ends e.kind xs → pieces_from e (xs ++ f ∷ []) ≡ pieces_from e xs
+pieces-behind e [] f h = go e.kind f.kind h
+  where
+    go : (k l : Kind) → k ≡ Exit → piece_of e f k l ++ [] ≡ []
+    go Enter l h = absurd (cc)
+    go Exit Enter h = refl
+    go Exit Exit h = refl
+pieces-behind e (g ∷ xs) f h = ap (λ (l : List Piece). piece_of e g e.kind g.kind ++ l) (pieces-behind g xs f h)
+
+begins-append : (xs ys : List Event) → Begins xs → Begins ys → Begins (xs ++ ys)
+begins-append [] ys h k = k
+begins-append (e ∷ xs) ys h k = h
+
+ends-append : (kind : Kind) (xs ys : List Event) → Ends kind xs → Ends Exit ys → Ends kind (xs ++ ys)
+ends-append kind [] ys h k = subst (λ (l : Kind). Ends l ys) (sym h) k
+ends-append kind (e ∷ xs) ys h k = ends-append e.kind xs ys h k
+
+ends-exit : (kind : Kind) (xs : List Event) (f : Event) → f.kind ≡ Exit → Ends kind (xs ++ f ∷ [])
+ends-exit kind [] f h = h
+ends-exit kind (e ∷ xs) f h = ends-exit e.kind xs f h
+
+-- Ways to build such events.
+
+pub tiled-none : (p q : Point) → same_place p q ≡ true → Tiled p q []
+tiled-none p q h = record { begins = tt; ends = refl; covers = h }
+
+pub tiled-append : (p q r : Point) (xs ys : List Event) → Tiled p q xs → Tiled q r ys → Tiled p r (xs ++ ys)
+tiled-append p q r xs ys h k = record {
+  begins = begins-append xs ys h.begins k.begins;
+  ends = ends-append Exit xs ys h.ends k.ends;
+  covers = subst (λ (l : List Piece). Covers p l r) (sym (pieces-append xs ys k.begins)) (covers-append p q r (pieces xs) (pieces ys) h.covers k.covers);
+}
+
+-- an enter, and what shuts it
+pub tiled-enter : (e : Event) (q : Point) (es : List Event) → e.kind ≡ Enter → Shut e q es → Tiled e.point q (e ∷ es)
+tiled-enter e q es h k = record { begins = h; ends = k.ends; covers = k.covers }
+
+-- an exit shuts an enter, and others may follow
+pub shut-exit : (e f : Event) (q : Point) (es : List Event) → e.kind ≡ Enter → f.kind ≡ Exit → Tiled f.point q es → Shut e q (f ∷ es)
+shut-exit e f q es h k t = record { ends = subst (λ (l : Kind). Ends l es) (sym k) t.ends; covers = go e.kind f.kind h k }
+  where
+    more : Covers f.point (pieces_from f es) q
+    more = subst (λ (l : List Piece). Covers f.point l q) (sym (pieces-before f es t.begins)) t.covers
+
+    go : (k l : Kind) → k ≡ Enter → l ≡ Exit → Covers e.point (piece_of e f k l ++ pieces_from f es) q
+    go Enter Exit h k = (same-refl e.point, more)
+    go Enter Enter h k = absurd (cc)
+    go Exit l h k = absurd (cc)
+
+-- an enter with its exit
+pub tiled-two : (e f : Event) → e.kind ≡ Enter → f.kind ≡ Exit → Tiled e.point f.point (e ∷ f ∷ [])
+tiled-two e f h k = tiled-enter e f.point (f ∷ []) h (shut-exit e f f.point [] h k (tiled-none f.point f.point (same-refl f.point)))
+
+pub tiled-pair : (name : Name) (p q : Point) → Tiled p q (pair name p q)
+tiled-pair name p q = tiled-two (enter name p) (exit name q) refl refl
+
+-- a part covers what it stands around, also if that is empty
+pub tiled-around : (name : Name) (p q : Point) (es : List Event) → Tiled p q es → Tiled p q (around name p q es)
+tiled-around name p q [] h = tiled-pair name p q
+tiled-around name p q (e ∷ es) h = record {
+  begins = refl;
+  ends = ends-exit Enter (e ∷ es) (exit name q) refl;
+  covers = subst (λ (l : List Piece). Covers p l q) (sym (pieces-before (enter name p) ((e ∷ es) ++ exit name q ∷ []) h.begins ∙ pieces-behind e es (exit name q) h.ends)) h.covers;
+}
