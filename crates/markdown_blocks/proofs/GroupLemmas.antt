@@ -417,6 +417,18 @@ title-is options bytes line row is h =
       no_ending = no_ending-front text (drop size (drop first line)) (subst NoEnding parts front);
     }
 
+-- the text of a heading is a line
+pub title-lines : (options : ParseOptions) (bytes line : List ℕ) (row : Row) → IsRow options bytes line row → heading.is_heading (trim_start line) ≡ true → 0 < length (text_of line) →
+    are_lines bytes (past_text (take (front_len line + length (text_of line)) line) row.first)
+    (record { first = past_text (take (front_len line) line) row.first; after = past_text (take (front_len line + length (text_of line)) line) row.first } ∷ []) ≡ true
+title-lines options bytes line row is h some =
+    let end : Point = past_text (take (front_len line + length (text_of line)) line) row.first in
+    let title : IsTitle bytes line row.first = title-is options bytes line row is h in
+    and_from _ _
+    (ap (λ (l : List ℕ). is_one_line (split_lines l) (same_place end end)) title.slice
+    ∙ one-last (text_of line) some title.no_ending (same_place end end) (and_from _ _ (eq-eqb end.index end.index refl) (eq-eqb end.vs end.vs refl)))
+    refl
+
 -- the text of a heading is read
 text-becomes : (options : ParseOptions) (bytes line : List ℕ) (row : Row) (wants : Content → Bool) (reads : Readings) → wants content.Text ≡ true → ReadsText bytes reads →
     IsRow options bytes line row → heading.is_heading (trim_start line) ≡ true → Becomes wants reads (linked_text (title_of line row.first).text) (read_text bytes (title_of line row.first).text)
@@ -431,16 +443,6 @@ text-becomes options bytes line row wants reads w rt is h = go (length (text_of 
     chunk : Chunk
     chunk = record { first = begin; after = end }
 
-    title : IsTitle bytes line row.first
-    title = title-is options bytes line row is h
-
-    lines : 0 < length (text_of line) → are_lines bytes end (chunk ∷ []) ≡ true
-    lines some =
-        and_from _ _
-        (ap (λ (l : List ℕ). is_one_line (split_lines l) (same_place end end)) title.slice
-        ∙ one-last (text_of line) some title.no_ending (same_place end end) (and_from _ _ (eq-eqb end.index end.index refl) (eq-eqb end.vs end.vs refl)))
-        refl
-
     whole : list_all (λ (chunk : Chunk). chunk.after.vs == 0) (chunk ∷ []) ≡ true
     whole = and_from (end.vs == 0) true (eq-eqb end.vs 0 (past_text-whole (take (front_len line + length (text_of line)) line) row.first is.first_whole)) refl
 
@@ -448,7 +450,7 @@ text-becomes options bytes line row wants reads w rt is h = go (length (text_of 
     go true e = becomes-same wants reads [] tt
     go false e =
         part-becomes wants reads n.HeadingAtxText n.Data heading_link begin end chunk [] (plain_events bytes (record { kind = Text; chunks = chunk ∷ [] })) w refl
-        (λ answer r. rt (chunk ∷ []) answer r end (lines (grind (arith, nat_tests))) whole)
+        (λ answer r. rt (chunk ∷ []) answer r end (title-lines options bytes line row is h (grind (arith, nat_tests))) whole)
 
 title-becomes : (options : ParseOptions) (bytes line : List ℕ) (row : Row) (wants : Content → Bool) (reads : Readings) → wants content.Text ≡ true → ReadsText bytes reads →
     IsRow options bytes line row → heading.is_heading (trim_start line) ≡ true → Becomes wants reads (unread_title (title_of line row.first)) (read_title bytes (title_of line row.first))

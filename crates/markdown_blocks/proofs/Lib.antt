@@ -33,6 +33,7 @@ pub mod ParagraphReads
 pub mod TitleFacts
 pub mod TitleNests
 pub mod TitlePlaces
+pub mod TileParts
 pub mod MarkLemmas
 pub mod DocumentStates
 pub mod DocumentMeans
