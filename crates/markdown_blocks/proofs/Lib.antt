@@ -36,3 +36,4 @@ pub mod MarkLemmas
 pub mod DocumentStates
 pub mod DocumentMeans
 pub mod DocumentReads
+pub mod TileReads
