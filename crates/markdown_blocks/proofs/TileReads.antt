@@ -21,25 +21,25 @@ use Rattle.md_seam.specs.declared.inline.Chunk.{Chunk}
 use Rattle.md_seam.specs.declared.inline.PartKind.{PartKind}
 use Rattle.md_seam.specs.declared.inline.PartKind.TheVariants.{Text}
 use Rattle.md_seam.specs.Ahead.{begins_white, from_ending, line_cells, line_end, white_end, white_rest}
-use Rattle.md_seam.specs.Inline.{Fills, Part, Piece, in_order, is_linked, pieces, pieces_from, plain_chunk, plain_chunks, plain_events, together}
+use Rattle.md_seam.specs.Inline.{Fills, Part, in_order, pieces, plain_chunk, plain_chunks, plain_events, together}
 use Rattle.md_seam.specs.Nested.{around, enter, enter_link, exit, pair}
-use Rattle.md_seam.specs.Places.{at_or_before, past_byte, past_text}
+use Rattle.md_seam.specs.Places.{at_or_before, past_byte}
 use Rattle.md_seam.specs.Preamble.{has_mark}
 use Rattle.md_seam.specs.Rest.{trim_start}
 use Rattle.md_seam.specs.Spaces.{small_indent}
-use Rattle.md_seam.specs.Spelled.{Purpose, Role, Tells, role}
-use Rattle.md_seam.specs.Tiles.{EachRead, chunks, filled, filled_from, first_list, further_lists, inside_part, is_exit, is_part, part_at, part_kind, part_of, parts}
+use Rattle.md_seam.specs.Spelled.{Purpose, Tells, role}
+use Rattle.md_seam.specs.Tiles.{EachRead, chunks, filled, filled_from, first_list, further_lists, inside_part, is_part, part_at, part_kind, part_of, parts}
 use Rattle.md_seam.proofs.FilledLemmas.{part-tells}
 use Rattle.md_seam.proofs.InlineLemmas.{plain-fills}
 use Rattle.md_seam.proofs.NestedLemmas.{at_or_before-refl, at_or_before-trans}
 use Rattle.md_seam.proofs.NestsLemmas.{part-none, together-append}
 use Rattle.md_seam.proofs.SpelledLemmas.{Quiet, Roles}
 use Rattle.markdown_blocks.specs.Document.{body_point, mark_end, mark_events}
-use Rattle.markdown_blocks.specs.FlowReads.{text_rows}
+use Rattle.markdown_blocks.specs.FlowReads.{text_cells, text_rows}
 use Rattle.markdown_blocks.specs.Rows.{BlankRow, BreakRow, Group, HeadingRow, Lines, Row, RowKind, Single, TextRow, behind_row, chunks_of, ending_events, first_cell, group_events, groups, groups_events, inside_of, last_row, onto_groups, read_text, read_title, row_kind, row_title, rows_at, single_events_by}
 use Rattle.markdown_blocks.specs.Unread.{linked, titled_group, titled_groups, titled_row_by, unread_paragraph}
 use Rattle.markdown_blocks.proofs.GroupLemmas.{AreGroups, IsParagraph, IsSingle, groups-are, heading-line}
-use Rattle.markdown_blocks.proofs.JoinedLemmas.{EachNoContent, behind-is}
+use Rattle.markdown_blocks.proofs.JoinedLemmas.{EachNoContent, behind-is, rows_at-no_content}
 use Rattle.markdown_blocks.proofs.NestedRows.{ending-order}
 use Rattle.markdown_blocks.proofs.RowFacts.{AreRows, IsInside, IsRow}
 use Rattle.markdown_blocks.proofs.TitleFacts.{NoLinks, back-unlinked, front-unlinked}
@@ -63,6 +63,7 @@ record Fill (bytes : List ℕ) (blocks events : List Event) : Type 0 where
   parts_are : (ys : List Event) → parts (blocks ++ ys) ≡ own ++ parts ys
   read : (ys : List Event) (more : List (List Event)) → filled_from false (blocks ++ ys) (together lists ++ more) ≡ events ++ filled_from false ys more
 
+-- nothing stands behind them
 fill-all : (bytes : List ℕ) (blocks events : List Event) → Fill bytes blocks events → IsFilled bytes blocks events
 fill-all bytes blocks events fill = record {
   lists = fill.lists;
@@ -109,8 +110,9 @@ no_links-append : (xs ys : List Event) → NoLinks xs → NoLinks ys → NoLinks
 no_links-append [] ys h k = k
 no_links-append (e ∷ xs) ys h k = (h.0, no_links-append xs ys h.1 k)
 
-quiet-name : (name : Name) → Quiet (role name) → is_part name ≡ false
-quiet-name name h = go (is_part name) refl
+-- a name that the tree does not show is that of no part
+quiet-no_part : (name : Name) → Quiet (role name) → is_part name ≡ false
+quiet-no_part name h = go (is_part name) refl
   where
     go : (x : Bool) → is_part name ≡ x → x ≡ false
     go false e = refl
@@ -118,8 +120,9 @@ quiet-name name h = go (is_part name) refl
 
 quiet-no_parts : (es : List Event) → Roles Quiet es → NoParts es
 quiet-no_parts [] h = tt
-quiet-no_parts (e ∷ es) h = (quiet-name e.name h.0, quiet-no_parts es h.1)
+quiet-no_parts (e ∷ es) h = (quiet-no_part e.name h.0, quiet-no_parts es h.1)
 
+-- they have no parts, and nothing is read in their places
 passes-parts : (xs ys : List Event) → NoParts xs → parts (xs ++ ys) ≡ parts ys
 passes-parts [] ys h = refl
 passes-parts (e ∷ xs) ys h = ap (λ (l : List Part). l ++ parts (xs ++ ys)) (part-none e.kind e.name (xs ++ ys) h.0) ∙ passes-parts xs ys h.1
@@ -130,7 +133,6 @@ passes-filled (e ∷ xs) ys lists h =
     ap (λ (x : Option Link). cond (elim x [ None ↦ false | Some link ↦ true ]) (first_list lists ++ filled_from true (xs ++ ys) (further_lists lists)) (e ∷ filled_from false (xs ++ ys) lists)) h.0
     ∙ ap (λ (l : List Event). e ∷ l) (passes-filled xs ys lists h.1)
 
--- they stay as they are
 fill-same : (bytes : List ℕ) (xs : List Event) → NoLinks xs → NoParts xs → Fill bytes xs xs
 fill-same bytes xs h k = record { own = []; lists = []; each = tt; parts_are = λ ys. passes-parts xs ys k; read = λ ys more. passes-filled xs ys more h }
 
@@ -329,6 +331,7 @@ fill-single options bytes row is h TextRow e = absurd (is.other e)
 
 -- Paragraphs.
 
+-- a line ends no earlier than it begins
 line-order : (options : ParseOptions) (bytes line : List ℕ) (row : Row) → IsRow options bytes line row → IsTrue (at_or_before row.first row.end)
 line-order options bytes line row is = subst (λ (q : Point). IsTrue (at_or_before row.first q)) (sym is.end) (before-piece line row.first)
 
@@ -386,6 +389,13 @@ blocks-filled options bytes p lines rows are quiet unlinked =
     fill-all bytes (mark ++ titled_groups bytes (groups rows)) (mark ++ groups_events bytes (groups rows))
     (fill-append bytes mark mark (titled_groups bytes (groups rows)) (groups_events bytes (groups rows)) (fill-mark bytes)
     (fill-groups options bytes (groups rows) (groups-are options bytes p lines rows are quiet) (groups-unlinked rows unlinked)))
+
+-- So it is with the lines that flow reads.
+pub text-filled : (options : ParseOptions) (bytes : List ℕ) (p : Point) (lines : List (List ℕ)) → AreRows options bytes p lines (text_rows options bytes p) →
+    IsFilled bytes (mark_events bytes ++ titled_groups bytes (groups (text_rows options bytes p))) (mark_events bytes ++ groups_events bytes (groups (text_rows options bytes p)))
+text-filled options bytes p lines are =
+    let cells : List Cell = text_cells bytes options p in
+    blocks-filled options bytes p lines (text_rows options bytes p) are (rows_at-no_content options (suc (length cells)) cells p) (rows_at-unlinked options (suc (length cells)) cells p)
 
 -- The empty text has no events.
 
