@@ -140,26 +140,26 @@ nests-blank : (bytes : List ℕ) (row : Row) (gs : List Group) → Ordered bytes
 nests-blank bytes row gs o e nests =
     let inside : IsInside row = o.inside (blank-no_heading row.kind e) in
     record {
-  balanced =
-      subst (λ (k : RowKind). Balanced (single_events_by bytes k row ++ groups_events bytes gs)) (sym e)
-      (balanced-append (row.inside ++ ending_events n.BlankLineEnding row) (groups_events bytes gs) (balanced-append row.inside (ending_events n.BlankLineEnding row) inside.balanced (ending-balanced n.BlankLineEnding row)) nests.balanced);
-  forward =
-      subst (λ (k : RowKind). Forward row.first (single_events_by bytes k row ++ groups_events bytes gs)) (sym e)
-      (inside-forward n.BlankLineEnding row row.first row.inside (groups_events bytes gs) inside.forward inside.within o.ends nests.forward);
-}
+      balanced =
+          subst (λ (k : RowKind). Balanced (single_events_by bytes k row ++ groups_events bytes gs)) (sym e)
+          (balanced-append (row.inside ++ ending_events n.BlankLineEnding row) (groups_events bytes gs) (balanced-append row.inside (ending_events n.BlankLineEnding row) inside.balanced (ending-balanced n.BlankLineEnding row)) nests.balanced);
+      forward =
+          subst (λ (k : RowKind). Forward row.first (single_events_by bytes k row ++ groups_events bytes gs)) (sym e)
+          (inside-forward n.BlankLineEnding row row.first row.inside (groups_events bytes gs) inside.forward inside.within o.ends nests.forward);
+    }
 
 -- A break.
 nests-break : (bytes : List ℕ) (row : Row) (gs : List Group) → Ordered bytes row → row.kind ≡ BreakRow → Nests bytes (behind_row row) gs → Nests bytes row.first (Single row ∷ gs)
 nests-break bytes row gs o e nests =
     let inside : IsInside row = o.inside (break-no_heading row.kind e) in
     record {
-  balanced =
-      subst (λ (k : RowKind). Balanced (single_events_by bytes k row ++ groups_events bytes gs)) (sym e)
-      (around-balanced n.ThematicBreak n.LineEnding row.first row row.inside (groups_events bytes gs) inside.balanced nests.balanced);
-  forward =
-      subst (λ (k : RowKind). Forward row.first (single_events_by bytes k row ++ groups_events bytes gs)) (sym e)
-      (around-forward n.ThematicBreak n.LineEnding row row.inside (groups_events bytes gs) inside.forward inside.within o.ends nests.forward);
-}
+      balanced =
+          subst (λ (k : RowKind). Balanced (single_events_by bytes k row ++ groups_events bytes gs)) (sym e)
+          (around-balanced n.ThematicBreak n.LineEnding row.first row row.inside (groups_events bytes gs) inside.balanced nests.balanced);
+      forward =
+          subst (λ (k : RowKind). Forward row.first (single_events_by bytes k row ++ groups_events bytes gs)) (sym e)
+          (around-forward n.ThematicBreak n.LineEnding row row.inside (groups_events bytes gs) inside.forward inside.within o.ends nests.forward);
+    }
 
 -- A heading.
 nests-heading : (bytes : List ℕ) (row : Row) (gs : List Group) → Ordered bytes row → row.kind ≡ HeadingRow → Nests bytes (behind_row row) gs → Nests bytes row.first (Single row ∷ gs)
