@@ -39,3 +39,4 @@ pub mod DocumentStates
 pub mod DocumentMeans
 pub mod DocumentReads
 pub mod TileCovers
+pub mod TileReads

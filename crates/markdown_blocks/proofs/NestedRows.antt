@@ -225,7 +225,7 @@ nests-row bytes row (Single next ∷ gs) o nests TextRow e = nests-first bytes r
 nests-row bytes row (Lines next rows ∷ gs) o nests TextRow e = nests-next bytes row next rows gs o nests
 
 -- an ending has a byte at least
-ending-order : (bytes : List ℕ) (p q : Point) → IsEnding bytes p q → IsTrue (at_or_before p q)
+pub ending-order : (bytes : List ℕ) (p q : Point) → IsEnding bytes p q → IsTrue (at_or_before p q)
 ending-order bytes p q is = go is.ending is.size
   where
     further : (size : ℕ) → q.index ≡ p.index + suc size → IsTrue (at_or_before p q)

@@ -193,43 +193,6 @@ stands-part bytes name kind link p q cs named lines = record {
 abbrev pub IsUnlinked : Row → Type 0
 IsUnlinked row = row.kind ≢ HeadingRow → NoLinks row.inside
 
-abbrev pub EachUnlinked : List Row → Type 0
-EachUnlinked [] = Unit {0}
-EachUnlinked (row ∷ rows) = IsUnlinked row × EachUnlinked rows
-
-break-unlinked : (run : Run) (m : ℕ) (cells : List Cell) (p : Point) → NoLinks (runs run m cells p)
-break-unlinked Apart m [] p = tt
-break-unlinked Marks m [] p = (refl, tt)
-break-unlinked White m [] p = (refl, tt)
-break-unlinked Apart m (c ∷ cs) p =
-    either NoLinks (nat_eq c.byte m) (enter n.ThematicBreakSequence p ∷ runs Marks m cs c.after) (enter n.SpaceOrTab p ∷ runs White m cs c.after) (refl, break-unlinked Marks m cs c.after) (refl, break-unlinked White m cs c.after)
-break-unlinked Marks m (c ∷ cs) p =
-    either NoLinks (nat_eq c.byte m) (runs Marks m cs c.after) (exit n.ThematicBreakSequence p ∷ enter n.SpaceOrTab p ∷ runs White m cs c.after) (break-unlinked Marks m cs c.after) (refl, (refl, break-unlinked White m cs c.after))
-break-unlinked White m (c ∷ cs) p =
-    either NoLinks (nat_eq c.byte m) (exit n.SpaceOrTab p ∷ enter n.ThematicBreakSequence p ∷ runs Marks m cs c.after) (runs White m cs c.after) (refl, (refl, break-unlinked Marks m cs c.after)) (break-unlinked White m cs c.after)
-
-white-unlinked : (x : Bool) (p q : Point) → NoLinks (cond x (pair n.SpaceOrTab p q) [])
-white-unlinked x p q = either NoLinks x (pair n.SpaceOrTab p q) [] (refl, (refl, tt)) tt
-
-inside-unlinked : (options : ParseOptions) (cells : List Cell) (p : Point) (kind : RowKind) → kind ≢ HeadingRow → NoLinks (inside_of options cells p kind)
-inside-unlinked options cells p BlankRow other = white-unlinked (begins_white cells) p (line_end cells p)
-inside-unlinked options cells p HeadingRow other = absurd (other refl)
-inside-unlinked options cells p BreakRow other =
-    let room : ℕ = small_indent options in
-    let rest : List Cell = white_rest room cells in
-    let q : Point = white_end room cells p in
-    no_links-append (cond (begins_white cells) (pair n.SpaceOrTab p q) []) (runs Apart (first_cell rest) (line_cells rest) q) (white-unlinked (begins_white cells) p q) (break-unlinked Apart (first_cell rest) (line_cells rest) q)
-inside-unlinked options cells p TextRow other = tt
-
--- so are the lines that flow reads
-pub rows_at-unlinked : (options : ParseOptions) (size : ℕ) (cells : List Cell) (p : Point) → EachUnlinked (rows_at options size cells p)
-rows_at-unlinked options zero cells p = tt
-rows_at-unlinked options (suc size) cells p = (inside-unlinked options cells p (row_kind options cells), go (rows_at-unlinked options size) (from_ending cells))
-  where
-    go : ((cells : List Cell) (p : Point) → EachUnlinked (rows_at options size cells p)) → (rest : List Cell) → EachUnlinked (elim rest [ [] ↦ [] | c ∷ cs ↦ rows_at options size cs c.after ])
-    go further [] = tt
-    go further (c ∷ cs) = further cs c.after
-
 -- Headings.
 
 opens-no_parts : (run : heading.Run) (p : Point) → NoParts (heading.opens run p)

@@ -224,7 +224,7 @@ plain-covers bytes chunk = go (line_end bytes chunk) (same_place chunk.first (li
     go end false h true k = (same-refl chunk.first, k)
     go end false h false k = (same-refl chunk.first, (same-refl end, same-refl chunk.after))
 
-plain-fills : (bytes : List ℕ) (p : Point) (chunks : List Chunk) → in_order p chunks ≡ true → Fills chunks (plain_chunks bytes chunks)
+pub plain-fills : (bytes : List ℕ) (p : Point) (chunks : List Chunk) → in_order p chunks ≡ true → Fills chunks (plain_chunks bytes chunks)
 plain-fills bytes p [] h = tt
 plain-fills bytes p (chunk ∷ chunks) h =
     let outer : (at_or_before p chunk.first && at_or_before chunk.first chunk.after ≡ true) × (in_order chunk.after chunks ≡ true) = and_parts (at_or_before p chunk.first && at_or_before chunk.first chunk.after) (in_order chunk.after chunks) h in

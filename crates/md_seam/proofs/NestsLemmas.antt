@@ -36,7 +36,7 @@ chunks-exit : (name : Name) (p : Point) (link : Option Link) (es : List Event) �
 chunks-exit name p link [] = refl
 chunks-exit name p link (f ∷ es) = refl
 
-part-none : (kind : Kind) (name : Name) (es : List Event) → is_part name ≡ false → part_at kind (part_kind name) es ≡ []
+pub part-none : (kind : Kind) (name : Name) (es : List Event) → is_part name ≡ false → part_at kind (part_kind name) es ≡ []
 part-none kind name es h = go kind (part_kind name) h
   where
     go : (kind : Kind) (x : Option PartKind) → (elim x [ None ↦ false | Some k ↦ true ]) ≡ false → part_at kind x es ≡ []
@@ -283,9 +283,9 @@ all-filled test false (e ∷ es) lists h k =
     go true one rest first further = all-append test (first_list lists) (filled_from true es (further_lists lists)) first further
     go false one rest first further = and_from (test e) (list_all test (filled_from false es lists)) one rest
 
-together-append : (xs ys : List (List Event)) → together (xs ++ ys) ≡ together xs ++ together ys
+pub together-append : {A : Type 0} → (xs ys : List (List A)) → together (xs ++ ys) ≡ together xs ++ together ys
 together-append [] ys = refl
-together-append (events ∷ xs) ys = ap (λ (l : List Event). events ++ l) (together-append xs ys) ∙ sym (append_assoc events (together xs) (together ys))
+together-append {A} (l ∷ xs) ys = ap (λ (rest : List A). l ++ rest) (together-append xs ys) ∙ sym (append_assoc l (together xs) (together ys))
 
 placed-read : (bytes : List ℕ) (reads : Part → List Event → Type 0) → KeepsFrame bytes reads → (parts : List Part) (lists : List (List (List Event))) → EachPart (IsPart bytes) parts → EachRead reads parts lists → are_placed bytes (together (together lists)) ≡ true
 placed-read bytes reads frame [] [] are each = refl
