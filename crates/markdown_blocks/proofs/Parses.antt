@@ -1,5 +1,6 @@
--- What a text is read as, where only headings and breaks are on: its events nest, and spell its tree.
+-- What a text is read as, where only headings and breaks are on: its events nest, spell its tree and tile it.
 use Rattle.std.proofs.Common.{◌≡◌, ◌^◌, ◌-◌, ◌<◌, ◌⊎◌, inl, inr, arith, ℕ, Bool, true, suc, List, [], ◌++◌, length, drop, refl, ap, sym, ◌∙◌, subst}
+use Rattle.std.specs.Prelude.{IsTrue}
 use Rattle.std.specs.Str.{IsUtf8}
 use Rattle.md_engine.specs.declared.configuration.ParseOptions.{ParseOptions}
 use Rattle.md_engine.specs.declared.event.Content.{Content}
@@ -14,13 +15,15 @@ use Rattle.md_content.specs.Resolves.{Resolves}
 use Rattle.md_leaves.specs.HeadingText.{headings_resolved}
 use Rattle.md_seam.specs.Meaning.{tree}
 use Rattle.md_seam.specs.Nested.{Nested}
+use Rattle.md_seam.specs.Places.{are_placed}
 use Rattle.md_seam.specs.Spelled.{spelled}
 use Rattle.md_seam.specs.Substituted.{Readings, Substituted}
 use Rattle.md_seam.specs.Texts.{split_lines}
+use Rattle.md_seam.specs.Tiles.{Tiles}
 use Rattle.markdown_blocks.specs.Document.{body_point, mark_events}
 use Rattle.markdown_blocks.specs.FlowReads.{FlowReads, ReadsContent, ReadsNone, SetsHeadings, SetsNone, text_cells, text_rows}
 use Rattle.markdown_blocks.specs.Outlined.{IsOutlined, are_shallow}
-use Rattle.markdown_blocks.specs.Parsed.{IsBuilt, IsSmall}
+use Rattle.markdown_blocks.specs.Parsed.{IsBuilt, IsSmall, reads_plain}
 use Rattle.markdown_blocks.specs.Resolved.{resolved_as}
 use Rattle.markdown_blocks.specs.Rows.{Row, groups, groups_events}
 use Rattle.markdown_blocks.specs.Sections.{sections}
@@ -36,6 +39,9 @@ use Rattle.markdown_blocks.proofs.RowFacts.{AreRows}
 use Rattle.markdown_blocks.proofs.RowLemmas.{fresh-rows}
 use Rattle.markdown_blocks.proofs.SectionsLemmas.{sections-shallow}
 use Rattle.markdown_blocks.proofs.SpelledRows.{spelled-rows}
+use Rattle.markdown_blocks.proofs.TileCovers.{blocks-cover}
+use Rattle.markdown_blocks.proofs.TileParts.{blocks-chunks, blocks-nested, blocks-stand}
+use Rattle.markdown_blocks.proofs.TileReads.{EachUnlinked, groups-empty, rows_at-unlinked, text-filled}
 use Rattle.markdown_blocks.proofs.TreeSections.{tree-sections}
 
 -- the lines of a text, behind its mark
@@ -99,14 +105,42 @@ events-are options bytes built small found new flow wants reads wanted text even
     text-read options bytes (body_point bytes) (lines_of bytes) (rows_of options bytes) (text-are options bytes built small) (text-quiet options bytes (body_point bytes)) wants reads wanted text events
     (subst (λ (l : List Event). Substituted wants reads [] 0 l events) titled substituted)
 
--- What is known of all events of a text.
-pub record Reads (options : ParseOptions) (bytes : List ℕ) (events : List Event) : Type 0 where
+text-unlinked : (options : ParseOptions) (bytes : List ℕ) → EachUnlinked (rows_of options bytes)
+text-unlinked options bytes = rows_at-unlinked options (suc (length (text_cells bytes options (body_point bytes)))) (text_cells bytes options (body_point bytes)) (body_point bytes)
+
+-- With what was read in the place of its chunks, the block list of a text tiles it.
+tiles-are : (options : ParseOptions) (bytes : List ℕ) → IsBuilt options → length bytes < 2 ^ 61 → IsTrue (are_placed bytes (mark_events bytes ++ titled_groups bytes (groups (rows_of options bytes)))) →
+    Tiles (reads_plain bytes) bytes (mark_events bytes ++ groups_events bytes (groups (rows_of options bytes)))
+tiles-are options bytes built small placed =
+    let p : Point = body_point bytes in
+    let lines : List (List ℕ) = lines_of bytes in
+    let rows : List Row = rows_of options bytes in
+    let are : AreRows options bytes p lines rows = text-are options bytes built small in
+    let fills = text-filled options bytes p lines are in
+    record {
+      blocks = mark_events bytes ++ titled_groups bytes (groups rows);
+      block_list = record {
+        nested = blocks-nested options bytes lines rows are;
+        placed = placed;
+        lines = blocks-stand options bytes p lines rows are (text-quiet options bytes p) (text-unlinked options bytes);
+        chunks = blocks-chunks options bytes p lines rows are (text-quiet options bytes p) (text-unlinked options bytes);
+      };
+      covers = blocks-cover options bytes lines rows are;
+      lists = fills.lists;
+      each = fills.each;
+      read = fills.read;
+      empty = groups-empty options bytes;
+    }
+
+-- What is known of all events of a text, by those that stood there before its text parts were read.
+pub record Reads (options : ParseOptions) (bytes : List ℕ) (blocks events : List Event) : Type 0 where
   pub nested : Nested events
   pub outlined : IsOutlined events bytes
   pub tree : spelled events bytes ≡ tree options bytes
+  pub tiles : IsTrue (are_placed bytes blocks) → Tiles (reads_plain bytes) bytes events
 
 pub text-reads : (options : ParseOptions) (bytes : List ℕ) → IsBuilt options → IsUtf8 bytes → length bytes < 2 ^ 61 → (events : List Event) → events ≡ groups_events bytes (groups (text_rows options bytes (body_point bytes))) →
-    Reads options bytes (mark_events bytes ++ events)
+    Reads options bytes (mark_events bytes ++ titled_groups bytes (groups (text_rows options bytes (body_point bytes)))) (mark_events bytes ++ events)
 text-reads options bytes built utf8 small events is =
     let p : Point = body_point bytes in
     let lines : List (List ℕ) = lines_of bytes in
@@ -115,21 +149,28 @@ text-reads options bytes built utf8 small events is =
     let are : AreRows options bytes p lines rows = text-are options bytes built small in
     let nests : Nests bytes p (groups rows) = rows-nest options bytes p lines rows are in
     let spells : spelled body bytes ≡ sections options [] lines = spelled-rows options bytes p lines rows are in
-    subst (λ (l : List Event). Reads options bytes (mark_events bytes ++ l)) (sym is) (record {
+    subst (λ (l : List Event). Reads options bytes (mark_events bytes ++ titled_groups bytes (groups rows)) (mark_events bytes ++ l)) (sym is) (record {
       nested = mark-nested bytes body nests.balanced nests.forward;
       outlined = mark-outlined bytes body (groups-outlined options bytes p lines rows are utf8 (rows-between options bytes p lines rows (body-between bytes) are) (ap are_shallow spells ∙ sections-shallow options [] lines));
       tree = mark-spelled bytes body ∙ spells ∙ ap (λ (l : List ℕ). sections options [] (split_lines l)) (sym (without-mark bytes)) ∙ sym (tree-sections options bytes built);
+      tiles = tiles-are options bytes built small;
     })
 
 -- The same in the words of the calls that `parse` makes.
 pub parsed-reads : (options : ParseOptions) (bytes text : List ℕ) (start : Point) (found : Found) (new : World) (mark items body events : List Event) → bytes ≡ text → IsBuilt options → IsUtf8 text → IsSmall text →
     start ≡ body_point bytes → mark ≡ mark_events bytes → FlowReads resolved_as bytes options start found new →
-    (wants : Content → Bool) (reads : Readings) → wants content.Text ≡ true → ReadsText bytes reads → items ≡ new.events → Substituted wants reads [] 0 items body → events ≡ mark ++ body → Reads options text events
+    (wants : Content → Bool) (reads : Readings) → wants content.Text ≡ true → ReadsText bytes reads → items ≡ new.events → Substituted wants reads [] 0 items body → events ≡ mark ++ body → Reads options text (mark ++ items) events
 parsed-reads options bytes text start found new mark items body events same built utf8 most starts marks flow wants reads wanted plain are substituted is =
     let small : length text < 2 ^ 61 = omega (arith, most) in
     let here : length bytes < 2 ^ 61 = subst (λ (l : List ℕ). length l < 2 ^ 61) (sym same) small in
+    let from : FlowReads resolved_as bytes options (body_point bytes) found new = subst (λ (p : Point). FlowReads resolved_as bytes options p found new) starts flow in
     let body-is : body ≡ groups_events bytes (groups (rows_of options bytes)) =
-    events-are options bytes built here found new (subst (λ (p : Point). FlowReads resolved_as bytes options p found new) starts flow) wants reads wanted plain body
+    events-are options bytes built here found new from wants reads wanted plain body
     (subst (λ (l : List Event). Substituted wants reads [] 0 l body) are substituted) in
-    subst (Reads options text) (sym (is ∙ ap (λ (l : List Event). l ++ body) (marks ∙ ap mark_events same)))
-    (text-reads options text built utf8 small body (subst (λ (l : List ℕ). body ≡ groups_events l (groups (rows_of options l))) same body-is))
+    let titled : items ≡ titled_groups bytes (groups (rows_of options bytes)) = are ∙ titles-are options bytes built here found new from in
+    let front : mark ≡ mark_events text = marks ∙ ap mark_events same in
+    let blocks : mark ++ items ≡ mark_events text ++ titled_groups text (groups (rows_of options text)) =
+    ap (λ (l : List Event). l ++ items) front ∙ ap (λ (l : List Event). mark_events text ++ l) (titled ∙ ap (λ (l : List ℕ). titled_groups l (groups (rows_of options l))) same) in
+    subst (λ (l : List Event). Reads options text l events) (sym blocks)
+    (subst (Reads options text (mark_events text ++ titled_groups text (groups (rows_of options text)))) (sym (is ∙ ap (λ (l : List Event). l ++ body) front))
+    (text-reads options text built utf8 small body (subst (λ (l : List ℕ). body ≡ groups_events l (groups (rows_of options l))) same body-is)))

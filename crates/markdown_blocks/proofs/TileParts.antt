@@ -39,6 +39,7 @@ use Rattle.markdown_blocks.proofs.GroupLemmas.{AreGroups, IsParagraph, IsSingle,
 use Rattle.markdown_blocks.proofs.JoinedLemmas.{EachNoContent}
 use Rattle.markdown_blocks.proofs.RowFacts.{AreRows, IsInside, IsRow}
 use Rattle.markdown_blocks.proofs.TitleFacts.{NoLinks, back-unlinked, front-unlinked}
+use Rattle.markdown_blocks.proofs.TileReads.{EachUnlinked}
 use Rattle.markdown_blocks.proofs.TitleNests.{either}
 
 -- Events outside of text parts.

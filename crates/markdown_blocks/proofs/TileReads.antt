@@ -36,6 +36,7 @@ use Rattle.md_seam.proofs.NestsLemmas.{part-none, together-append}
 use Rattle.md_seam.proofs.SpelledLemmas.{Quiet, Roles}
 use Rattle.markdown_blocks.specs.Document.{body_point, mark_end, mark_events}
 use Rattle.markdown_blocks.specs.FlowReads.{text_cells, text_rows}
+use Rattle.markdown_blocks.specs.Parsed.{reads_plain}
 use Rattle.markdown_blocks.specs.Rows.{BlankRow, BreakRow, Group, HeadingRow, Lines, Row, RowKind, Single, TextRow, behind_row, chunks_of, ending_events, first_cell, group_events, groups, groups_events, inside_of, last_row, onto_groups, read_text, read_title, row_kind, row_title, rows_at, single_events_by}
 use Rattle.markdown_blocks.specs.Unread.{linked, titled_group, titled_groups, titled_row_by, unread_paragraph}
 use Rattle.markdown_blocks.proofs.GroupLemmas.{AreGroups, IsParagraph, IsSingle, groups-are, heading-line}
@@ -44,10 +45,6 @@ use Rattle.markdown_blocks.proofs.NestedRows.{ending-order}
 use Rattle.markdown_blocks.proofs.RowFacts.{AreRows, IsInside, IsRow}
 use Rattle.markdown_blocks.proofs.TitleFacts.{NoLinks, back-unlinked, front-unlinked}
 use Rattle.markdown_blocks.proofs.TitleNests.{before-piece, blank-no_heading, break-no_heading, either, text-order, text_begin, text_end}
-
--- a text part is read as the plain layer reads it
-abbrev pub reads_plain : List ℕ → Part → List Event → Type 0
-reads_plain bytes part events = events ≡ plain_events bytes part
 
 -- events that are those of a block list, with what is read in the place of each chunk
 pub record IsFilled (bytes : List ℕ) (blocks events : List Event) : Type 0 where

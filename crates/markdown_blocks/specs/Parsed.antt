@@ -3,10 +3,12 @@ use Rattle.std.specs.Prelude.{◌≡◌, ℕ, ◌-◌, ◌/◌, ◌^◌, ◌≤�
 use Rattle.md_engine.specs.declared.configuration.ParseOptions.{ParseOptions}
 use Rattle.md_engine.specs.declared.event.Event.{Event}
 use Rattle.md_engine.specs.declared.parse_state.ParseState.{ParseState}
+use Rattle.md_seam.specs.Inline.{Part, plain_events}
 use Rattle.md_seam.specs.Meaning.{tree}
 use Rattle.md_seam.specs.Nested.{Nested}
 use Rattle.md_seam.specs.Places.{are_placed}
 use Rattle.md_seam.specs.Spelled.{spelled}
+use Rattle.md_seam.specs.Tiles.{Tiles}
 use Rattle.markdown_blocks.specs.Outlined.{IsOutlined}
 
 -- a text that points have room for: at most an eighth of the greatest `usize`
@@ -32,7 +34,11 @@ pub record IsBuilt (options : ParseOptions) : Type 0 where
   pub mdx_jsx_flow : options.constructs.mdx_jsx_flow ≡ false
   pub mdx_jsx_text : options.constructs.mdx_jsx_text ≡ false
 
--- What is known of a text that was read: its events nest, stand at its points, and spell its tree; and it defines no label.
+-- a text part is read as the plain layer reads it
+abbrev pub reads_plain : List ℕ → Part → List Event → Type 0
+reads_plain text part events = events ≡ plain_events text part
+
+-- What is known of a text that was read: its events nest, stand at its points, spell its tree and tile it; and it defines no label.
 pub record IsParsed (text : List ℕ) (options : ParseOptions) (events : List Event) (state : ParseState) : Type 0 where
   pub bytes : state.bytes.now ≡ text
   pub options_are : state.options.now ≡ options
@@ -41,6 +47,8 @@ pub record IsParsed (text : List ℕ) (options : ParseOptions) (events : List Ev
   -- each point is one of the text, with the right line and column
   pub placed : IsTrue (are_placed text events)
   pub tree : spelled events text ≡ tree options text
+  -- every byte is accounted for: the innermost pairs lie side by side, `Data` over each line of a text part among them
+  pub tiles : Tiles (reads_plain text) text events
   -- `outline` shows that tree
   pub outlined : IsOutlined events text
   pub definitions : state.definitions.items ≡ []

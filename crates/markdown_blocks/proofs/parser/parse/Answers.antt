@@ -1,4 +1,4 @@
-use Rattle.std.proofs.Common.{◌≡◌, ap, refl, subst, sym}
+use Rattle.std.proofs.Common.{◌≡◌, ◌++◌, ap, refl, subst, sym}
 use Rattle.std.proofs.lemmas.List.Elements.{All-append}
 use Rattle.std.specs.String.{string_bytes}
 use Rattle.md_engine.specs.declared.event.Event.{Event}
@@ -36,12 +36,15 @@ returns c =
     let bytes = c.as_bytes-bytes.result.now in
     let body = c.in_ok-body.body.items in
     let none = reads-labels _ _ _ _ _ c.in_ok-tokenizer.ensures in
-    let read : Reads c.args.options.now c.args.value.now c.in_ok-events.events.items =
+    let read : Reads c.args.options.now c.args.value.now (c.in_ok-front.front.events.items ++ c.deref.result.now) c.in_ok-events.events.items =
     parsed-reads c.args.options.now bytes c.args.value.now c.in_ok-front.front.point _ _ c.in_ok-front.front.events.items c.deref.result.now body c.in_ok-events.events.items
     c.as_bytes-bytes.ensures.value c.requires.built c.utf8.value c.requires.size c.in_ok-front.ensures.point c.in_ok-front.ensures.events c.in_ok-tokenizer.ensures
     wants_text (λ content chunks events. PlainReads bytes (record { kind = text_kind content; chunks = chunks }) events) refl (λ chunks answer reads end lines whole. reads end lines whole)
     c.deref.ensures.value c.in_ok-body.ensures.substituted c.in_ok-events.ensures in
     let of_mark : ArePlaced bytes c.in_ok-front.front.events.items = rw c.in_ok-front.ensures.bytes_are at c.in_ok-front.front.sound.right in
+    let same : c.in_ok-tokenizer.tokenizer.bytes.now ≡ bytes = ap (λ (x : Setting). x.bytes) (reads-setting _ _ _ _ _ c.in_ok-tokenizer.ensures) in
+    let of_flow : ArePlaced bytes c.deref.result.now = rw c.deref.ensures.value (rw same at c.in_ok-tokenizer.tokenizer.sound.right) in
+    let before : ArePlaced bytes (c.in_ok-front.front.events.items ++ c.deref.result.now) = All-append (λ (e : Event). IsPlaced bytes e.point) c.in_ok-front.front.events.items c.deref.result.now of_mark of_flow in
     let placed : ArePlaced bytes c.in_ok-events.events.items =
     rw c.in_ok-events.ensures (All-append (λ (e : Event). IsPlaced bytes e.point) c.in_ok-front.front.events.items body of_mark c.in_ok-body.ensures.placed) in
     record {
@@ -50,6 +53,7 @@ returns c =
       nested = read.nested;
       placed = events-placed c.args.value.now c.in_ok-events.events.items (rw c.as_bytes-bytes.ensures.value at placed);
       tree = read.tree;
+      tiles = read.tiles (events-placed c.args.value.now (c.in_ok-front.front.events.items ++ c.deref.result.now) (rw c.as_bytes-bytes.ensures.value at before));
       outlined = read.outlined;
       definitions = map-nil string_bytes c.in_ok-tokenizer.found.definitions.items none.definitions;
       footnotes = map-nil string_bytes c.in_ok-tokenizer.found.gfm_footnote_definitions.items none.footnotes;
