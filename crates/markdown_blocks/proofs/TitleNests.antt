@@ -54,7 +54,8 @@ spans-append p q r xs ys h k =
 
 -- Runs.
 
-either : (P : List Event → Type 0) (t : Bool) (xs ys : List Event) → P xs → P ys → P (cond t xs ys)
+-- what holds of both holds of the one that is taken
+pub either : (P : List Event → Type 0) (t : Bool) (xs ys : List Event) → P xs → P ys → P (cond t xs ys)
 either P true xs ys h k = h
 either P false xs ys h k = k
 
