@@ -1,6 +1,5 @@
 -- Events whose innermost pairs lie side by side, from one point to another.
-use Rattle.std.proofs.Common.{◌≡◌, true, List, [], ◌∷◌, ◌++◌, refl, ap, sym, ◌∙◌, subst, append_assoc, arith}
-use Rattle.std.proofs.lemmas.Bool.Decides.{nat_tests}
+use Rattle.std.proofs.Common.{◌≡◌, true, List, [], ◌∷◌, ◌++◌, refl, ap, sym, ◌∙◌, subst, append_assoc}
 use Rattle.md_engine.specs.declared.event.Event.{Event}
 use Rattle.md_engine.specs.declared.event.Kind.{Kind}
 use Rattle.md_engine.specs.declared.event.Kind.TheVariants.{Enter, Exit}
@@ -9,7 +8,7 @@ use Rattle.md_engine.specs.declared.event.Point.{Point}
 use Rattle.md_seam.specs.Inline.{Covers, Piece, piece_of, pieces, pieces_from}
 use Rattle.md_seam.specs.Nested.{around, enter, exit, pair}
 use Rattle.md_seam.specs.Places.{same_place}
-use Rattle.md_seam.proofs.InlineLemmas.{same-refl}
+use Rattle.md_seam.proofs.InlineLemmas.{same-refl, same-trans}
 
 -- events that begin with an enter, if there are any
 abbrev pub Begins : List Event → Type 0
@@ -35,14 +34,8 @@ pub record Shut (e : Event) (q : Point) (es : List Event) : Type 0 where
 -- Covering.
 
 covers-from : (p q r : Point) (xs : List Piece) → same_place p q ≡ true → Covers q xs r → Covers p xs r
-covers-from p q r [] h k = through r k
-  where
-    through : (s : Point) → same_place q s ≡ true → same_place p s ≡ true
-    through s k = grind (arith, nat_tests)
-covers-from p q r (x ∷ xs) h k = (through x.first k.0, k.1)
-  where
-    through : (s : Point) → same_place q s ≡ true → same_place p s ≡ true
-    through s k = grind (arith, nat_tests)
+covers-from p q r [] h k = same-trans p q r h k
+covers-from p q r (x ∷ xs) h k = (same-trans p q x.first h k.0, k.1)
 
 covers-append : (p q r : Point) (xs ys : List Piece) → Covers p xs q → Covers q ys r → Covers p (xs ++ ys) r
 covers-append p q r [] ys h k = covers-from p q r ys h k

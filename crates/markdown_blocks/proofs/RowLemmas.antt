@@ -2,7 +2,7 @@
 use Rattle.std.proofs.Common.{◌≡◌, ◌≢◌, ℕ, zero, suc, ◌+◌, ◌^◌, ◌<◌, ◌≤◌, Bool, true, false, cond, List, [], ◌∷◌, ◌++◌, length, drop, refl, sym, ap, ◌∙◌, subst, arith, append-nil, append_assoc, inl, inr, ◌⊎◌}
 use Rattle.std.specs.Prelude.{◌==◌, IsTrue, Some, map}
 use Rattle.std.specs.List.{prefix_len}
-use Rattle.std.proofs.lemmas.Bool.{eqb-true, or_from, and_parts}
+use Rattle.std.proofs.lemmas.Bool.{and_parts, eqb-true, or_from}
 use Rattle.std.proofs.lemmas.Bool.Decides.{nat_tests}
 use Rattle.std.proofs.lemmas.List.{length-append, take-append-drop}
 use Rattle.md_engine.specs.declared.configuration.ParseOptions.{ParseOptions}
@@ -19,10 +19,10 @@ use Rattle.md_engine.proofs.TextFeed.{text-follows}
 use Rattle.md_leaves.specs.BlankRule.{blank_events}
 use Rattle.md_leaves.specs.BreakRule.{Apart, Marks, Run, White, runs}
 use Rattle.md_leaves.specs.HeadingRule.{is_heading_line}
-use Rattle.md_seam.specs.Ahead.{begins_white, from_ending, line_cells, line_end, point_after, white_rest, line_bytes, white_end}
-use Rattle.md_seam.specs.Nested.{Balanced, Forward, Matches, last_point, open_after, pair, enter, exit}
+use Rattle.md_seam.specs.Ahead.{begins_white, from_ending, line_bytes, line_cells, line_end, point_after, white_end, white_rest}
+use Rattle.md_seam.specs.Nested.{Balanced, Forward, Matches, enter, exit, last_point, open_after, pair}
 use Rattle.md_seam.specs.Places.{at_or_before, past_byte, past_text, same_place}
-use Rattle.md_seam.specs.Rest.{is_white, trim_start, is_blank}
+use Rattle.md_seam.specs.Rest.{is_blank, is_white, trim_start}
 use Rattle.md_seam.specs.Spaces.{small_indent}
 use Rattle.md_seam.specs.Texts.{split_lines}
 use Rattle.md_seam.proofs.InlineLemmas.{past-index, same-refl}
@@ -30,12 +30,13 @@ use Rattle.md_seam.proofs.NestedLemmas.{at_or_before-refl, at_or_before-trans, b
 use Rattle.md_seam.proofs.SpelledLemmas.{Quiet, Roles, roles-append}
 use Rattle.md_seam.proofs.TextsLemmas.{Both, Ending, EndsBefore, LineFeed, NoEnding, Return, ending_bytes, split-line, split-next}
 use Rattle.markdown_blocks.specs.FlowReads.{text_cells, text_rows, text_setting}
-use Rattle.markdown_blocks.specs.Rows.{BlankRow, BreakRow, HeadingRow, Row, RowKind, TextRow, after_ending, break_inside, first_cell, inside_of, row_at, row_kind, rows_at, is_break}
+use Rattle.markdown_blocks.specs.Rows.{BlankRow, BreakRow, HeadingRow, Row, RowKind, TextRow, after_ending, break_inside, first_cell, inside_of, is_break, row_at, row_kind, rows_at}
 use Rattle.markdown_blocks.proofs.FeedLines.{HasEnding, HasLine, behind_last, begun-none, byte-end, byte_cells, cell, columns_more, drop-past, ending-feed, ending-some, feed-none, front-within, is-ending, line-feed, next_column, past_ending, past_text-column, past_text-whole, slice-front, spread, spread-end, tab_cells}
 use Rattle.markdown_blocks.proofs.HeadingRuns.{heading-runs}
 use Rattle.markdown_blocks.proofs.LineKinds.{Stops, kind-spread, no_ending-trim, small-end, small-rest, spread-line, spread-line_end, spread-rest, white_front}
 use Rattle.markdown_blocks.proofs.PiecesLemmas.{Shut, Tiled, shut-exit, tiled-append, tiled-enter, tiled-none, tiled-pair}
 use Rattle.markdown_blocks.proofs.RowFacts.{AreRows, IsEnding, IsInside, IsRow}
+use Rattle.markdown_blocks.proofs.TitleNests.{either}
 
 -- Points go forward.
 
@@ -112,10 +113,6 @@ inside-append p q r xs ys a b = record {
 }
 
 -- The runs of a break.
-
-either : (P : List Event → Type 0) (t : Bool) (xs ys : List Event) → P xs → P ys → P (cond t xs ys)
-either P true xs ys h k = h
-either P false xs ys h k = k
 
 quiet-runs : (run : Run) (m : ℕ) (cells : List Cell) (p : Point) → Roles Quiet (runs run m cells p)
 quiet-runs Apart m [] p = tt
@@ -228,6 +225,7 @@ blank-none (c ∷ cs) p h k = go (c.byte == 10) h
         let none : is_white c.byte ≡ false = k in
         absurd (cc)
 
+-- whitespace is no ending
 white-no_ending : (b : ℕ) → is_white b ≡ true → (b == 10) ≡ false
 white-no_ending b h = grind (arith, nat_tests)
 

@@ -1,5 +1,5 @@
 -- The innermost pairs of the events of a text lie side by side, from its first byte to its last, before its texts are read.
-use Rattle.std.proofs.Common.{◌≡◌, ◌≢◌, ℕ, ◌+◌, Bool, true, false, cond, List, [], ◌∷◌, ◌++◌, length, take, drop, refl, ap, sym, ◌∙◌, subst, append_assoc, append-nil}
+use Rattle.std.proofs.Common.{◌≡◌, ◌≢◌, ℕ, Bool, true, false, cond, List, [], ◌∷◌, ◌++◌, length, take, drop, refl, ap, sym, ◌∙◌, subst, append_assoc, append-nil}
 use Rattle.std.specs.Prelude.{◌==◌, Option, Some, None}
 use Rattle.std.proofs.lemmas.Bool.{and_from, eq-eqb, eqb-true}
 use Rattle.md_engine.specs.declared.configuration.ParseOptions.{ParseOptions}
@@ -25,8 +25,8 @@ use Rattle.markdown_blocks.specs.Rows.{BlankRow, BreakRow, Group, HeadingRow, Li
 use Rattle.markdown_blocks.specs.Unread.{titled_groups, titled_row_by}
 use Rattle.markdown_blocks.proofs.JoinedLemmas.{behind-is, behind-none}
 use Rattle.markdown_blocks.proofs.PiecesLemmas.{Shut, Tiled, shut-exit, tiled-append, tiled-around, tiled-enter, tiled-none, tiled-pair, tiled-two}
-use Rattle.markdown_blocks.proofs.RowFacts.{AreRows, IsInside, IsRow}
-use Rattle.markdown_blocks.proofs.TitleNests.{back_bytes, blank-no_heading, break-no_heading, line-end-is, text-end-is, text_begin, text_bytes, text_end}
+use Rattle.markdown_blocks.proofs.RowFacts.{AreRows, IsRow}
+use Rattle.markdown_blocks.proofs.TitleNests.{back_bytes, blank-no_heading, break-no_heading, either, line-end-is, text-end-is, text_begin, text_end}
 
 -- The runs of a piece of a line cover it: behind an enter, they shut it.
 
@@ -60,10 +60,6 @@ tiled-opens Apart p q es ok h = absurd ok
 tiled-opens White p q es ok h = let e : Event = enter n.SpaceOrTab p in tiled-enter e q es refl (h e refl)
 tiled-opens Hashes p q es ok h = let e : Event = enter n.HeadingAtxSequence p in tiled-enter e q es refl (h e refl)
 tiled-opens Text p q es ok h = let e : Event = enter_link n.Data p heading_link in tiled-enter e q es refl (h e refl)
-
-either : (P : List Event → Type 0) (t : Bool) (xs ys : List Event) → P xs → P ys → P (cond t xs ys)
-either P true xs ys h k = h
-either P false xs ys h k = k
 
 shut-runs : (run : Run) (xs : List ℕ) (p : Point) → IsOpen run → ShutAll (past_text xs p) (line_runs run xs p)
 shut-runs run [] p ok e h = subst (Shut e p) (append-nil (closes run p)) (shut-closes run e p p [] ok h (tiled-none p p (same-refl p)))

@@ -24,7 +24,7 @@ use Rattle.md_seam.proofs.NestedLemmas.{balanced-none, balanced-append, at_or_be
 pub same-refl : (p : Point) → same_place p p ≡ true
 same-refl p = and_from _ _ (eq-eqb p.index p.index refl) (eq-eqb p.vs p.vs refl)
 
-same-trans : (p q r : Point) → same_place p q ≡ true → same_place q r ≡ true → same_place p r ≡ true
+pub same-trans : (p q r : Point) → same_place p q ≡ true → same_place q r ≡ true → same_place p r ≡ true
 same-trans p q r h k =
     let first : (p.index == q.index ≡ true) × (p.vs == q.vs ≡ true) = and_parts (p.index == q.index) (p.vs == q.vs) h in
     let next : (q.index == r.index ≡ true) × (q.vs == r.vs ≡ true) = and_parts (q.index == r.index) (q.vs == r.vs) k in
