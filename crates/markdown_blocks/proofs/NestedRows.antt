@@ -7,7 +7,7 @@ use Rattle.md_engine.specs.declared.event.Event.{Event}
 use Rattle.md_engine.specs.declared.event.Name.{Name}
 use Rattle.md_engine.specs.declared.event.Name.TheVariants as n
 use Rattle.md_engine.specs.declared.event.Point.{Point}
-use Rattle.md_leaves.specs.HeadingTitle.{Title, chunk_unless_empty, text_of, title_of}
+use Rattle.md_leaves.specs.HeadingTitle.{Title, text_of, title_of}
 use Rattle.md_seam.specs.declared.inline.Chunk.{Chunk}
 use Rattle.md_seam.specs.Inline.{line_end, pair_unless_empty, plain_chunk, plain_chunks, together}
 use Rattle.md_seam.specs.Nested.{Balanced, Forward, Nested, around, enter, exit, last_point, pair}
@@ -15,7 +15,7 @@ use Rattle.md_seam.specs.Places.{at_or_before, first_point, past_text, same_plac
 use Rattle.md_seam.proofs.InlineLemmas.{balanced-pair, end-before, end-behind}
 use Rattle.md_seam.proofs.NestedLemmas.{at_or_before-refl, at_or_before-trans, balanced-append, balanced-around, balanced-insert, balanced-none, forward-append, forward-from}
 use Rattle.md_seam.proofs.TextsLemmas.{Both, Ending, LineFeed, Return, ending_bytes}
-use Rattle.markdown_blocks.specs.Rows.{BlankRow, BreakRow, Group, HeadingRow, Lines, Row, RowKind, Single, TextRow, behind_row, chunks_of, ending_events, groups, groups_events, last_row, onto_groups, read_text, read_title, row_events_by, row_line, row_title, single_events_by}
+use Rattle.markdown_blocks.specs.Rows.{BlankRow, BreakRow, Group, HeadingRow, Lines, Row, RowKind, Single, TextRow, behind_row, chunks_of, ending_events, groups, groups_events, last_row, onto_groups, read_text, row_events_by, row_line, row_title, single_events_by}
 use Rattle.markdown_blocks.proofs.JoinedLemmas.{behind-is, behind-none}
 use Rattle.markdown_blocks.proofs.RowFacts.{AreRows, IsEnding, IsInside, IsRow}
 use Rattle.markdown_blocks.proofs.TitleNests.{Spans, back-balanced, back-span, before-piece, blank-no_heading, break-no_heading, front-balanced, front-span, spans-append, text-order, text_begin, text_end}
@@ -58,24 +58,25 @@ around-nested name p q inside h =
     (balanced-around (enter name p) (exit name q) inside refl refl refl h.0, ((at_or_before-refl p, ended.0), ended.1))
 
 -- the text of a heading, if there is one
-text-nested : (bytes : List ℕ) (size : ℕ) (p q : Point) → IsTrue (at_or_before p q) → Nested_in p q (read_text bytes (chunk_unless_empty size p q))
-text-nested bytes size p q h = go (size == 0)
+text-nested : (bytes line : List ℕ) (p : Point) → Nested_in (text_begin line p) (text_end line p) (read_text bytes (title_of line p).text)
+text-nested bytes line p = go (length (text_of line) == 0)
   where
-    go : (none : Bool) → Nested_in p q (read_text bytes (cond none None (Some (record { first = p; after = q }))))
-    go true = (balanced-none, (tt, h))
-    go false =
-        let chunk : Chunk = record { first = p; after = q } in
-        around-nested n.HeadingAtxText p q (plain_chunk bytes chunk ++ []) (subst (Nested_in p q) (sym (append-nil (plain_chunk bytes chunk))) (chunk-nested bytes chunk h))
+    chunk : Chunk
+    chunk = record { first = text_begin line p; after = text_end line p }
 
--- what stands in a heading
-title-nested : (bytes line : List ℕ) (p : Point) → Nested_in p (past_text line p) (read_title bytes (title_of line p))
-title-nested bytes line p =
+    go : (none : Bool) → Nested_in (text_begin line p) (text_end line p) (read_text bytes (cond none None (Some chunk)))
+    go true = (balanced-none, (tt, text-order line p))
+    go false =
+        around-nested n.HeadingAtxText chunk.first chunk.after (plain_chunk bytes chunk ++ []) (subst (Nested_in chunk.first chunk.after) (sym (append-nil (plain_chunk bytes chunk))) (chunk-nested bytes chunk (text-order line p)))
+
+-- what stands in a heading, whatever stands in the place of its text
+title-nested : (line : List ℕ) (p : Point) (text : List Event) → Nested_in (text_begin line p) (text_end line p) text → Nested_in p (past_text line p) ((title_of line p).front ++ text ++ (title_of line p).back)
+title-nested line p text h =
     let title : Title = title_of line p in
     let begin : Point = text_begin line p in
     let end : Point = text_end line p in
-    nested_in-append p end (past_text line p) (title.front ++ read_text bytes title.text) title.back
-    (nested_in-append p begin end title.front (read_text bytes title.text) (front-balanced line p, front-span line p) (text-nested bytes (length (text_of line)) begin end (text-order line p)))
-    (back-balanced line p, back-span line p)
+    nested_in-append p end (past_text line p) (title.front ++ text) title.back
+    (nested_in-append p begin end title.front text (front-balanced line p, front-span line p) h) (back-balanced line p, back-span line p)
 
 -- Lines.
 
@@ -117,6 +118,12 @@ blank-nested bytes row o e =
 
 pub break-nested : (bytes : List ℕ) (row : Row) → Ordered bytes row → row.kind ≡ BreakRow → Nested_in row.first (behind_row row) (row_events_by BreakRow row)
 break-nested bytes row o e = block-nested bytes n.ThematicBreak row row.inside o (inside-nested row (o.inside (break-no_heading row.kind e)))
+
+pub heading-nested : (bytes : List ℕ) (row : Row) (text : List Event) → Ordered bytes row → Nested_in (text_begin (row_line bytes row) row.first) (text_end (row_line bytes row) row.first) text →
+    Nested_in row.first (behind_row row) (around n.HeadingAtx row.first row.end ((row_title bytes row).front ++ text ++ (row_title bytes row).back) ++ ending_events n.LineEnding row)
+heading-nested bytes row text o h =
+    let inside : List Event = (row_title bytes row).front ++ text ++ (row_title bytes row).back in
+    block-nested bytes n.HeadingAtx row inside o (subst (λ (q : Point). Nested_in row.first q inside) (sym o.end) (title-nested (row_line bytes row) row.first text h))
 
 -- Groups.
 
@@ -199,9 +206,7 @@ Nests bytes p gs = Onward p (groups_events bytes gs)
 
 single-nested : (bytes : List ℕ) (row : Row) → Ordered bytes row → row.kind ≢ TextRow → (kind : RowKind) → row.kind ≡ kind → Nested_in row.first (behind_row row) (single_events_by bytes kind row)
 single-nested bytes row o other BlankRow e = blank-nested bytes row o e
-single-nested bytes row o other HeadingRow e =
-    let inside : List Event = read_title bytes (row_title bytes row) in
-    block-nested bytes n.HeadingAtx row inside o (subst (λ (q : Point). Nested_in row.first q inside) (sym o.end) (title-nested bytes (row_line bytes row) row.first))
+single-nested bytes row o other HeadingRow e = heading-nested bytes row (read_text bytes (row_title bytes row).text) o (text-nested bytes (row_line bytes row) row.first)
 single-nested bytes row o other BreakRow e = break-nested bytes row o e
 single-nested bytes row o other TextRow e = absurd (other e)
 

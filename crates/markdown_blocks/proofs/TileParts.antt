@@ -25,7 +25,7 @@ use Rattle.md_seam.specs.declared.inline.PartKind.TheVariants.{Text}
 use Rattle.md_seam.specs.Ahead.{begins_white, from_ending, line_cells, line_end, white_end, white_rest}
 use Rattle.md_seam.specs.Inline.{Piece, are_lines, pieces, pieces_from}
 use Rattle.md_seam.specs.Nested.{Balanced, Forward, Nested, around, enter, enter_link, exit, pair}
-use Rattle.md_seam.specs.Places.{at_or_before, first_point, past_byte, past_text}
+use Rattle.md_seam.specs.Places.{at_or_before, first_point, past_byte}
 use Rattle.md_seam.specs.Preamble.{has_mark}
 use Rattle.md_seam.specs.Rest.{trim_start}
 use Rattle.md_seam.specs.Spaces.{small_indent}
@@ -39,10 +39,10 @@ use Rattle.markdown_blocks.specs.Unread.{linked, titled_group, titled_groups, ti
 use Rattle.markdown_blocks.proofs.GroupLemmas.{AreGroups, IsParagraph, IsSingle, groups-are, heading-line, paragraph-lines, title-lines}
 use Rattle.markdown_blocks.proofs.JoinedLemmas.{EachNoContent}
 use Rattle.markdown_blocks.proofs.MarkLemmas.{mark-nested}
-use Rattle.markdown_blocks.proofs.NestedRows.{ByLines, Nested_in, Onward, Ordered, around-nested, behind-order, blank-nested, block-nested, break-nested, line-order, nested_in-append, onward-before, onward-next, rows-hold}
+use Rattle.markdown_blocks.proofs.NestedRows.{ByLines, Nested_in, Onward, Ordered, around-nested, behind-order, blank-nested, block-nested, break-nested, heading-nested, line-order, onward-before, onward-next, rows-hold}
 use Rattle.markdown_blocks.proofs.RowFacts.{AreRows, IsInside, IsRow}
 use Rattle.markdown_blocks.proofs.TitleFacts.{NoLinks, back-unlinked, front-unlinked}
-use Rattle.markdown_blocks.proofs.TitleNests.{back-balanced, back-span, either, front-balanced, front-span, text-order, text_begin, text_end}
+use Rattle.markdown_blocks.proofs.TitleNests.{either, text-order, text_begin, text_end}
 
 -- Events outside of text parts.
 
@@ -224,7 +224,7 @@ inside-unlinked options cells p BreakRow other =
     no_links-append (cond (begins_white cells) (pair n.SpaceOrTab p q) []) (runs Apart (first_cell rest) (line_cells rest) q) (white-unlinked (begins_white cells) p q) (break-unlinked Apart (first_cell rest) (line_cells rest) q)
 inside-unlinked options cells p TextRow other = tt
 
--- so are the lines that flow reads
+-- nor in the lines that flow reads
 pub rows_at-unlinked : (options : ParseOptions) (size : ℕ) (cells : List Cell) (p : Point) → EachUnlinked (rows_at options size cells p)
 rows_at-unlinked options zero cells p = tt
 rows_at-unlinked options (suc size) cells p = (inside-unlinked options cells p (row_kind options cells), go (rows_at-unlinked options size) (from_ending cells))
@@ -265,10 +265,10 @@ stands-title options bytes line row is h =
     (stands-outside bytes title.back (runs-no_parts heading.Apart (drop (front_len line + length (text_of line)) line) end) (back-unlinked line row.first h))
   where
     begin : Point
-    begin = past_text (take (front_len line) line) row.first
+    begin = text_begin line row.first
 
     end : Point
-    end = past_text (take (front_len line + length (text_of line)) line) row.first
+    end = text_end line row.first
 
     chunk : Chunk
     chunk = record { first = begin; after = end }
@@ -301,7 +301,7 @@ stands-lines options bytes row rows is =
     stands-append bytes (unread_paragraph row rows) (ending_events n.LineEnding last)
     (stands-part bytes n.Paragraph Text text_link row.first last.end (chunks_of row rows) refl (paragraph-lines options bytes row rows is)) (stands-ending bytes n.LineEnding last refl)
 
--- the same of groups
+-- the same of the lines of groups
 abbrev GroupsUnlinked : List Group → Type 0
 GroupsUnlinked [] = Unit {0}
 GroupsUnlinked (Single row ∷ gs) = IsUnlinked row × GroupsUnlinked gs
@@ -367,26 +367,23 @@ blocks-chunks options bytes p lines rows are quiet unlinked = all-chunks bytes (
 linked-nested : (link : Link) (p q : Point) → IsTrue (at_or_before p q) → Nested_in p q (enter_link n.Data p link ∷ exit n.Data q ∷ [])
 linked-nested link p q h = (record { matches = (tt, (refl, tt)); closed = refl }, ((at_or_before-refl p, (h, tt)), at_or_before-refl q))
 
--- what stands in a heading
-title-nested : (line : List ℕ) (p : Point) → Nested_in p (past_text line p) (unread_title (title_of line p))
-title-nested line p =
-    let title : Title = title_of line p in
-    let begin : Point = text_begin line p in
-    let end : Point = text_end line p in
-    nested_in-append p end (past_text line p) (title.front ++ linked_text title.text) title.back
-    (nested_in-append p begin end title.front (linked_text title.text) (front-balanced line p, front-span line p) (text (length (text_of line) == 0)))
-    (back-balanced line p, back-span line p)
+-- the text of a heading, if there is one
+text-nested : (line : List ℕ) (p : Point) → Nested_in (text_begin line p) (text_end line p) (linked_text (title_of line p).text)
+text-nested line p = go (length (text_of line) == 0)
   where
-    text : (x : Bool) → Nested_in (text_begin line p) (text_end line p) (linked_text (cond x None (Some (record { first = text_begin line p; after = text_end line p }))))
-    text true = (balanced-none, (tt, text-order line p))
-    text false =
-        around-nested n.HeadingAtxText (text_begin line p) (text_end line p) (enter_link n.Data (text_begin line p) heading_link ∷ exit n.Data (text_end line p) ∷ []) (linked-nested heading_link (text_begin line p) (text_end line p) (text-order line p))
+    begin : Point
+    begin = text_begin line p
+
+    end : Point
+    end = text_end line p
+
+    go : (none : Bool) → Nested_in begin end (linked_text (cond none None (Some (record { first = begin; after = end }))))
+    go true = (balanced-none, (tt, text-order line p))
+    go false = around-nested n.HeadingAtxText begin end (enter_link n.Data begin heading_link ∷ exit n.Data end ∷ []) (linked-nested heading_link begin end (text-order line p))
 
 single-nested : (bytes : List ℕ) (row : Row) → Ordered bytes row → row.kind ≢ TextRow → (kind : RowKind) → row.kind ≡ kind → Nested_in row.first (behind_row row) (titled_row_by bytes kind row)
 single-nested bytes row o other BlankRow e = blank-nested bytes row o e
-single-nested bytes row o other HeadingRow e =
-    let inside : List Event = unread_title (row_title bytes row) in
-    block-nested bytes n.HeadingAtx row inside o (subst (λ (q : Point). Nested_in row.first q inside) (sym o.end) (title-nested (row_line bytes row) row.first))
+single-nested bytes row o other HeadingRow e = heading-nested bytes row (linked_text (row_title bytes row).text) o (text-nested (row_line bytes row) row.first)
 single-nested bytes row o other BreakRow e = break-nested bytes row o e
 single-nested bytes row o other TextRow e = absurd (other e)
 
