@@ -224,7 +224,7 @@ inside-unlinked options cells p BreakRow other =
     no_links-append (cond (begins_white cells) (pair n.SpaceOrTab p q) []) (runs Apart (first_cell rest) (line_cells rest) q) (white-unlinked (begins_white cells) p q) (break-unlinked Apart (first_cell rest) (line_cells rest) q)
 inside-unlinked options cells p TextRow other = tt
 
--- nor in the lines that flow reads
+-- so it is in the lines that flow reads
 pub rows_at-unlinked : (options : ParseOptions) (size : ℕ) (cells : List Cell) (p : Point) → EachUnlinked (rows_at options size cells p)
 rows_at-unlinked options zero cells p = tt
 rows_at-unlinked options (suc size) cells p = (inside-unlinked options cells p (row_kind options cells), go (rows_at-unlinked options size) (from_ending cells))
