@@ -24,23 +24,26 @@ use Rattle.md_seam.specs.declared.inline.PartKind.{PartKind}
 use Rattle.md_seam.specs.declared.inline.PartKind.TheVariants.{Text}
 use Rattle.md_seam.specs.Ahead.{begins_white, from_ending, line_cells, line_end, white_end, white_rest}
 use Rattle.md_seam.specs.Inline.{Piece, are_lines, pieces, pieces_from}
-use Rattle.md_seam.specs.Nested.{around, enter, enter_link, exit, pair}
-use Rattle.md_seam.specs.Places.{first_point, past_byte, past_text}
+use Rattle.md_seam.specs.Nested.{Balanced, Forward, Nested, around, enter, enter_link, exit, pair}
+use Rattle.md_seam.specs.Places.{at_or_before, first_point, past_byte}
 use Rattle.md_seam.specs.Preamble.{has_mark}
 use Rattle.md_seam.specs.Rest.{trim_start}
 use Rattle.md_seam.specs.Spaces.{small_indent}
 use Rattle.md_seam.specs.Spelled.{role}
 use Rattle.md_seam.specs.Tiles.{chunks, chunks_stand, inside_part, is_exit, is_part, is_white_piece, part_end, part_kind, part_stands, parts_stand, stands_in_part}
+use Rattle.md_seam.proofs.NestedLemmas.{at_or_before-refl, balanced-none}
 use Rattle.md_seam.proofs.SpelledLemmas.{Quiet, Roles}
 use Rattle.markdown_blocks.specs.Document.{body_point, mark_end, mark_events}
-use Rattle.markdown_blocks.specs.Rows.{BlankRow, BreakRow, Group, HeadingRow, Lines, Row, RowKind, Single, TextRow, chunks_of, ending_events, first_cell, groups, inside_of, last_row, onto_groups, row_kind, row_line, row_title, rows_at}
+use Rattle.markdown_blocks.specs.Rows.{BlankRow, BreakRow, Group, HeadingRow, Lines, Row, RowKind, Single, TextRow, behind_row, chunks_of, ending_events, first_cell, groups, inside_of, last_row, onto_groups, row_kind, row_line, row_title, rows_at}
 use Rattle.markdown_blocks.specs.Unread.{linked, titled_group, titled_groups, titled_row_by, unread_paragraph}
 use Rattle.markdown_blocks.proofs.GroupLemmas.{AreGroups, IsParagraph, IsSingle, groups-are, heading-line, paragraph-lines, title-lines}
 use Rattle.markdown_blocks.proofs.JoinedLemmas.{EachNoContent}
+use Rattle.markdown_blocks.proofs.MarkLemmas.{mark-nested}
+use Rattle.markdown_blocks.proofs.NestedRows.{ByLines, Nested_in, Onward, Ordered, around-nested, behind-order, blank-nested, block-nested, break-nested, heading-nested, line-order, onward-before, onward-next, rows-hold}
 use Rattle.markdown_blocks.proofs.RowFacts.{AreRows, IsInside, IsRow}
 use Rattle.markdown_blocks.proofs.TitleFacts.{NoLinks, back-unlinked, front-unlinked}
 use Rattle.markdown_blocks.proofs.TileReads.{EachUnlinked}
-use Rattle.markdown_blocks.proofs.TitleNests.{either}
+use Rattle.markdown_blocks.proofs.TitleNests.{either, text-order, text_begin, text_end}
 
 -- Events outside of text parts.
 
@@ -226,10 +229,10 @@ stands-title options bytes line row is h =
     (stands-outside bytes title.back (runs-no_parts heading.Apart (drop (front_len line + length (text_of line)) line) end) (back-unlinked line row.first h))
   where
     begin : Point
-    begin = past_text (take (front_len line) line) row.first
+    begin = text_begin line row.first
 
     end : Point
-    end = past_text (take (front_len line + length (text_of line)) line) row.first
+    end = text_end line row.first
 
     chunk : Chunk
     chunk = record { first = begin; after = end }
@@ -262,7 +265,7 @@ stands-lines options bytes row rows is =
     stands-append bytes (unread_paragraph row rows) (ending_events n.LineEnding last)
     (stands-part bytes n.Paragraph Text text_link row.first last.end (chunks_of row rows) refl (paragraph-lines options bytes row rows is)) (stands-ending bytes n.LineEnding last refl)
 
--- the same of groups
+-- the same of the lines of groups
 abbrev GroupsUnlinked : List Group → Type 0
 GroupsUnlinked [] = Unit {0}
 GroupsUnlinked (Single row ∷ gs) = IsUnlinked row × GroupsUnlinked gs
@@ -321,3 +324,59 @@ blocks-stand options bytes p lines rows are quiet unlinked = all-stand bytes (ma
 pub blocks-chunks : (options : ParseOptions) (bytes : List ℕ) (p : Point) (lines : List (List ℕ)) (rows : List Row) → AreRows options bytes p lines rows → EachNoContent rows → EachUnlinked rows →
     chunks_stand 0 (mark_events bytes ++ titled_groups bytes (groups rows)) ≡ true
 blocks-chunks options bytes p lines rows are quiet unlinked = all-chunks bytes (mark_events bytes ++ titled_groups bytes (groups rows)) (blocks-both options bytes p lines rows are quiet unlinked)
+
+-- Their events nest.
+
+-- a chunk
+linked-nested : (link : Link) (p q : Point) → IsTrue (at_or_before p q) → Nested_in p q (enter_link n.Data p link ∷ exit n.Data q ∷ [])
+linked-nested link p q h = (record { matches = (tt, (refl, tt)); closed = refl }, ((at_or_before-refl p, (h, tt)), at_or_before-refl q))
+
+-- the text of a heading, if there is one
+text-nested : (line : List ℕ) (p : Point) → Nested_in (text_begin line p) (text_end line p) (linked_text (title_of line p).text)
+text-nested line p = go (length (text_of line) == 0)
+  where
+    begin : Point
+    begin = text_begin line p
+
+    end : Point
+    end = text_end line p
+
+    go : (none : Bool) → Nested_in begin end (linked_text (cond none None (Some (record { first = begin; after = end }))))
+    go true = (balanced-none, (tt, text-order line p))
+    go false = around-nested n.HeadingAtxText begin end (enter_link n.Data begin heading_link ∷ exit n.Data end ∷ []) (linked-nested heading_link begin end (text-order line p))
+
+single-nested : (bytes : List ℕ) (row : Row) → Ordered bytes row → row.kind ≢ TextRow → (kind : RowKind) → row.kind ≡ kind → Nested_in row.first (behind_row row) (titled_row_by bytes kind row)
+single-nested bytes row o other BlankRow e = blank-nested bytes row o e
+single-nested bytes row o other HeadingRow e = heading-nested bytes row (linked_text (row_title bytes row).text) o (text-nested (row_line bytes row) row.first)
+single-nested bytes row o other BreakRow e = break-nested bytes row o e
+single-nested bytes row o other TextRow e = absurd (other e)
+
+abbrev Titled : List ℕ → Point → List Group → Type 0
+Titled bytes p gs = Onward p (titled_groups bytes gs)
+
+titled-by_lines : (bytes : List ℕ) → ByLines bytes (Titled bytes)
+titled-by_lines bytes = record {
+  none = λ p. record { balanced = balanced-none; forward = tt };
+  single = λ row gs o other nests. onward-before row.first (behind_row row) (titled_row_by bytes row.kind row) (titled_groups bytes gs) (single-nested bytes row o other row.kind refl) nests;
+  alone = λ row gs o nests.
+      let inside : List Event = enter_link n.Data row.first text_link ∷ exit n.Data row.end ∷ [] in
+      onward-before row.first (behind_row row) (around n.Paragraph row.first row.end inside ++ ending_events n.LineEnding row) (titled_groups bytes gs)
+      (block-nested bytes n.Paragraph row inside o (linked-nested text_link row.first row.end (line-order bytes row o))) nests;
+  next = λ row below rows gs o nests.
+      let last : Row = last_row below rows in
+      onward-next row.first (behind_row row) below.first last.end (enter_link n.Data row.first text_link ∷ exit n.Data (behind_row row) ∷ []) (linked n.Data text_link (chunks_of below rows)) (ending_events n.LineEnding last) (titled_groups bytes gs)
+      (linked-nested text_link row.first (behind_row row) (behind-order bytes row o)) nests;
+}
+
+titled-nest : (options : ParseOptions) (bytes : List ℕ) (p : Point) (lines : List (List ℕ)) (rows : List Row) → AreRows options bytes p lines rows → Titled bytes p (groups rows)
+titled-nest options bytes p lines rows are = rows-hold bytes (Titled bytes) (titled-by_lines bytes) options p lines rows are
+
+pub titled-balanced : (options : ParseOptions) (bytes : List ℕ) (p : Point) (lines : List (List ℕ)) (rows : List Row) → AreRows options bytes p lines rows → Balanced (titled_groups bytes (groups rows))
+titled-balanced options bytes p lines rows are = (titled-nest options bytes p lines rows are).balanced
+
+pub titled-forward : (options : ParseOptions) (bytes : List ℕ) (p : Point) (lines : List (List ℕ)) (rows : List Row) → AreRows options bytes p lines rows → Forward p (titled_groups bytes (groups rows))
+titled-forward options bytes p lines rows are = (titled-nest options bytes p lines rows are).forward
+
+pub blocks-nested : (options : ParseOptions) (bytes : List ℕ) (lines : List (List ℕ)) (rows : List Row) → AreRows options bytes (body_point bytes) lines rows → Nested (mark_events bytes ++ titled_groups bytes (groups rows))
+blocks-nested options bytes lines rows are =
+    mark-nested bytes (titled_groups bytes (groups rows)) (titled-balanced options bytes (body_point bytes) lines rows are) (titled-forward options bytes (body_point bytes) lines rows are)
