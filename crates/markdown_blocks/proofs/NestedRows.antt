@@ -172,7 +172,7 @@ onto-holds bytes P by row (Single below ∷ gs) o h TextRow e = by.alone row (Si
 onto-holds bytes P by row (Lines below rows ∷ gs) o h TextRow e = by.next row below rows gs o h
 
 -- an ending has a byte at least
-ending-order : (bytes : List ℕ) (p q : Point) → IsEnding bytes p q → IsTrue (at_or_before p q)
+pub ending-order : (bytes : List ℕ) (p q : Point) → IsEnding bytes p q → IsTrue (at_or_before p q)
 ending-order bytes p q is = go is.ending is.size
   where
     further : (size : ℕ) → q.index ≡ p.index + suc size → IsTrue (at_or_before p q)
