@@ -88,13 +88,13 @@ spread line [] p = []
 spread line (b ∷ bs) p = byte_cells line b p ++ spread line bs (past_byte b p)
 
 -- behind a tab with so many more columns
-abbrev tab_end : ℕ → Point → Point
+abbrev pub tab_end : ℕ → Point → Point
 tab_end n p = record { line = p.line; column = p.column + n + 1; index = p.index + 1; vs = 0 }
 
-tab_end-last : (p : Point) → behind_last p ≡ tab_end 0 p
+pub tab_end-last : (p : Point) → behind_last p ≡ tab_end 0 p
 tab_end-last p = ap (λ (c : ℕ). let q : Point = record { line = p.line; column = c; index = p.index + 1; vs = 0 } in q) (omega arith)
 
-tab_end-next : (n : ℕ) (p : Point) → tab_end n (next_column p) ≡ tab_end (suc n) p
+pub tab_end-next : (n : ℕ) (p : Point) → tab_end n (next_column p) ≡ tab_end (suc n) p
 tab_end-next n p = ap (λ (c : ℕ). let q : Point = record { line = p.line; column = c; index = p.index + 1; vs = 0 } in q) (omega arith)
 
 -- a point of a column begins a byte, or lies within a tab
@@ -134,7 +134,7 @@ tab-feed x (suc n) p small lt is e =
     ∙ ap (λ (r : Point). tab_cells x.line n 32 q ++ text_feed x r) (tab_end-next n p))
 
 -- the end of a tab from its first column is its stop
-tab_end-stop : (p : Point) → 1 ≤ p.column → tab_end (columns_more p) p ≡ past_byte 9 p
+pub tab_end-stop : (p : Point) → 1 ≤ p.column → tab_end (columns_more p) p ≡ past_byte 9 p
 tab_end-stop p one = ap (λ (c : ℕ). let q : Point = record { line = p.line; column = c; index = p.index + 1; vs = 0 } in q) (omega arith)
 
 byte-after : (x : Setting) (b : ℕ) (p : Point) → slice_index x.bytes p.index ≡ b → is_ending b ≡ false → (b == 9) ≡ false → 1 ≤ p.column → after x p ≡ past_byte b p

@@ -13,16 +13,20 @@ use Rattle.md_content.specs.Chunks.{content_link}
 use Rattle.md_leaves.specs.Break.{without_marker}
 use Rattle.md_leaves.specs.BlankRule.{blank_at, blank_events}
 use Rattle.md_leaves.specs.BreakRule.{Apart, before_marker, break_at, broken, runs}
+use Rattle.md_leaves.specs.HeadingRule.{heading_at, heading_inside, in_heading, is_heading, is_heading_line}
 use Rattle.md_leaves.proofs.BreakLemmas.{white-no_ending}
 use Rattle.md_leaves.proofs.BreakSteps.{at-none, at-off, at-white, entered_here}
+use Rattle.md_leaves.proofs.HeadingLemmas.{before-is, before-no}
+use Rattle.md_leaves.proofs.HeadingSteps as heading
+use Rattle.md_leaves.proofs.HeadingWhole as heading_line
 use Rattle.md_seam.specs.Ahead.{begins_white, from_ending, line_bytes, line_cells, line_end, white_end, white_rest}
 use Rattle.md_seam.specs.Leaves.{is_rule}
 use Rattle.md_seam.specs.Nested.{around, enter, enter_link, exit, pair}
 use Rattle.md_seam.specs.Rest.{is_blank, is_white}
-use Rattle.md_seam.specs.Spaces.{small_indent}
+use Rattle.md_seam.specs.Spaces.{calmed, small_indent}
 use Rattle.md_seam.proofs.WhiteSteps.{behind_white}
-use Rattle.markdown_blocks.specs.FlowRule.{Rule, blank_ended, calmed_at, content_of, ended, flow_at, flow_lines, line_then, nonblank_of, tried}
-use Rattle.markdown_blocks.specs.Rows.{BlankRow, BreakRow, RowKind, TextRow, after_ending, break_inside, first_cell, inside_of, is_break, row_events_by, row_kind, rows_at, rows_events}
+use Rattle.markdown_blocks.specs.FlowRule.{Rule, blank_ended, break_of, calmed_at, content_of, ended, flow_at, flow_lines, line_then, nonblank_of, tried}
+use Rattle.markdown_blocks.specs.Rows.{BlankRow, BreakRow, HeadingRow, RowKind, TextRow, after_ending, break_inside, first_cell, inside_of, is_break, row_events_by, row_kind, rows_at, rows_events}
 
 -- Whitespace in front of a line.
 
@@ -81,6 +85,9 @@ record Refused (o : Outcome) : Type 0 where
   scratch : Scratch
   flags : Flags
   is : o ≡ Refuses scratch flags
+
+accepts-same : (h new : Here) (left rest : List Cell) → Accepts h left ≡ Accepts new rest → new.events ≡ h.events
+accepts-same h new left rest e = let same : new ≡ h = cc in ap (λ (x : Here). x.events) same
 
 both : (a b : Bool) → a && b ≡ true → (a ≡ true) × (b ≡ true)
 both true b e = (refl, e)
@@ -194,6 +201,51 @@ break-refused options cells h e = by options.constructs.thematic_break refl
     by true on = go on (second options.constructs.thematic_break (is_rule (line_bytes left)) e on) (begins_white cells) refl
     by false off = record { scratch = h.scratch; flags = h.flags; is = at-off options cells h off }
 
+-- A heading takes a line or refuses it, whatever whitespace was asked for before.
+
+abbrev calm_here : Here → Here
+calm_here h = record h { scratch = calmed h.scratch }
+
+abbrev begun_here : Here → Here
+begun_here h = record h { events = h.events ++ enter n.HeadingAtx h.point ∷ [] }
+
+-- behind whitespace nothing is asked for
+calm-white : (options : ParseOptions) (cells : List Cell) (h : Here) → options.constructs.heading_atx ≡ true → begins_white cells ≡ true → heading_at options cells h ≡ heading_at options cells (calm_here h)
+calm-white options cells h on s = heading.at-white options cells h on s ∙ sym (heading.at-white options cells (calm_here h) on s)
+
+heading-took : (options : ParseOptions) (cells : List Cell) (h : Here) → is_heading_line options cells ≡ true →
+    Took h (around n.HeadingAtx h.point (line_end cells h.point) (heading_inside options cells h.point)) (line_end cells h.point) (from_ending cells) (heading_at options cells h)
+unfolding in_heading
+heading-took options cells h e = go (begins_white cells) refl
+  where
+    parts : (options.constructs.heading_atx ≡ true) × (is_heading (line_bytes (white_rest (small_indent options) cells)) ≡ true)
+    parts = both options.constructs.heading_atx (is_heading (line_bytes (white_rest (small_indent options) cells))) e
+
+    go : (x : Bool) → begins_white cells ≡ x → Took h (around n.HeadingAtx h.point (line_end cells h.point) (heading_inside options cells h.point)) (line_end cells h.point) (from_ending cells) (heading_at options cells h)
+    go true s = record { new = _; is = calm-white options cells h parts.0 s ∙ heading_line.heading-taken options cells (calm_here h) refl e; events = refl; point = refl }
+    go false s =
+        let here' : is_heading (line_bytes cells) ≡ true = sym (ap (λ (r : List Cell). is_heading (line_bytes r)) (none-rest (small_indent options) cells s)) ∙ parts.1 in
+        let calm = calm_here h in
+        record {
+          new = _;
+          is = heading.at-none options cells h parts.0 s ∙ before-is cells (begun_here h) here';
+          events = sym (accepts-same _ _ _ _ (sym (heading.at-none options cells calm parts.0 s ∙ before-is cells (begun_here calm) here') ∙ heading_line.heading-taken options cells calm refl e));
+          point = refl;
+        }
+
+heading-refused : (options : ParseOptions) (cells : List Cell) (h : Here) → is_heading_line options cells ≡ false → Refused (heading_at options cells h)
+heading-refused options cells h e = by options.constructs.heading_atx refl
+  where
+    go : options.constructs.heading_atx ≡ true → is_heading (line_bytes (white_rest (small_indent options) cells)) ≡ false → (x : Bool) → begins_white cells ≡ x → Refused (heading_at options cells h)
+    go on none true s = record { scratch = _; flags = _; is = calm-white options cells h on s ∙ heading_line.heading-refused options cells (calm_here h) refl e }
+    go on none false s =
+        let here' : is_heading (line_bytes cells) ≡ false = sym (ap (λ (r : List Cell). is_heading (line_bytes r)) (none-rest (small_indent options) cells s)) ∙ none in
+        record { scratch = _; flags = _; is = heading.at-none options cells h on s ∙ before-no cells (begun_here h) here' }
+
+    by : (x : Bool) → options.constructs.heading_atx ≡ x → Refused (heading_at options cells h)
+    by true on = go on (second options.constructs.heading_atx (is_heading (line_bytes (white_rest (small_indent options) cells))) e on) (begins_white cells) refl
+    by false off = record { scratch = h.scratch; flags = h.flags; is = heading.at-off options cells h off }
+
 chunk-took : (cells : List Cell) (h : Here) (s : Scratch) (g : Flags) →
     Took h (enter_link n.Content h.point content_link ∷ exit n.Content (line_end cells h.point) ∷ []) (line_end cells h.point) (from_ending cells) (chunk_at cells (record h { scratch = s; flags = g }))
 unfolding chunk_at inside_chunk
@@ -208,11 +260,13 @@ behind_events options m name p (c ∷ cs) = pair name p c.after ++ rows_events (
 -- what stands in front of it
 abbrev front_events : ParseOptions → List Cell → Point → RowKind → List Event
 front_events options cells p BlankRow = blank_events cells p
+front_events options cells p HeadingRow = around n.HeadingAtx p (line_end cells p) (heading_inside options cells p)
 front_events options cells p BreakRow = around n.ThematicBreak p (line_end cells p) (break_inside options cells p)
 front_events options cells p TextRow = enter_link n.Content p content_link ∷ exit n.Content (line_end cells p) ∷ []
 
 abbrev ending_name : RowKind → Name
 ending_name BlankRow = n.BlankLineEnding
+ending_name HeadingRow = n.LineEnding
 ending_name BreakRow = n.LineEnding
 ending_name TextRow = n.LineEnding
 
@@ -226,6 +280,9 @@ rows-by : (options : ParseOptions) (m : ℕ) (cells : List Cell) (p : Point) (k 
     rows_by options m cells p k left ≡ front_events options cells p k ++ behind_events options m (ending_name k) (line_end cells p) left
 rows-by options m cells p BlankRow [] = append-nil (blank_events cells p ++ [])
 rows-by options m cells p BlankRow (c ∷ cs) = append_assoc (blank_events cells p) (pair n.BlankLineEnding (line_end cells p) c.after) (rows_events (rows_at options m cs c.after))
+rows-by options m cells p HeadingRow [] = append-nil (around n.HeadingAtx p (line_end cells p) (heading_inside options cells p) ++ [])
+rows-by options m cells p HeadingRow (c ∷ cs) =
+    append_assoc (around n.HeadingAtx p (line_end cells p) (heading_inside options cells p)) (pair n.LineEnding (line_end cells p) c.after) (rows_events (rows_at options m cs c.after))
 rows-by options m cells p BreakRow [] = append-nil (around n.ThematicBreak p (line_end cells p) (break_inside options cells p) ++ [])
 rows-by options m cells p BreakRow (c ∷ cs) =
     append_assoc (around n.ThematicBreak p (line_end cells p) (break_inside options cells p)) (pair n.LineEnding (line_end cells p) c.after) (rows_events (rows_at options m cs c.after))
@@ -244,9 +301,6 @@ Adds options m next = (cells : List Cell) (h new : Here) (rest : List Cell) → 
 -- and those that go on behind a line
 abbrev AddsBehind : ParseOptions → ℕ → Name → Rule → Type 0
 AddsBehind options m name onward = (cells : List Cell) (h new : Here) (rest : List Cell) → onward cells h ≡ Accepts new rest → new.events ≡ h.events ++ behind_events options m name h.point cells
-
-accepts-same : (h new : Here) (left rest : List Cell) → Accepts h left ≡ Accepts new rest → new.events ≡ h.events
-accepts-same h new left rest e = let same : new ≡ h = cc in ap (λ (x : Here). x.events) same
 
 ended-adds : (options : ParseOptions) (m : ℕ) (next : Rule) → Adds options m next → (name : Name) → AddsBehind options m name (ended next name)
 ended-adds options m next adds name [] h new rest e = accepts-same h new [] rest e ∙ sym (append-nil h.events)
@@ -274,10 +328,14 @@ took-adds options m name onward adds otherwise added p left rest h new o t e =
 -- The kinds.
 
 kind-blank : (options : ParseOptions) (cells : List Cell) → is_blank (line_bytes cells) ≡ true → row_kind options cells ≡ BlankRow
-kind-blank options cells e = ap (λ (x : Bool). cond x BlankRow (cond (is_break options cells) BreakRow TextRow)) e
+kind-blank options cells e = ap (λ (x : Bool). cond x BlankRow (cond (is_heading_line options cells) HeadingRow (cond (is_break options cells) BreakRow TextRow))) e
 
-kind-other : (options : ParseOptions) (cells : List Cell) (x : Bool) → is_blank (line_bytes cells) ≡ false → is_break options cells ≡ x → row_kind options cells ≡ cond x BreakRow TextRow
-kind-other options cells x e k = ap₂ (λ (a b : Bool). cond a BlankRow (cond b BreakRow TextRow)) e k
+kind-heading : (options : ParseOptions) (cells : List Cell) → is_blank (line_bytes cells) ≡ false → is_heading_line options cells ≡ true → row_kind options cells ≡ HeadingRow
+kind-heading options cells e k = ap₂ (λ (a b : Bool). cond a BlankRow (cond b HeadingRow (cond (is_break options cells) BreakRow TextRow))) e k
+
+kind-other : (options : ParseOptions) (cells : List Cell) (x : Bool) → is_blank (line_bytes cells) ≡ false → is_heading_line options cells ≡ false → is_break options cells ≡ x → row_kind options cells ≡ cond x BreakRow TextRow
+kind-other options cells x e k l =
+    ap₂ (λ (a b : Bool). cond a BlankRow (cond b HeadingRow (cond (is_break options cells) BreakRow TextRow))) e k ∙ ap (λ (a : Bool). cond a BreakRow TextRow) l
 
 -- one line, and what follows it
 line-adds : (options : ParseOptions) (m : ℕ) (next : Rule) → Adds options m next → Adds options (suc m) (line_then options next)
@@ -290,15 +348,29 @@ line-adds options m next adds cells h new rest e = go (is_blank (line_bytes cell
         new.events ≡ h.events ++ rows_events (rows_at options (suc m) cells h.point)
     onto k is same = same ∙ ap (λ (es : List Event). h.events ++ es) (sym (rows-of options m cells h.point k is))
 
-    by : is_blank (line_bytes cells) ≡ false → nonblank_of options next cells h ≡ Accepts new rest → (x : Bool) → is_break options cells ≡ x → new.events ≡ h.events ++ rows_events (rows_at options (suc m) cells h.point)
-    by none k true b = onto BreakRow (kind-other options cells true none b)
-        (took-adds options m n.LineEnding (ended next n.LineEnding) (ended-adds options m next adds n.LineEnding) _ _ p (from_ending cells) rest h new (break_at options cells h) (break-took options cells h b) k)
-    by none k false b =
-        let no = break-refused options cells h b in
+    -- a line that is no heading
+    by : is_blank (line_bytes cells) ≡ false → is_heading_line options cells ≡ false → (s : Scratch) (g : Flags) → break_of options next cells (record h { scratch = s; flags = g }) ≡ Accepts new rest → (x : Bool) → is_break options cells ≡ x →
+        new.events ≡ h.events ++ rows_events (rows_at options (suc m) cells h.point)
+    by none other s g k true b =
+        let at : Here = record h { scratch = s; flags = g } in
+        onto BreakRow (kind-other options cells true none other b)
+        (took-adds options m n.LineEnding (ended next n.LineEnding) (ended-adds options m next adds n.LineEnding) _ _ p (from_ending cells) rest at new (break_at options cells at) (break-took options cells at b) k)
+    by none other s g k false b =
+        let no = break-refused options cells (record h { scratch = s; flags = g }) b in
         let text : content_of next cells (record h { scratch = no.scratch; flags = no.flags }) ≡ Accepts new rest =
         ap (λ (x : Outcome). tried x (ended next n.LineEnding) (λ s g. content_of next cells (record h { scratch = s; flags = g }))) (sym no.is) ∙ k in
-        onto TextRow (kind-other options cells false none b)
+        onto TextRow (kind-other options cells false none other b)
         (took-adds options m n.LineEnding (ended next n.LineEnding) (ended-adds options m next adds n.LineEnding) Refuses _ p (from_ending cells) rest h new _ (chunk-took cells h no.scratch no.flags) text)
+
+    -- a line that is not blank
+    nonblank : is_blank (line_bytes cells) ≡ false → nonblank_of options next cells h ≡ Accepts new rest → (x : Bool) → is_heading_line options cells ≡ x → new.events ≡ h.events ++ rows_events (rows_at options (suc m) cells h.point)
+    nonblank none k true b = onto HeadingRow (kind-heading options cells none b)
+        (took-adds options m n.LineEnding (ended next n.LineEnding) (ended-adds options m next adds n.LineEnding) _ _ p (from_ending cells) rest h new (heading_at options cells h) (heading-took options cells h b) k)
+    nonblank none k false b =
+        let no = heading-refused options cells h b in
+        let left : break_of options next cells (record h { scratch = no.scratch; flags = no.flags }) ≡ Accepts new rest =
+        ap (λ (x : Outcome). tried x (ended next n.LineEnding) (λ s g. break_of options next cells (record h { scratch = s; flags = g }))) (sym no.is) ∙ k in
+        by none b no.scratch no.flags left (is_break options cells) refl
 
     go : (x : Bool) → is_blank (line_bytes cells) ≡ x → new.events ≡ h.events ++ rows_events (rows_at options (suc m) cells h.point)
     go true k = onto BlankRow (kind-blank options cells k)
@@ -306,7 +378,7 @@ line-adds options m next adds cells h new rest e = go (is_blank (line_bytes cell
     go false k =
         let left : nonblank_of options next cells h ≡ Accepts new rest =
         ap (λ (x : Outcome). tried x (blank_ended next) (λ s g. nonblank_of options next cells (record h { scratch = s; flags = g }))) (sym (blank-refused cells h k)) ∙ e in
-        by k left (is_break options cells) refl
+        nonblank k left (is_heading_line options cells) refl
 
 -- flow adds the events of the rows, for as many lines as are read
 pub flow-rows : (options : ParseOptions) (m : ℕ) → Adds options m (flow_lines options m)

@@ -7,8 +7,10 @@ pub mod FlowRuns
 pub mod FlowEnds
 pub mod RowFacts
 pub mod FeedLines
+pub mod HeadingSpread
 pub mod LineKinds
 pub mod HeadingLines
+pub mod HeadingRuns
 pub mod RowLemmas
 pub mod FlowRows
 pub mod FlowReads

@@ -8,14 +8,16 @@ use Rattle.md_engine.specs.declared.configuration.ParseOptions.{ParseOptions}
 use Rattle.md_engine.specs.declared.event.Point.{Point}
 use Rattle.md_engine.specs.declared.tokenizer.Line.{Line}
 use Rattle.md_engine.specs.Meaning.{Cell}
+use Rattle.md_leaves.specs.HeadingRule.{is_heading, is_heading_line}
 use Rattle.md_seam.specs.Ahead.{begins_white, from_ending, line_bytes, line_cells, line_end, point_after, white_end, white_rest}
 use Rattle.md_seam.specs.Leaves.{is_rule, is_rule_marker}
 use Rattle.md_seam.specs.Places.{past_byte, past_text}
 use Rattle.md_seam.specs.Rest.{is_blank, is_white, trim_start}
 use Rattle.md_seam.specs.Spaces.{any_size, small_indent}
 use Rattle.md_seam.proofs.TextsLemmas.{NoEnding}
-use Rattle.markdown_blocks.specs.Rows.{BlankRow, BreakRow, TextRow, is_break, line_kind, row_kind}
+use Rattle.markdown_blocks.specs.Rows.{BlankRow, BreakRow, HeadingRow, TextRow, is_break, line_kind, row_kind}
 use Rattle.markdown_blocks.proofs.FeedLines.{all-spread, byte-end, byte_cells, bytes_of, cell, columns_more, count-spread, from_ending-append, line_cells-append, next_column, no_feed-spread, spread, spread-end, tab_cells}
+use Rattle.markdown_blocks.proofs.HeadingSpread.{heading-spread}
 
 -- nothing comes, or an ending
 abbrev pub Stops : List Cell → Type 0
@@ -173,7 +175,7 @@ spread-point line (b ∷ bs) p rest k one = go (is_white b) refl (spread-point l
         ∙ sym (ap (λ (f : List ℕ). past_text f p) (front-none b bs e))
 
 -- where indented code is off, each indent is small
-no_limit : (options : ParseOptions) → options.constructs.code_indented ≡ false → small_indent options ≡ any_size
+pub no_limit : (options : ParseOptions) → options.constructs.code_indented ≡ false → small_indent options ≡ any_size
 no_limit options off = ap (λ (t : Bool). cond t 3 any_size) off
 
 pub small-rest : (options : ParseOptions) (line : Line) (bytes : List ℕ) (p : Point) (rest : List Cell) → options.constructs.code_indented ≡ false → length (spread line bytes p ++ rest) < 2 ^ 63 → Stops rest → 1 ≤ p.column →
@@ -234,9 +236,10 @@ pub kind-spread : (options : ParseOptions) (line : Line) (bytes : List ℕ) (p :
 kind-spread options line bytes p rest off short h k one =
     let cells = spread line bytes p ++ rest in
     let q = past_text (white_front bytes) p in
-    let rule : is_rule (line_bytes (white_rest (small_indent options) cells)) ≡ is_rule (trim_start bytes) =
-    ap (λ (l : List Cell). is_rule (line_bytes l)) (small-rest options line bytes p rest off short k one)
-    ∙ ap is_rule (spread-bytes line (trim_start bytes) q rest (no_ending-trim bytes h) k)
-    ∙ rule-spread line (trim_start bytes) q in
-    ap (λ (t : Bool). cond t BlankRow (cond (is_break options cells) BreakRow TextRow)) (spread-blank line bytes p rest h k)
-    ∙ ap (λ (t : Bool). cond (is_blank bytes) BlankRow (cond (options.constructs.thematic_break && t) BreakRow TextRow)) rule
+    let left : line_bytes (white_rest (small_indent options) cells) ≡ bytes_of (spread line (trim_start bytes) q) =
+    ap line_bytes (small-rest options line bytes p rest off short k one) ∙ spread-bytes line (trim_start bytes) q rest (no_ending-trim bytes h) k in
+    let heading : is_heading (line_bytes (white_rest (small_indent options) cells)) ≡ is_heading (trim_start bytes) = ap is_heading left ∙ heading-spread line (trim_start bytes) q in
+    let rule : is_rule (line_bytes (white_rest (small_indent options) cells)) ≡ is_rule (trim_start bytes) = ap is_rule left ∙ rule-spread line (trim_start bytes) q in
+    ap (λ (t : Bool). cond t BlankRow (cond (is_heading_line options cells) HeadingRow (cond (is_break options cells) BreakRow TextRow))) (spread-blank line bytes p rest h k)
+    ∙ ap (λ (t : Bool). cond (is_blank bytes) BlankRow (cond (options.constructs.heading_atx && t) HeadingRow (cond (is_break options cells) BreakRow TextRow))) heading
+    ∙ ap (λ (t : Bool). cond (is_blank bytes) BlankRow (cond (options.constructs.heading_atx && is_heading (trim_start bytes)) HeadingRow (cond (options.constructs.thematic_break && t) BreakRow TextRow))) rule

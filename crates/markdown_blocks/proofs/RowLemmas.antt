@@ -1,5 +1,5 @@
 -- The lines that flow reads are those of the text.
-use Rattle.std.proofs.Common.{◌≡◌, ℕ, zero, suc, ◌+◌, ◌^◌, ◌<◌, ◌≤◌, Bool, true, false, cond, List, [], ◌∷◌, ◌++◌, length, drop, refl, sym, ap, ◌∙◌, subst, arith, append-nil, append_assoc, inl, inr, ◌⊎◌}
+use Rattle.std.proofs.Common.{◌≡◌, ◌≢◌, ℕ, zero, suc, ◌+◌, ◌^◌, ◌<◌, ◌≤◌, Bool, true, false, cond, List, [], ◌∷◌, ◌++◌, length, drop, refl, sym, ap, ◌∙◌, subst, arith, append-nil, append_assoc, inl, inr, ◌⊎◌}
 use Rattle.std.specs.Prelude.{◌==◌, IsTrue, Some}
 use Rattle.std.specs.List.{prefix_len}
 use Rattle.std.proofs.lemmas.Bool.{eqb-true, or_from}
@@ -13,13 +13,13 @@ use Rattle.md_engine.specs.declared.event.Point.{Point}
 use Rattle.md_engine.specs.declared.tokenizer.Line.{Line}
 use Rattle.md_engine.specs.Meaning.{Cell}
 use Rattle.md_engine.specs.TextFeed.{text_feed}
-use Rattle.md_engine.specs.World.{Setting, fresh, reads_to}
+use Rattle.md_engine.specs.World.{Setting}
 use Rattle.md_engine.proofs.TextFeed.{text-follows}
 use Rattle.md_leaves.specs.BlankRule.{blank_events}
 use Rattle.md_leaves.specs.BreakRule.{Apart, Marks, Run, White, runs}
 use Rattle.md_seam.specs.Ahead.{begins_white, from_ending, line_cells, line_end, point_after, white_rest}
 use Rattle.md_seam.specs.Nested.{Balanced, Forward, Matches, last_point, open_after, pair}
-use Rattle.md_seam.specs.Places.{at_or_before, first_point, past_byte, past_text}
+use Rattle.md_seam.specs.Places.{at_or_before, past_byte, past_text}
 use Rattle.md_seam.specs.Rest.{is_white, trim_start}
 use Rattle.md_seam.specs.Spaces.{small_indent}
 use Rattle.md_seam.specs.Texts.{split_lines}
@@ -27,10 +27,12 @@ use Rattle.md_seam.proofs.InlineLemmas.{past-index}
 use Rattle.md_seam.proofs.NestedLemmas.{at_or_before-refl, at_or_before-trans, balanced-append, balanced-none, forward-append, forward-from, last_point-append}
 use Rattle.md_seam.proofs.SpelledLemmas.{Quiet, Roles, roles-append}
 use Rattle.md_seam.proofs.TextsLemmas.{Both, Ending, EndsBefore, LineFeed, NoEnding, Return, ending_bytes, split-line, split-next}
-use Rattle.markdown_blocks.specs.Rows.{BlankRow, BreakRow, Row, RowKind, TextRow, after_ending, break_inside, first_cell, inside_of, row_at, row_kind, rows_at}
+use Rattle.markdown_blocks.specs.FlowReads.{text_cells, text_rows, text_setting}
+use Rattle.markdown_blocks.specs.Rows.{BlankRow, BreakRow, HeadingRow, Row, RowKind, TextRow, after_ending, break_inside, first_cell, inside_of, row_at, row_kind, rows_at}
 use Rattle.markdown_blocks.proofs.FeedLines.{HasEnding, HasLine, behind_last, begun-none, byte-end, byte_cells, cell, columns_more, drop-past, ending-feed, ending-some, feed-none, front-within, is-ending, line-feed, next_column, past_ending, past_text-column, past_text-whole, slice-front, spread, spread-end, tab_cells}
+use Rattle.markdown_blocks.proofs.HeadingRuns.{heading-runs}
 use Rattle.markdown_blocks.proofs.LineKinds.{Stops, kind-spread, no_ending-trim, small-end, small-rest, spread-line, spread-line_end, spread-rest, white_front}
-use Rattle.markdown_blocks.proofs.RowFacts.{AreRows, IsEnding, IsRow}
+use Rattle.markdown_blocks.proofs.RowFacts.{AreRows, IsEnding, IsInside, IsRow}
 
 -- Points go forward.
 
@@ -197,12 +199,13 @@ inside-break options line bytes p rest off short h k one =
     subst (λ (more : List Cell). Inside p (past_text bytes p) (E more (line_cells more) q)) (sym (small-rest options line bytes p rest off short k one)) lined in
     subst (λ (r : Point). Inside p (past_text bytes p) (E (white_rest (small_indent options) cells) (line_cells (white_rest (small_indent options) cells)) r)) (sym (small-end options line bytes p rest off short k one)) behind
 
--- what stands inside a row of either kind
+-- what stands inside a row that is no heading
 inside-row : (options : ParseOptions) (line : Line) (bytes : List ℕ) (p : Point) (rest : List Cell) → options.constructs.code_indented ≡ false → length (spread line bytes p ++ rest) < 2 ^ 63 → NoEnding bytes → Stops rest → 1 ≤ p.column →
-    (kind : RowKind) → Inside p (past_text bytes p) (inside_of options (spread line bytes p ++ rest) p kind)
-inside-row options line bytes p rest off short h k one BlankRow = inside-blank line bytes p rest h k one
-inside-row options line bytes p rest off short h k one BreakRow = inside-break options line bytes p rest off short h k one
-inside-row options line bytes p rest off short h k one TextRow = inside-none p (past_text bytes p) (before-text bytes p)
+    (kind : RowKind) → kind ≢ HeadingRow → Inside p (past_text bytes p) (inside_of options (spread line bytes p ++ rest) p kind)
+inside-row options line bytes p rest off short h k one BlankRow other = inside-blank line bytes p rest h k one
+inside-row options line bytes p rest off short h k one HeadingRow other = absurd (other refl)
+inside-row options line bytes p rest off short h k one BreakRow other = inside-break options line bytes p rest off short h k one
+inside-row options line bytes p rest off short h k one TextRow other = inside-none p (past_text bytes p) (before-text bytes p)
 
 none-inside : (options : ParseOptions) (cells : List Cell) (p : Point) (kind : RowKind) → kind ≡ TextRow → inside_of options cells p kind ≡ []
 none-inside options cells p kind e = ap (inside_of options cells p) e
@@ -215,7 +218,14 @@ is-row options bytes said line behind p rest off short h k one vs text =
     let cells = spread said line p ++ rest in
     let end : line_end cells p ≡ past_text line p = spread-line_end said line p rest h k one in
     let index : (line_end cells p).index ≡ p.index + length line = ap (λ (q : Point). q.index) end ∙ past-index line p in
-    let inside = inside-row options said line p rest off short h k one (row_kind options cells) in
+    let quiet : row_kind options cells ≢ HeadingRow → IsInside (row_at options cells p) = λ other.
+    let inside = inside-row options said line p rest off short h k one (row_kind options cells) other in
+    record {
+      quiet = inside.quiet;
+      balanced = inside.balanced;
+      forward = inside.forward;
+      within = subst (λ (q : Point). IsTrue (at_or_before (last_point p (inside_of options cells p (row_kind options cells))) q)) (sym end) inside.within;
+    } in
     record {
       kind = kind-spread options said line p rest off short h k one;
       no_ending = h;
@@ -225,11 +235,9 @@ is-row options bytes said line behind p rest off short h k one vs text =
       first_whole = vs;
       first_column = one;
       end_whole = ap (λ (q : Point). q.vs) end ∙ past_text-whole line p vs;
-      quiet = inside.quiet;
-      balanced = inside.balanced;
-      forward = inside.forward;
-      within = subst (λ (q : Point). IsTrue (at_or_before (last_point p (inside_of options cells p (row_kind options cells))) q)) (sym end) inside.within;
+      inside = quiet;
       no_inside = none-inside options cells p (row_kind options cells);
+      heading = λ is. ap (inside_of options cells p) is ∙ heading-runs options said line p rest off short h k one;
     }
 
 -- The first line of a text.
@@ -375,14 +383,8 @@ rows-are options (suc n) x p off h short = go (first_line (drop p.index x.bytes)
         next-rows options n x.bytes x.line line h'.ending h'.rest p q (text_feed x p) (text_feed x q) off few h'.no_ending h'.before h.whole h.column h'.joined left
         (is-ending x.bytes h'.ending h'.rest end behind h'.before) fed (more q lines (omega arith))
 
--- The rows of a text are its lines.
-pub text-rows : (options : ParseOptions) (x : Setting) → options.constructs.code_indented ≡ false → x.skips ≡ [] → x.limit ≡ length x.bytes → length x.bytes < 2 ^ 61 →
-    AreRows options x.bytes first_point (split_lines x.bytes) (rows_at options (suc (length (text_feed x first_point))) (text_feed x first_point) first_point)
-text-rows options x off skips limit small = rows-are options (suc (length (text_feed x first_point))) x first_point off
-    (record { small = small; limit = limit; skips = skips; index = omega arith; whole = refl; column = omega arith }) (omega arith)
-
--- So are those of a text that a new tokenizer reads to its end.
-pub fresh-rows : (options : ParseOptions) (bytes : List ℕ) → options.constructs.code_indented ≡ false → length bytes < 2 ^ 61 →
-    let feed = text_feed (reads_to (fresh bytes options first_point) (length bytes)).setting in
-    AreRows options bytes first_point (split_lines bytes) (rows_at options (suc (length (feed first_point))) (feed first_point) first_point)
-fresh-rows options bytes off small = text-rows options (reads_to (fresh bytes options first_point) (length bytes)).setting off refl refl small
+-- So are those that a new tokenizer reads to the end of a text.
+pub fresh-rows : (options : ParseOptions) (bytes : List ℕ) (p : Point) → options.constructs.code_indented ≡ false → length bytes < 2 ^ 61 → p.index ≤ length bytes → p.vs ≡ 0 → 1 ≤ p.column →
+    AreRows options bytes p (split_lines (drop p.index bytes)) (text_rows options bytes p)
+fresh-rows options bytes p off small index whole column = rows-are options (suc (length (text_cells bytes options p))) (text_setting bytes options p) p off
+    (record { small = small; limit = refl; skips = refl; index = index; whole = whole; column = column }) (omega arith)
