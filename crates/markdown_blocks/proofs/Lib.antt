@@ -6,7 +6,6 @@ pub mod FlowMeans
 pub mod FlowRuns
 pub mod FlowEnds
 pub mod RowFacts
-pub mod FeedLines
 pub mod HeadingSpread
 pub mod LineKinds
 pub mod HeadingLines

@@ -14,15 +14,10 @@ use Rattle.md_seam.specs.Leaves.{is_rule, is_rule_marker}
 use Rattle.md_seam.specs.Places.{past_byte, past_text}
 use Rattle.md_seam.specs.Rest.{is_blank, is_white, trim_start}
 use Rattle.md_seam.specs.Spaces.{any_size, small_indent}
+use Rattle.md_seam.proofs.FeedLines.{Stops, all-spread, byte-end, byte_cells, bytes_of, cell, columns_more, count-spread, from_ending-append, line_cells-append, next_column, no_feed-spread, spread, spread-end, stops-white, tab_cells}
 use Rattle.md_seam.proofs.TextsLemmas.{NoEnding}
 use Rattle.markdown_blocks.specs.Rows.{BlankRow, BreakRow, HeadingRow, TextRow, is_break, line_kind, row_kind}
-use Rattle.markdown_blocks.proofs.FeedLines.{all-spread, byte-end, byte_cells, bytes_of, cell, columns_more, count-spread, from_ending-append, line_cells-append, next_column, no_feed-spread, spread, spread-end, tab_cells}
 use Rattle.markdown_blocks.proofs.HeadingSpread.{heading-spread}
-
--- nothing comes, or an ending
-abbrev pub Stops : List Cell → Type 0
-Stops [] = Unit {0}
-Stops (c ∷ cs) = (c.byte == 10) ≡ true
 
 stops-line : (rest : List Cell) → Stops rest → line_cells rest ≡ []
 stops-line [] h = refl
@@ -31,11 +26,6 @@ stops-line (c ∷ cs) h = rw h refl
 stops-rest : (rest : List Cell) → Stops rest → from_ending rest ≡ rest
 stops-rest [] h = refl
 stops-rest (c ∷ cs) h = rw h refl
-
--- an ending is no whitespace
-stops-white : (rest : List Cell) → Stops rest → begins_white rest ≡ false
-stops-white [] h = refl
-stops-white (c ∷ cs) h = let ten : c.byte ≡ 10 = eqb-true c.byte 10 h in ap is_white ten
 
 -- the cells of a line, without what follows
 pub spread-line : (line : Line) (bytes : List ℕ) (p : Point) (rest : List Cell) → NoEnding bytes → Stops rest → line_cells (spread line bytes p ++ rest) ≡ spread line bytes p

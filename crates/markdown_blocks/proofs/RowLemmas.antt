@@ -23,15 +23,15 @@ use Rattle.md_seam.specs.Places.{at_or_before, past_byte, past_text}
 use Rattle.md_seam.specs.Rest.{is_white, trim_start}
 use Rattle.md_seam.specs.Spaces.{small_indent}
 use Rattle.md_seam.specs.Texts.{split_lines}
+use Rattle.md_seam.proofs.FeedLines.{HasEnding, HasLine, Stops, behind_last, begun-none, byte-end, byte_cells, cell, columns_more, drop-past, ending-feed, ending-some, feed-none, front-within, is-ending, line-feed, next_column, past_ending, past_text-column, past_text-whole, slice-front, spread, spread-end, tab_cells}
 use Rattle.md_seam.proofs.InlineLemmas.{past-index}
 use Rattle.md_seam.proofs.NestedLemmas.{at_or_before-refl, at_or_before-trans, balanced-append, balanced-none, forward-append, forward-from, last_point-append}
 use Rattle.md_seam.proofs.SpelledLemmas.{Quiet, Roles, roles-append}
 use Rattle.md_seam.proofs.TextsLemmas.{Both, Ending, EndsBefore, LineFeed, NoEnding, Return, ending_bytes, split-line, split-next}
 use Rattle.markdown_blocks.specs.FlowReads.{text_cells, text_rows, text_setting}
 use Rattle.markdown_blocks.specs.Rows.{BlankRow, BreakRow, HeadingRow, Row, RowKind, TextRow, after_ending, break_inside, first_cell, inside_of, row_at, row_kind, rows_at}
-use Rattle.markdown_blocks.proofs.FeedLines.{HasEnding, HasLine, behind_last, begun-none, byte-end, byte_cells, cell, columns_more, drop-past, ending-feed, ending-some, feed-none, front-within, is-ending, line-feed, next_column, past_ending, past_text-column, past_text-whole, slice-front, spread, spread-end, tab_cells}
 use Rattle.markdown_blocks.proofs.HeadingRuns.{heading-runs}
-use Rattle.markdown_blocks.proofs.LineKinds.{Stops, kind-spread, no_ending-trim, small-end, small-rest, spread-line, spread-line_end, spread-rest, white_front}
+use Rattle.markdown_blocks.proofs.LineKinds.{kind-spread, no_ending-trim, small-end, small-rest, spread-line, spread-line_end, spread-rest, white_front}
 use Rattle.markdown_blocks.proofs.RowFacts.{AreRows, IsEnding, IsInside, IsRow}
 
 -- Points go forward.

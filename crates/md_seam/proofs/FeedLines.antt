@@ -15,13 +15,13 @@ use Rattle.md_engine.specs.Scheme.{cells_left}
 use Rattle.md_engine.specs.TextFeed.{cells_from, text_feed}
 use Rattle.md_engine.specs.World.{Setting, after, line_begun}
 use Rattle.md_engine.proofs.TextFeed.{text-follows}
-use Rattle.md_seam.specs.Ahead.{from_ending, line_cells, point_after}
+use Rattle.md_seam.specs.Ahead.{begins_white, from_ending, line_cells, point_after}
 use Rattle.md_seam.specs.Lines.{is_ending, begins_with}
 use Rattle.md_seam.specs.Places.{past_byte, past_text}
+use Rattle.md_seam.specs.Rest.{is_white}
 use Rattle.md_seam.specs.Texts.{first_byte}
 use Rattle.md_seam.proofs.PlacesLemmas.{drop-next}
 use Rattle.md_seam.proofs.TextsLemmas.{Both, Ending, EndsBefore, LineFeed, NoEnding, Return, ending_bytes}
-use Rattle.markdown_blocks.proofs.RowFacts.{IsEnding}
 
 -- What stands in a text.
 
@@ -319,6 +319,18 @@ pub from_ending-append : (xs ys : List Cell) → NoFeed xs → from_ending (xs +
 from_ending-append [] ys h = refl
 from_ending-append (c ∷ xs) ys h = rw h.0 (from_ending-append xs ys h.1)
 
+-- What follows the cells of a line.
+
+-- nothing comes, or an ending
+abbrev pub Stops : List Cell → Type 0
+Stops [] = Unit {0}
+Stops (c ∷ cs) = (c.byte == 10) ≡ true
+
+-- an ending is no whitespace
+pub stops-white : (rest : List Cell) → Stops rest → begins_white rest ≡ false
+stops-white [] h = refl
+stops-white (c ∷ cs) h = let ten : c.byte ≡ 10 = eqb-true c.byte 10 h in ap is_white ten
+
 -- The cell of an ending.
 
 -- behind an ending
@@ -396,6 +408,18 @@ pub ending-some : (ending : Ending) → 0 < length (ending_bytes ending)
 ending-some LineFeed = omega arith
 ending-some Return = omega arith
 ending-some Both = omega arith
+
+-- an ending stands between two points
+pub record IsEnding (bytes : List ℕ) (p q : Point) : Type 0 where
+  pub ending : Ending
+  pub text : slice_range bytes p.index q.index ≡ ending_bytes ending
+  pub size : q.index ≡ p.index + length (ending_bytes ending)
+  pub in_text : q.index ≤ length bytes
+  pub before : EndsBefore ending (drop q.index bytes)
+  pub whole : q.vs ≡ 0
+  -- a line begins there
+  pub line : q.line ≡ p.line + 1
+  pub column : q.column ≡ 1
 
 pub is-ending : (bytes : List ℕ) (ending : Ending) (rest : List ℕ) (p : Point) → drop p.index bytes ≡ ending_bytes ending ++ rest → EndsBefore ending rest → IsEnding bytes p (past_ending ending p)
 is-ending bytes ending rest p e h =
