@@ -14,7 +14,7 @@ use Rattle.md_seam.specs.Leaves.{is_rule, is_rule_marker}
 use Rattle.md_seam.specs.Places.{past_byte, past_text}
 use Rattle.md_seam.specs.Rest.{is_blank, is_white, trim_start}
 use Rattle.md_seam.specs.Spaces.{any_size, small_indent}
-use Rattle.md_seam.proofs.FeedLines.{Stops, all-spread, byte-end, byte_cells, bytes_of, cell, columns_more, count-spread, from_ending-append, line_cells-append, next_column, no_feed-spread, spread, spread-end, stops-white, tab_cells}
+use Rattle.md_seam.proofs.FeedLines.{Stops, all-spread, byte-end, byte-one, byte_cells, bytes_of, cell, columns_more, count-spread, from_ending-append, line_cells-append, next_column, no_feed-spread, spread, spread-end, stops-white, tab_cells}
 use Rattle.md_seam.proofs.TextsLemmas.{NoEnding}
 use Rattle.markdown_blocks.specs.Rows.{BlankRow, BreakRow, HeadingRow, TextRow, is_break, line_kind, row_kind}
 use Rattle.markdown_blocks.proofs.HeadingSpread.{heading-spread}
@@ -92,10 +92,6 @@ byte-white line b p e = go (b == 9)
     go : (t : Bool) → AllWhite (cond t (tab_cells line (columns_more p) 9 p) (cell b (past_byte b p) line ∷ []))
     go true = tab-white line (columns_more p) 9 p refl
     go false = (e, tt)
-
--- what is no whitespace is one cell
-byte-one : (line : Line) (b : ℕ) (p : Point) → is_white b ≡ false → byte_cells line b p ≡ cell b (past_byte b p) line ∷ []
-byte-one line b p e = ap (λ (t : Bool). cond t (tab_cells line (columns_more p) 9 p) (cell b (past_byte b p) line ∷ [])) (or_parts (b == 32) (b == 9) e).1
 
 -- the whitespace in front of a line
 abbrev pub white_front : List ℕ → List ℕ

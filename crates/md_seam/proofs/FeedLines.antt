@@ -82,6 +82,10 @@ tab_cells line (suc n) byte p = cell byte (next_column p) line ∷ tab_cells lin
 abbrev pub byte_cells : Line → ℕ → Point → List Cell
 byte_cells line b p = if b == 9 then tab_cells line (columns_more p) 9 p else cell b (past_byte b p) line ∷ []
 
+-- what is no whitespace is one cell
+pub byte-one : (line : Line) (b : ℕ) (p : Point) → is_white b ≡ false → byte_cells line b p ≡ cell b (past_byte b p) line ∷ []
+byte-one line b p e = ap (λ (t : Bool). cond t (tab_cells line (columns_more p) 9 p) (cell b (past_byte b p) line ∷ [])) (or_parts (b == 32) (b == 9) e).1
+
 -- the cells of a piece of a line
 abbrev pub spread : Line → List ℕ → Point → List Cell
 spread line [] p = []
