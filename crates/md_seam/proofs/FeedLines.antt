@@ -122,7 +122,7 @@ seen-first bytes b p is e vs = rw (is, e, vs) (go (b == 9))
     go false = refl
 
 -- a tab is fed column by column
-tab-feed : (x : Setting) (n : ℕ) (p : Point) → x.limit < 2 ^ 61 → p.index < x.limit → slice_index x.bytes p.index ≡ 9 → n ≡ columns_more p →
+pub tab-feed : (x : Setting) (n : ℕ) (p : Point) → x.limit < 2 ^ 61 → p.index < x.limit → slice_index x.bytes p.index ≡ 9 → n ≡ columns_more p →
     text_feed x p ≡ tab_cells x.line n (seen_at x.bytes p) p ++ text_feed x (tab_end n p)
 tab-feed x zero p small lt is e =
     feed-next x p small lt
@@ -196,7 +196,7 @@ pub point_after-append : (xs ys : List Cell) (p : Point) → point_after (xs ++ 
 point_after-append [] ys p = refl
 point_after-append (c ∷ xs) ys p = point_after-append xs ys c.after
 
-tab-end : (line : Line) (n byte : ℕ) (p q : Point) → point_after (tab_cells line n byte p) q ≡ tab_end n p
+pub tab-end : (line : Line) (n byte : ℕ) (p q : Point) → point_after (tab_cells line n byte p) q ≡ tab_end n p
 tab-end line zero byte p q = tab_end-last p
 tab-end line (suc n) byte p q = tab-end line n 32 (next_column p) (next_column p) ∙ tab_end-next n p
 

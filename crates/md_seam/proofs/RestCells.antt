@@ -1,14 +1,21 @@
 -- The cells of the rest of a line, which may begin within a tab that a prefix has cut.
-use Rattle.std.proofs.Common.{◌≡◌, ℕ, zero, suc, ◌+◌, ◌-◌, ◌%◌, ◌^◌, ◌<◌, ◌≤◌, Bool, true, false, cond, List, [], ◌∷◌, ◌++◌, length, drop, refl, sym, ap, ◌∙◌, subst, arith, append_assoc}
-use Rattle.std.specs.Prelude.{◌==◌}
-use Rattle.std.proofs.lemmas.Bool.{eqb-true}
+use Rattle.std.proofs.Common.{◌≡◌, ℕ, zero, suc, ◌+◌, ◌-◌, ◌^◌, ◌<◌, ◌≤◌, Bool, true, false, cond, List, [], ◌∷◌, ◌++◌, length, drop, refl, sym, ap, ◌∙◌, subst, arith, append_assoc}
+use Rattle.std.specs.Prelude.{◌==◌, nat_lt, slice_index}
+use Rattle.std.proofs.lemmas.Bool.{eqb-true, or_parts}
+use Rattle.std.proofs.lemmas.Bool.Decides.{nat_tests}
 use Rattle.md_engine.specs.declared.event.Point.{Point}
 use Rattle.md_engine.specs.declared.tokenizer.Line.{Line}
 use Rattle.md_engine.specs.Meaning.{Cell}
-use Rattle.md_seam.specs.Ahead.{begins_white, white_end, white_rest}
-use Rattle.md_seam.specs.Places.{past_byte}
+use Rattle.md_engine.specs.Place.{seen_at}
+use Rattle.md_engine.specs.TextFeed.{text_feed}
+use Rattle.md_engine.specs.World.{Setting}
+use Rattle.md_seam.specs.Ahead.{begins_white, point_after, white_end, white_rest}
+use Rattle.md_seam.specs.Places.{past_byte, past_text}
+use Rattle.md_seam.specs.Preamble.{rest_at}
 use Rattle.md_seam.specs.Rest.{Rest, behind_indent, indent, is_white, lose, tab_columns, white_columns, without_column}
-use Rattle.md_seam.proofs.FeedLines.{Stops, behind_last, byte-one, byte_cells, cell, columns_more, next_column, past-next, spread, stops-white, tab_cells, tab_end, tab_end-last, tab_end-next, tab_end-stop}
+use Rattle.md_seam.proofs.FeedLines.{HasLine, Stops, at-next, behind_last, byte-one, cell, columns_more, line-feed, next_column, past-next, point_after-append, spread, spread-end, stops-white, tab-end, tab-feed, tab_cells, tab_end, tab_end-last, tab_end-next, tab_end-stop}
+use Rattle.md_seam.proofs.TextsLemmas.{NoEnding}
+use Rattle.md_seam.proofs.WhiteSteps.{none-end, none-rest}
 
 -- the columns that are left of a cut tab, and then the cells of the bytes
 abbrev pub cells_by : Line → ℕ → List ℕ → Point → List Cell
@@ -33,6 +40,24 @@ pub record RestAt (text behind : List ℕ) (r : Rest) (p : Point) : Type 0 where
   pub column : p.column ≡ r.column + 1
   pub cut : Cut r.spaces p
   pub text_is : drop p.index text ≡ cut_tab r.spaces ++ r.bytes ++ behind
+
+-- where the line ends
+abbrev pub past_cut : ℕ → Point → Point
+past_cut zero p = p
+past_cut (suc n) p = tab_end n p
+
+abbrev pub past_rest : Rest → Point → Point
+past_rest r p = past_text r.bytes (past_cut r.spaces p)
+
+pub rest-end : (line : Line) (r : Rest) (p : Point) → 1 ≤ p.column → point_after (rest_cells line r p) p ≡ past_rest r p
+rest-end line r p one = go r.spaces
+  where
+    go : (spaces : ℕ) → point_after (cells_by line spaces r.bytes p) p ≡ past_text r.bytes (past_cut spaces p)
+    go zero = spread-end line r.bytes p one
+    go (suc n) =
+        point_after-append (tab_cells line n 32 p) (spread line r.bytes (tab_end n p)) p
+        ∙ ap (point_after (spread line r.bytes (tab_end n p))) (tab-end line n 32 p p)
+        ∙ spread-end line r.bytes (tab_end n p) (omega arith)
 
 -- One column of whitespace.
 
@@ -140,6 +165,13 @@ column-first line text behind r p is = go r.column r.spaces r.bytes is
         by false e true f = subst Has (sym (eqb-true b 32 f)) (space-column line text behind column bs p) h
         by false e false f = let none : white_columns (column + 0) (b ∷ bs) ≡ 0 = rw (e, f) refl in absurd (omega (arith, lt, none))
 
+-- the line ends where it did
+pub column-end : (line : Line) (text behind : List ℕ) (r : Rest) (p : Point) → RestAt text behind r p → (first : HasColumn line text behind r p) → past_rest (without_first r) first.at ≡ past_rest r p
+column-end line text behind r p is first =
+    sym (rest-end line (without_first r) first.at (omega (arith, first.stands.column)))
+    ∙ sym (ap (λ (l : List Cell). point_after l p) first.cells)
+    ∙ rest-end line r p (omega (arith, is.column))
+
 -- no indent: no column is cut, and no whitespace comes first
 abbrev pub Bare : ℕ → List ℕ → Type 0
 Bare (suc n) bytes = ⊥
@@ -167,14 +199,134 @@ bare-cells line r p stop e k = go r.spaces r.bytes (bare r e)
     go zero [] b = stops-white stop k
     go zero (b ∷ bs) h = ap (λ (l : List Cell). begins_white (l ++ spread line bs (past_byte b p) ++ stop)) (byte-one line b p h) ∙ h
 
+-- a column less of none is the same
+pub bare-same : (r : Rest) → indent r ≡ 0 → without_first r ≡ r
+bare-same r e = go r.spaces r.bytes (bare r e)
+  where
+    go : (spaces : ℕ) (bytes : List ℕ) → Bare spaces bytes → without_column r.column spaces bytes ≡ rest r.column spaces bytes
+    go (suc n) bytes h = absurd h
+    go zero [] h = refl
+    go zero (b ∷ bs) h = let which = or_parts (b == 32) (b == 9) h in rw (which.0, which.1) refl
+
 -- The indent.
 
-none-rest : (room : ℕ) (cells : List Cell) → begins_white cells ≡ false → white_rest room cells ≡ cells
-none-rest room [] e = refl
-none-rest zero (c ∷ cs) e = refl
-none-rest (suc room) (c ∷ cs) e = rw e refl
+-- where no whitespace comes first, none is taken
+pub white-rest : (room : ℕ) (cells : List Cell) → begins_white cells ≡ false → white_rest room cells ≡ cells
+white-rest room [] e = refl
+white-rest room (c ∷ cs) e = none-rest room c cs e
 
-none-end : (room : ℕ) (cells : List Cell) (p : Point) → begins_white cells ≡ false → white_end room cells p ≡ p
-none-end room [] p e = refl
-none-end zero (c ∷ cs) p e = refl
-none-end (suc room) (c ∷ cs) p e = rw e refl
+pub white-end : (room : ℕ) (cells : List Cell) (p : Point) → begins_white cells ≡ false → white_end room cells p ≡ p
+white-end room [] p e = refl
+white-end room (c ∷ cs) p e = none-end room c cs p e
+
+pub white-length : (room : ℕ) (cells : List Cell) → length (white_rest room cells) ≤ length cells
+white-length room [] = omega arith
+white-length zero (c ∷ cs) = omega arith
+white-length (suc room) (c ∷ cs) = go (is_white c.byte) (white-length room cs)
+  where
+    go : (t : Bool) → length (white_rest room cs) ≤ length cs → length (cond t (white_rest room cs) (c ∷ cs)) ≤ suc (length cs)
+    go true le = omega (arith, le)
+    go false le = omega arith
+
+-- so many columns of whitespace are taken, as many as there are: behind them the rest without its indent
+pub record HasIndent (line : Line) (text behind : List ℕ) (room : ℕ) (r : Rest) (p : Point) (stop : List Cell) (left : Rest) : Type 0 where
+  pub cells : white_rest room (rest_cells line r p ++ stop) ≡ rest_cells line left (white_end room (rest_cells line r p ++ stop) p) ++ stop
+  pub none : indent left ≡ 0
+  pub stands : RestAt text behind left (white_end room (rest_cells line r p ++ stop) p)
+  pub ends : past_rest left (white_end room (rest_cells line r p ++ stop) p) ≡ past_rest r p
+
+indent-walk : (line : Line) (text behind : List ℕ) (n room : ℕ) (r : Rest) (p : Point) (stop : List Cell) → RestAt text behind r p → Stops stop → indent r ≡ n → n ≤ room → HasIndent line text behind room r p stop (lose n r)
+indent-walk line text behind zero room r p stop is k e le =
+    let white = bare-cells line r p stop e k in
+    let end : white_end room (rest_cells line r p ++ stop) p ≡ p = white-end room (rest_cells line r p ++ stop) p white in
+    record {
+      cells = white-rest room (rest_cells line r p ++ stop) white ∙ ap (λ (q : Point). rest_cells line r q ++ stop) (sym end);
+      none = e;
+      stands = subst (RestAt text behind r) (sym end) is;
+      ends = ap (past_rest r) end;
+    }
+indent-walk line text behind (suc n) zero r p stop is k e le = absurd (omega (arith, le))
+indent-walk line text behind (suc n) (suc room) r p stop is k e le =
+    let first = column-first line text behind r p is (omega (arith, e)) in
+    let further = indent-walk line text behind n room (without_first r) first.at stop first.stands k (omega (arith, e, first.columns)) (omega (arith, le)) in
+    let cs = rest_cells line (without_first r) first.at ++ stop in
+    let cells : rest_cells line r p ++ stop ≡ cell first.byte first.at line ∷ cs = ap (λ (l : List Cell). l ++ stop) first.cells in
+    let end : white_end (suc room) (rest_cells line r p ++ stop) p ≡ white_end room cs first.at = ap (λ (l : List Cell). white_end (suc room) l p) cells ∙ ap (λ (t : Bool). cond t (white_end room cs first.at) p) first.white in
+    record {
+      cells = ap (white_rest (suc room)) cells
+      ∙ ap (λ (t : Bool). cond t (white_rest room cs) (cell first.byte first.at line ∷ cs)) first.white
+      ∙ further.cells
+      ∙ ap (λ (q : Point). rest_cells line (lose n (without_first r)) q ++ stop) (sym end);
+      none = further.none;
+      stands = subst (RestAt text behind (lose n (without_first r))) (sym end) further.stands;
+      ends = ap (past_rest (lose n (without_first r))) end ∙ further.ends ∙ column-end line text behind r p is first;
+    }
+
+pub indent-taken : (line : Line) (text behind : List ℕ) (room : ℕ) (r : Rest) (p : Point) (stop : List Cell) → RestAt text behind r p → Stops stop → indent r ≤ room → HasIndent line text behind room r p stop (behind_indent r)
+indent-taken line text behind room r p stop is k le = indent-walk line text behind (indent r) room r p stop is k refl le
+
+-- where there is more of it, whitespace is left
+pub indent-over : (line : Line) (text behind : List ℕ) (room : ℕ) (r : Rest) (p : Point) (stop : List Cell) → RestAt text behind r p → room < indent r → begins_white (white_rest room (rest_cells line r p ++ stop)) ≡ true
+indent-over line text behind zero r p stop is lt =
+    let first = column-first line text behind r p is lt in
+    ap (λ (l : List Cell). begins_white (white_rest 0 (l ++ stop))) first.cells ∙ first.white
+indent-over line text behind (suc room) r p stop is lt =
+    let first = column-first line text behind r p is (omega (arith, lt)) in
+    let cs = rest_cells line (without_first r) first.at ++ stop in
+    ap (λ (l : List Cell). begins_white (white_rest (suc room) (l ++ stop))) first.cells
+    ∙ ap (λ (t : Bool). begins_white (cond t (white_rest room cs) (cell first.byte first.at line ∷ cs))) first.white
+    ∙ indent-over line text behind room (without_first r) first.at stop first.stands (omega (arith, lt, first.columns))
+
+-- an indent has no more columns than there are cells
+indent-size : (line : Line) (text behind : List ℕ) (n : ℕ) (r : Rest) (p : Point) → RestAt text behind r p → indent r ≡ n → n ≤ length (rest_cells line r p)
+indent-size line text behind zero r p is e = omega arith
+indent-size line text behind (suc n) r p is e =
+    let first = column-first line text behind r p is (omega (arith, e)) in
+    let size : length (rest_cells line r p) ≡ suc (length (rest_cells line (without_first r) first.at)) = ap length first.cells in
+    let more = indent-size line text behind n (without_first r) first.at first.stands (omega (arith, e, first.columns)) in
+    omega (arith, size, more)
+
+pub indent-length : (line : Line) (text behind : List ℕ) (r : Rest) (p : Point) → RestAt text behind r p → indent r ≤ length (rest_cells line r p)
+indent-length line text behind r p is = indent-size line text behind (indent r) r p is refl
+
+-- What is left has no ending where the line has none.
+
+without-no_ending : (column spaces : ℕ) (bytes : List ℕ) → NoEnding bytes → NoEnding (without_column column spaces bytes).bytes
+without-no_ending column (suc n) bytes h = h
+without-no_ending column zero [] h = tt
+without-no_ending column zero (b ∷ bs) h = go (b == 9) (b == 32)
+  where
+    go : (t s : Bool) → NoEnding (cond t (rest (column + 1) (tab_columns column - 1) bs) (cond s (rest (column + 1) 0 bs) (rest column 0 (b ∷ bs)))).bytes
+    go true s = h.1
+    go false true = h.1
+    go false false = h
+
+pub lose-no_ending : (n : ℕ) (r : Rest) → NoEnding r.bytes → NoEnding (lose n r).bytes
+lose-no_ending zero r h = h
+lose-no_ending (suc n) r h = lose-no_ending n (without_first r) (without-no_ending r.column r.spaces r.bytes h)
+
+-- The text.
+
+-- a line begins with all of its bytes
+pub line-at : (text behind : List ℕ) (column : ℕ) (line : List ℕ) (p : Point) → drop p.index text ≡ line ++ behind → p.vs ≡ 0 → p.column ≡ column + 1 → RestAt text behind (rest_at column line) p
+line-at text behind column line p e vs at = record { column = at; cut = vs; text_is = e }
+
+seen-cut : (bytes : List ℕ) (p : Point) → slice_index bytes p.index ≡ 9 → 0 < p.vs → seen_at bytes p ≡ 32
+seen-cut bytes p is lt = let more : nat_lt 0 p.vs ≡ true = grind (arith, nat_tests) in rw (is, more) refl
+
+-- a rest is fed as its cells, as far as the text may be read
+pub rest-feed : (x : Setting) (behind : List ℕ) (r : Rest) (p : Point) → RestAt x.bytes behind r p → x.limit < 2 ^ 61 → NoEnding r.bytes → (past_cut r.spaces p).index + length r.bytes ≤ x.limit →
+    text_feed x p ≡ rest_cells x.line r p ++ text_feed x (past_rest r p)
+rest-feed x behind r p is small whole within = go r.spaces is.cut is.text_is within
+  where
+    go : (spaces : ℕ) → Cut spaces p → drop p.index x.bytes ≡ cut_tab spaces ++ r.bytes ++ behind → (past_cut spaces p).index + length r.bytes ≤ x.limit →
+        text_feed x p ≡ cells_by x.line spaces r.bytes p ++ text_feed x (past_text r.bytes (past_cut spaces p))
+    go zero cut e le = line-feed x r.bytes behind p (record { small = small; text = e; no_ending = whole; within = le; whole = cut; column = omega (arith, is.column) })
+    go (suc n) cut e le =
+        let tab : slice_index x.bytes p.index ≡ 9 = at-next p.index x.bytes 9 (r.bytes ++ behind) e in
+        let q = tab_end n p in
+        let next : HasLine x r.bytes behind q = record { small = small; text = past-next p.index x.bytes 9 (r.bytes ++ behind) e; no_ending = whole; within = le; whole = refl; column = omega arith } in
+        tab-feed x n p small (omega (arith, le)) tab cut.1
+        ∙ ap (λ (b : ℕ). tab_cells x.line n b p ++ text_feed x q) (seen-cut x.bytes p tab cut.0)
+        ∙ ap (λ (l : List Cell). tab_cells x.line n 32 p ++ l) (line-feed x r.bytes behind q next)
+        ∙ sym (append_assoc (tab_cells x.line n 32 p) (spread x.line r.bytes q) (text_feed x (past_text r.bytes q)))
