@@ -3,7 +3,6 @@ use Rattle.std.proofs.Common.{◌≡◌, ◌≢◌, ℕ, zero, suc, ◌+◌, ◌
 use Rattle.std.specs.Prelude.{◌==◌, IsTrue, Some}
 use Rattle.std.specs.List.{prefix_len}
 use Rattle.std.proofs.lemmas.Bool.{eqb-true, or_from}
-use Rattle.std.proofs.lemmas.Bool.Decides.{nat_tests}
 use Rattle.std.proofs.lemmas.List.{length-append, take-append-drop}
 use Rattle.md_engine.specs.declared.configuration.ParseOptions.{ParseOptions}
 use Rattle.md_engine.specs.declared.event.Event.{Event}
@@ -23,7 +22,7 @@ use Rattle.md_seam.specs.Places.{at_or_before, past_byte, past_text}
 use Rattle.md_seam.specs.Rest.{is_white, trim_start}
 use Rattle.md_seam.specs.Spaces.{small_indent}
 use Rattle.md_seam.specs.Texts.{split_lines}
-use Rattle.md_seam.proofs.FeedLines.{HasEnding, HasLine, Stops, behind_last, begun-none, byte-end, byte_cells, cell, columns_more, drop-past, ending-feed, ending-some, feed-none, front-within, is-ending, line-feed, next_column, past_ending, past_text-column, past_text-whole, slice-front, spread, spread-end, tab_cells}
+use Rattle.md_seam.proofs.FeedLines.{HasEnding, HasLine, Stops, before-byte, before-column, behind_last, begun-none, byte-end, byte_cells, cell, columns_more, drop-past, ending-feed, ending-some, feed-none, front-within, is-ending, line-feed, next_column, past_ending, past_text-column, past_text-whole, slice-front, spread, spread-end, tab_cells}
 use Rattle.md_seam.proofs.InlineLemmas.{past-index}
 use Rattle.md_seam.proofs.NestedLemmas.{at_or_before-refl, at_or_before-trans, balanced-append, balanced-none, forward-append, forward-from, last_point-append}
 use Rattle.md_seam.proofs.SpelledLemmas.{Quiet, Roles, roles-append}
@@ -44,13 +43,6 @@ Climbs p (c ∷ cs) = IsTrue (at_or_before p c.after) × Climbs c.after cs
 climbs-append : (xs ys : List Cell) (p : Point) → Climbs p xs → Climbs (point_after xs p) ys → Climbs p (xs ++ ys)
 climbs-append [] ys p h k = k
 climbs-append (c ∷ xs) ys p h k = (h.0, climbs-append xs ys c.after h.1 k)
-
--- a later byte, or a later column of the same
-before-byte : (p q : Point) → p.index < q.index → IsTrue (at_or_before p q)
-before-byte p q lt = grind (arith, nat_tests)
-
-before-column : (p : Point) → IsTrue (at_or_before p (next_column p))
-before-column p = grind (arith, nat_tests)
 
 climbs-tab : (line : Line) (n byte : ℕ) (p : Point) → Climbs p (tab_cells line n byte p)
 climbs-tab line zero byte p = (before-byte p (behind_last p) (omega arith), tt)

@@ -1,6 +1,6 @@
 -- What the prefix of a quote takes of a line is what the definition of lines takes.
 use Rattle.std.proofs.Common.{◌≡◌, ℕ, zero, suc, ◌+◌, ◌^◌, ◌<◌, ◌≤◌, Bool, true, false, cond, ◌||◌, List, [], ◌∷◌, ◌++◌, length, Option, Some, None, refl, sym, ap, ◌∙◌, subst, arith, append_assoc, append-nil}
-use Rattle.std.specs.Prelude.{◌==◌, not, nat_le}
+use Rattle.std.specs.Prelude.{IsTrue, ◌==◌, not, nat_le}
 use Rattle.std.proofs.lemmas.Bool.{eqb-true}
 use Rattle.std.proofs.lemmas.Bool.Decides.{nat_tests}
 use Rattle.std.proofs.lemmas.List.{length-append}
@@ -16,12 +16,13 @@ use Rattle.md_containers.proofs.QuoteSteps.{quote-off, quote-on}
 use Rattle.md_seam.specs.Ahead.{begins_white, white_end, white_rest}
 use Rattle.md_seam.specs.Containers.{Taken, opens_quote, quote_taken}
 use Rattle.md_seam.specs.Lines.{begins_with}
-use Rattle.md_seam.specs.Nested.{enter, exit, pair}
-use Rattle.md_seam.specs.Places.{past_byte, past_text}
+use Rattle.md_seam.specs.Nested.{Forward, enter, exit, last_point, pair}
+use Rattle.md_seam.specs.Places.{at_or_before, past_byte, past_text}
 use Rattle.md_seam.specs.Rest.{Rest, behind, behind_indent, has_small_indent, indent, is_white, lose}
 use Rattle.md_seam.specs.Spaces.{IsRest, any_size, small_indent}
 use Rattle.md_seam.specs.State.{InQuote}
-use Rattle.md_seam.proofs.FeedLines.{Stops, byte-one, cell, past-next, spread}
+use Rattle.md_seam.proofs.FeedLines.{Stops, before-byte, byte-one, cell, past-next, spread}
+use Rattle.md_seam.proofs.NestedLemmas.{at_or_before-refl, forward-append, last_point-append}
 use Rattle.md_seam.proofs.RestCells.{Bare, RestAt, bare, bare-cells, bare-same, cells_by, column-end, column-first, indent-length, indent-over, indent-taken, past_cut, past_rest, rest_cells, white-end, white-length, white-rest, without_first}
 use Rattle.md_seam.proofs.SpacesGoods.{rest-calm}
 
@@ -34,6 +35,8 @@ pub record Takes (line : Line) (text past : List ℕ) (end : Point) (left : Rest
   pub stands : RestAt text past left at
   -- the line ends here
   pub ends : past_rest left at ≡ end
+  pub forward : Forward h.point added
+  pub last : last_point h.point added ≡ at
   pub shorter : length (rest_cells line left at ++ stop) < length cells
 
 -- it takes what the definition takes, or neither takes any
@@ -42,20 +45,22 @@ Agrees line text past end stop cells h added o (Some taken) = Takes line text pa
 Agrees line text past end stop cells h added o None = o ≡ Refuses h.scratch h.flags
 
 -- the same with these events in front
-takes-behind : (line : Line) (text past : List ℕ) (end : Point) (left : Rest) (stop cells inner : List Cell) (h : Here) (q : Point) (front added : List Event) (o : Outcome) → length inner ≤ length cells →
+takes-behind : (line : Line) (text past : List ℕ) (end : Point) (left : Rest) (stop cells inner : List Cell) (h : Here) (q : Point) (front added : List Event) (o : Outcome) → Forward h.point front → last_point h.point front ≡ q → length inner ≤ length cells →
     Takes line text past end left stop inner (record h { events = h.events ++ front; point = q }) added o → Takes line text past end left stop cells h (front ++ added) o
-takes-behind line text past end left stop cells inner h q front added o le is = record {
+takes-behind line text past end left stop cells inner h q front added o f l le is = record {
   at = is.at;
   comes = is.comes ∙ ap (λ (es : List Event). Accepts (record h { events = es; point = is.at }) (rest_cells line left is.at ++ stop)) (append_assoc h.events front added);
   stands = is.stands;
   ends = is.ends;
+  forward = forward-append h.point front added f (subst (λ (p : Point). Forward p added) (sym l) is.forward);
+  last = last_point-append h.point front added ∙ ap (λ (p : Point). last_point p added) l ∙ is.last;
   shorter = omega (arith, is.shorter, le);
 }
 
-agrees-behind : (line : Line) (text past : List ℕ) (end : Point) (stop cells inner : List Cell) (h : Here) (q : Point) (front added : List Event) (o : Outcome) (taken : Option Taken) → length inner ≤ length cells →
+agrees-behind : (line : Line) (text past : List ℕ) (end : Point) (stop cells inner : List Cell) (h : Here) (q : Point) (front added : List Event) (o : Outcome) (taken : Option Taken) → Forward h.point front → last_point h.point front ≡ q → length inner ≤ length cells →
     Agrees line text past end stop inner (record h { events = h.events ++ front; point = q }) added o taken → Agrees line text past end stop cells h (front ++ added) o taken
-agrees-behind line text past end stop cells inner h q front added o None le is = is
-agrees-behind line text past end stop cells inner h q front added o (Some taken) le is = takes-behind line text past end taken.rest stop cells inner h q front added o le is
+agrees-behind line text past end stop cells inner h q front added o None f l le is = is
+agrees-behind line text past end stop cells inner h q front added o (Some taken) f l le is = takes-behind line text past end taken.rest stop cells inner h q front added o f l le is
 
 -- Behind the marker.
 
@@ -68,6 +73,13 @@ behind-white : (c : Cell) (cs : List Cell) (h : Here) → is_white c.byte ≡ tr
 unfolding behind_marker
 behind-white c cs h e = rw e (ap (λ (es : List Event). Accepts (record h { events = es; point = c.after }) cs) (append_assoc h.events (pair SpaceOrTab h.point c.after) (exit BlockQuotePrefix c.after ∷ [])))
 
+events-none : (cells : List Cell) (p : Point) → begins_white cells ≡ false → behind_events cells p ≡ exit BlockQuotePrefix p ∷ []
+events-none [] p e = refl
+events-none (c ∷ cs) p e = rw e refl
+
+events-white : (c : Cell) (cs : List Cell) (p : Point) → is_white c.byte ≡ true → behind_events (c ∷ cs) p ≡ pair SpaceOrTab p c.after ++ exit BlockQuotePrefix c.after ∷ []
+events-white c cs p e = rw e refl
+
 -- one column is taken, if it is there
 behind-taken : (line : Line) (text past : List ℕ) (r : Rest) (stop : List Cell) (h : Here) → RestAt text past r h.point → Stops stop →
     Takes line text past (past_rest r h.point) (lose 1 r) stop (cell 62 h.point line ∷ rest_cells line r h.point ++ stop) h (behind_events (rest_cells line r h.point ++ stop) h.point) (behind_marker (rest_cells line r h.point ++ stop) h)
@@ -79,12 +91,23 @@ behind-taken line text past r stop h is k = go (indent r) refl
     go : (n : ℕ) → indent r ≡ n → Takes line text past (past_rest r h.point) (lose 1 r) stop (cell 62 h.point line ∷ cells) h (behind_events cells h.point) (behind_marker cells h)
     go zero e =
         subst (λ (left : Rest). Takes line text past (past_rest r h.point) left stop (cell 62 h.point line ∷ cells) h (behind_events cells h.point) (behind_marker cells h)) (sym (bare-same r e))
-        (record { at = h.point; comes = behind-none cells h (bare-cells line r h.point stop e k); stands = is; ends = refl; shorter = omega arith })
+        (let none = bare-cells line r h.point stop e k in
+        let added = sym (events-none cells h.point none) in
+        record {
+          at = h.point;
+          comes = behind-none cells h none;
+          stands = is;
+          ends = refl;
+          forward = subst (λ (es : List Event). Forward h.point es) added (at_or_before-refl h.point, tt);
+          last = subst (λ (es : List Event). last_point h.point es ≡ h.point) added refl;
+          shorter = omega arith;
+        })
     go (suc n) e =
         let first = column-first line text past r h.point is (omega (arith, e)) in
         let left = rest_cells line (without_first r) first.at ++ stop in
         let same : cells ≡ cell first.byte first.at line ∷ left = ap (λ (l : List Cell). l ++ stop) first.cells in
         let size : length cells ≡ suc (length left) = ap length same in
+        let added = sym (ap (λ (l : List Cell). behind_events l h.point) same ∙ events-white (cell first.byte first.at line) left h.point first.white) in
         record {
           at = first.at;
           comes = ap (λ (l : List Cell). behind_marker l h) same
@@ -92,6 +115,8 @@ behind-taken line text past r stop h is k = go (indent r) refl
           ∙ ap (λ (l : List Cell). Accepts (record h { events = h.events ++ behind_events l h.point; point = first.at }) left) (sym same);
           stands = first.stands;
           ends = column-end line text past r h.point is first;
+          forward = subst (λ (es : List Event). Forward h.point es) added (at_or_before-refl h.point, (first.onward, (at_or_before-refl first.at, tt)));
+          last = subst (λ (es : List Event). last_point h.point es ≡ first.at) added refl;
           shorter = omega (arith, size);
         }
 
@@ -119,9 +144,9 @@ unfolding at_marker
 marker-here after line cs h = refl
 
 -- it is taken, and what stands behind it
-marker-taken : (line : Line) (text past : List ℕ) (r : Rest) (stop : List Cell) (h : Here) (q : Point) → RestAt text past r q → Stops stop →
+marker-taken : (line : Line) (text past : List ℕ) (r : Rest) (stop : List Cell) (h : Here) (q : Point) → RestAt text past r q → Stops stop → IsTrue (at_or_before h.point q) →
     Takes line text past (past_rest r q) (lose 1 r) stop (cell 62 q line ∷ rest_cells line r q ++ stop) h (marker_events (cell 62 q line ∷ rest_cells line r q ++ stop) h.point) (at_marker (cell 62 q line ∷ rest_cells line r q ++ stop) h)
-marker-taken line text past r stop h q is k = subst Done (sym (marker-here q line cells h)) (takes-behind line text past (past_rest r q) (lose 1 r) stop (cell 62 q line ∷ cells) (cell 62 q line ∷ cells) h q front (behind_events cells q) (behind_marker cells marked) (omega arith) (behind-taken line text past r stop marked is k))
+marker-taken line text past r stop h q is k onward = subst Done (sym (marker-here q line cells h)) (takes-behind line text past (past_rest r q) (lose 1 r) stop (cell 62 q line ∷ cells) (cell 62 q line ∷ cells) h q front (behind_events cells q) (behind_marker cells marked) (at_or_before-refl h.point, (at_or_before-refl h.point, (onward, tt))) refl (omega arith) (behind-taken line text past r stop marked is k))
   where
     cells : List Cell
     cells = rest_cells line r q ++ stop
@@ -165,7 +190,7 @@ at-marker line text past r stop h is e k = go r.spaces r.bytes is (bare r e)
         marks : Marks 62
         marks here =
             let next : RestAt text past (behind 1 (rest 0 (62 ∷ bs))) (past_byte 62 p) = record { column = omega (arith, here.column); cut = refl; text_is = past-next p.index text 62 (bs ++ past) here.text_is } in
-            marker-taken line text past (behind 1 (rest 0 (62 ∷ bs))) stop h (past_byte 62 p) next k
+            marker-taken line text past (behind 1 (rest 0 (62 ∷ bs))) stop h (past_byte 62 p) next k (before-byte p (past_byte 62 p) (omega arith))
 
         by : (t : Bool) → (b == 62) ≡ t → Done 0 (b ∷ bs)
         by true f = subst Marks (sym (eqb-true b 62 f)) marks at
@@ -188,6 +213,20 @@ prefix-marker options cells h is = go (begins_white cells) refl
         rw e (ap (λ (l : List Cell). at_marker l h) (sym (white-rest room cells e))
         ∙ ap (λ (q : Point). at_marker (white_rest room cells) (record h { point = q })) (sym (white-end room cells h.point e))
         ∙ ap (λ (es : List Event). at_marker (white_rest room cells) (record h { events = es; point = white_end room cells h.point })) (sym (append-nil h.events)))
+
+indent-forward : (options : ParseOptions) (cells : List Cell) (p : Point) → IsTrue (at_or_before p (white_end (small_indent options) cells p)) → Forward p (indent_events options cells p)
+indent-forward options cells p h = go (begins_white cells)
+  where
+    go : (t : Bool) → Forward p (cond t (pair SpaceOrTab p (white_end (small_indent options) cells p)) [])
+    go true = (at_or_before-refl p, (h, tt))
+    go false = tt
+
+indent-last : (options : ParseOptions) (cells : List Cell) (p : Point) → last_point p (indent_events options cells p) ≡ white_end (small_indent options) cells p
+indent-last options cells p = go (begins_white cells) refl
+  where
+    go : (t : Bool) → begins_white cells ≡ t → last_point p (cond t (pair SpaceOrTab p (white_end (small_indent options) cells p)) []) ≡ white_end (small_indent options) cells p
+    go true e = refl
+    go false e = sym (white-end (small_indent options) cells p e)
 
 -- a small indent fits, where there are not too many cells
 small-room : (options : ParseOptions) (r : Rest) (size : ℕ) → has_small_indent options r ≡ true → indent r ≤ size → size < 2 ^ 63 → indent r ≤ small_indent options
@@ -240,24 +279,25 @@ prefix-lines options line text past r stop h is k short calm = go (has_small_ind
     Done : List Cell → Option Taken → Type 0
     Done l taken = Agrees line text past (past_rest r h.point) stop l marked (marker_events l q) (at_marker l marked) taken
 
-    whole : (taken : Option Taken) → Done left taken → Agrees line text past (past_rest r h.point) stop cells h (prefix_events options cells h.point) (prefix_at options cells h) taken
-    whole taken done =
+    whole : (taken : Option Taken) → IsTrue (at_or_before h.point q) → Done left taken → Agrees line text past (past_rest r h.point) stop cells h (prefix_events options cells h.point) (prefix_at options cells h) taken
+    whole taken onward done =
         subst (λ (o : Outcome). Agrees line text past (past_rest r h.point) stop cells h (prefix_events options cells h.point) o taken) (sym (prefix-marker options cells h calm))
-        (agrees-behind line text past (past_rest r h.point) stop cells left h q front (marker_events left q) (at_marker left marked) taken (white-length room cells) done)
+        (agrees-behind line text past (past_rest r h.point) stop cells left h q front (marker_events left q) (at_marker left marked) taken (indent-forward options cells h.point onward) (indent-last options cells h.point) (white-length room cells) done)
 
     go : (t : Bool) → has_small_indent options r ≡ t → Agrees line text past (past_rest r h.point) stop cells h (prefix_events options cells h.point) (prefix_at options cells h) (quote_taken options r)
     go true e =
         let size : length cells ≡ length (rest_cells line r h.point) + length stop = length-append (rest_cells line r h.point) stop in
         let fits = small-room options r (length cells) e (let most = indent-length line text past r h.point is in omega arith) short in
         let taken = indent-taken line text past room r h.point stop is k fits in
-        whole (quote_taken options r)
+        whole (quote_taken options r) taken.onward
         (subst (Done left) (sym (taken-small options r e))
         (subst (λ (l : List Cell). Done l (taken_at (behind_indent r))) (sym taken.cells)
         (subst (λ (end : Point). Agrees line text past end stop (rest_cells line (behind_indent r) q ++ stop) marked (marker_events (rest_cells line (behind_indent r) q ++ stop) q) (at_marker (rest_cells line (behind_indent r) q ++ stop) marked) (taken_at (behind_indent r))) taken.ends
         (at-marker line text past (behind_indent r) stop marked taken.stands taken.none k))))
     go false e =
         let over = indent-over line text past room r h.point stop is (large-room options r e) in
-        whole (quote_taken options r) (subst (Done left) (sym (taken-large options r e)) (marker-white left marked over))
+        subst (λ (taken : Option Taken). Agrees line text past (past_rest r h.point) stop cells h (prefix_events options cells h.point) (prefix_at options cells h) taken) (sym (taken-large options r e))
+        (prefix-marker options cells h calm ∙ marker-white left marked over)
 
 opens-on : (options : ParseOptions) (r : Rest) → options.constructs.block_quote ≡ true → opens_quote options r ≡ quote_taken options r
 unfolding opens_quote
@@ -286,7 +326,7 @@ quote-lines options line text past r stop h is k short calm = go options.constru
         let prefix = prefix-lines options line text past r stop begun is k short calm in
         subst (λ (o : Outcome). Done o (opens_quote options r)) (sym (quote-on options cells h e))
         (subst (Done (prefix_at options cells begun)) (sym (opens-on options r e))
-        (agrees-behind line text past (past_rest r h.point) stop cells cells h h.point (enter BlockQuote h.point ∷ []) (prefix_events options cells h.point) (prefix_at options cells begun) (quote_taken options r) (omega arith) prefix))
+        (agrees-behind line text past (past_rest r h.point) stop cells cells h h.point (enter BlockQuote h.point ∷ []) (prefix_events options cells h.point) (prefix_at options cells begun) (quote_taken options r) (at_or_before-refl h.point, tt) refl (omega arith) prefix))
     go false e =
         subst (λ (o : Outcome). Done o (opens_quote options r)) (sym (quote-off options cells h e))
         (subst (Done (Refuses h.scratch h.flags)) (sym (opens-off options r e)) refl)

@@ -1,6 +1,6 @@
 -- The cells of a line: what is fed from a point of a line to the line's end, and the cell of its ending.
 use Rattle.std.proofs.Common.{◌≡◌, ℕ, zero, suc, ◌+◌, ◌-◌, ◌%◌, ◌^◌, ◌<◌, ◌≤◌, Bool, true, false, cond, ◌&&◌, List, [], ◌∷◌, ◌++◌, length, take, drop, Option, Some, refl, sym, ap, ◌∙◌, subst, add-one, arith, append_assoc}
-use Rattle.std.specs.Prelude.{◌==◌, not, nat_lt, nat_le, map, slice_get, slice_index, slice_range, if◌then◌else◌, count_by}
+use Rattle.std.specs.Prelude.{IsTrue, ◌==◌, not, nat_lt, nat_le, map, slice_get, slice_index, slice_range, if◌then◌else◌, count_by}
 use Rattle.std.specs.List.{list_all}
 use Rattle.std.proofs.lemmas.Bool.{eqb-true, or_parts}
 use Rattle.std.proofs.lemmas.Bool.Decides.{nat_tests}
@@ -17,7 +17,7 @@ use Rattle.md_engine.specs.World.{Setting, after, line_begun}
 use Rattle.md_engine.proofs.TextFeed.{text-follows}
 use Rattle.md_seam.specs.Ahead.{begins_white, from_ending, line_cells, point_after}
 use Rattle.md_seam.specs.Lines.{is_ending, begins_with}
-use Rattle.md_seam.specs.Places.{past_byte, past_text}
+use Rattle.md_seam.specs.Places.{at_or_before, past_byte, past_text}
 use Rattle.md_seam.specs.Rest.{is_white}
 use Rattle.md_seam.specs.Texts.{first_byte}
 use Rattle.md_seam.proofs.PlacesLemmas.{drop-next}
@@ -69,6 +69,13 @@ next_column p = record p { column = p.column + 1; vs = p.vs + 1 }
 
 abbrev pub behind_last : Point → Point
 behind_last p = record p { column = p.column + 1; index = p.index + 1; vs = 0 }
+
+-- a later byte, or a later column of the same
+pub before-byte : (p q : Point) → p.index < q.index → IsTrue (at_or_before p q)
+before-byte p q lt = grind (arith, nat_tests)
+
+pub before-column : (p : Point) → IsTrue (at_or_before p (next_column p))
+before-column p = grind (arith, nat_tests)
 
 -- how many columns of a tab there are behind this one
 abbrev pub columns_more : Point → ℕ

@@ -1,6 +1,6 @@
 -- The cells of the rest of a line, which may begin within a tab that a prefix has cut.
 use Rattle.std.proofs.Common.{◌≡◌, ℕ, zero, suc, ◌+◌, ◌-◌, ◌^◌, ◌<◌, ◌≤◌, Bool, true, false, cond, List, [], ◌∷◌, ◌++◌, length, drop, refl, sym, ap, ◌∙◌, subst, arith, append_assoc}
-use Rattle.std.specs.Prelude.{◌==◌, nat_lt, slice_index}
+use Rattle.std.specs.Prelude.{IsTrue, ◌==◌, nat_lt, slice_index}
 use Rattle.std.proofs.lemmas.Bool.{eqb-true, or_parts}
 use Rattle.std.proofs.lemmas.Bool.Decides.{nat_tests}
 use Rattle.md_engine.specs.declared.event.Point.{Point}
@@ -10,10 +10,11 @@ use Rattle.md_engine.specs.Place.{seen_at}
 use Rattle.md_engine.specs.TextFeed.{text_feed}
 use Rattle.md_engine.specs.World.{Setting}
 use Rattle.md_seam.specs.Ahead.{begins_white, point_after, white_end, white_rest}
-use Rattle.md_seam.specs.Places.{past_byte, past_text}
+use Rattle.md_seam.specs.Places.{at_or_before, past_byte, past_text}
 use Rattle.md_seam.specs.Preamble.{rest_at}
 use Rattle.md_seam.specs.Rest.{Rest, behind_indent, indent, is_white, lose, tab_columns, white_columns, without_column}
-use Rattle.md_seam.proofs.FeedLines.{HasLine, Stops, at-next, behind_last, byte-one, cell, columns_more, line-feed, next_column, past-next, point_after-append, spread, spread-end, stops-white, tab-end, tab-feed, tab_cells, tab_end, tab_end-last, tab_end-next, tab_end-stop}
+use Rattle.md_seam.proofs.FeedLines.{HasLine, Stops, at-next, before-byte, before-column, behind_last, byte-one, cell, columns_more, line-feed, next_column, past-next, point_after-append, spread, spread-end, stops-white, tab-end, tab-feed, tab_cells, tab_end, tab_end-last, tab_end-next, tab_end-stop}
+use Rattle.md_seam.proofs.NestedLemmas.{at_or_before-refl, at_or_before-trans}
 use Rattle.md_seam.proofs.TextsLemmas.{NoEnding}
 use Rattle.md_seam.proofs.WhiteSteps.{none-end, none-rest}
 
@@ -72,6 +73,7 @@ pub record HasColumn (line : Line) (text behind : List ℕ) (r : Rest) (p : Poin
   pub cells : rest_cells line r p ≡ cell byte at line ∷ rest_cells line (without_first r) at
   pub columns : indent r ≡ suc (indent (without_first r))
   pub stands : RestAt text behind (without_first r) at
+  pub onward : IsTrue (at_or_before p at)
 
 abbrev rest : ℕ → ℕ → List ℕ → Rest
 rest column spaces bytes = record { column = column; spaces = spaces; bytes = bytes }
@@ -85,6 +87,7 @@ cut-column line text behind column zero bytes p is = record {
   cells = ap (λ (q : Point). cell 32 (behind_last p) line ∷ spread line bytes q) (sym (tab_end-last p));
   columns = let same : white_columns (column + 1) bytes ≡ white_columns (column + 1 + 0) bytes = ap (λ (c : ℕ). white_columns c bytes) (omega arith) in omega arith;
   stands = record { column = omega (arith, is.column); cut = refl; text_is = past-next p.index text 9 (bytes ++ behind) is.text_is };
+  onward = before-byte p (behind_last p) (omega arith);
 }
 cut-column line text behind column (suc n) bytes p is = record {
   byte = 32;
@@ -93,6 +96,7 @@ cut-column line text behind column (suc n) bytes p is = record {
   cells = ap (λ (q : Point). cell 32 (next_column p) line ∷ tab_cells line n 32 (next_column p) ++ spread line bytes q) (sym (tab_end-next n p));
   columns = let same : white_columns (column + suc (suc n)) bytes ≡ white_columns (column + 1 + suc n) bytes = ap (λ (c : ℕ). white_columns c bytes) (omega arith) in omega arith;
   stands = record { column = omega (arith, is.column); cut = (omega arith, let left = is.cut.1 in omega arith); text_is = is.text_is };
+  onward = before-column p;
 }
 
 space-column : (line : Line) (text behind : List ℕ) (column : ℕ) (bytes : List ℕ) (p : Point) → RestAt text behind (rest column 0 (32 ∷ bytes)) p → HasColumn line text behind (rest column 0 (32 ∷ bytes)) p
@@ -103,6 +107,7 @@ space-column line text behind column bytes p is = record {
   cells = refl;
   columns = let same : white_columns (column + 0 + 1) bytes ≡ white_columns (column + 1 + 0) bytes = ap (λ (c : ℕ). white_columns c bytes) (omega arith) in omega arith;
   stands = record { column = omega (arith, is.column); cut = refl; text_is = past-next p.index text 32 (bytes ++ behind) is.text_is };
+  onward = before-byte p (past_byte 32 p) (omega arith);
 }
 
 -- of a tab: its first column is fed as the tab, and so many more are left
@@ -135,6 +140,7 @@ tab-column line text behind column bytes p is = go (columns_more p) refl (let at
           cells = with_columns 0 e ∙ ap (λ (x : Point). cell 9 q line ∷ spread line bytes x) (sym (tab_end-last p)) ∙ ap (λ (k : ℕ). cell 9 q line ∷ cells_by line k bytes q) f;
           columns = columns_are;
           stands = subst (λ (k : ℕ). RestAt text behind (rest (column + 1) k bytes) q) f stands;
+          onward = before-byte p q (omega arith);
         }
     go (suc n) e f =
         let q = next_column p in
@@ -146,6 +152,7 @@ tab-column line text behind column bytes p is = go (columns_more p) refl (let at
           cells = with_columns (suc n) e ∙ ap (λ (x : Point). cell 9 q line ∷ tab_cells line n 32 q ++ spread line bytes x) (sym (tab_end-next n p)) ∙ ap (λ (k : ℕ). cell 9 q line ∷ cells_by line k bytes q) f;
           columns = columns_are;
           stands = subst (λ (k : ℕ). RestAt text behind (rest (column + 1) k bytes) q) f stands;
+          onward = before-column p;
         }
 
 -- where there is an indent
@@ -234,6 +241,7 @@ pub record HasIndent (line : Line) (text behind : List ℕ) (room : ℕ) (r : Re
   pub none : indent left ≡ 0
   pub stands : RestAt text behind left (white_end room (rest_cells line r p ++ stop) p)
   pub ends : past_rest left (white_end room (rest_cells line r p ++ stop) p) ≡ past_rest r p
+  pub onward : IsTrue (at_or_before p (white_end room (rest_cells line r p ++ stop) p))
 
 indent-walk : (line : Line) (text behind : List ℕ) (n room : ℕ) (r : Rest) (p : Point) (stop : List Cell) → RestAt text behind r p → Stops stop → indent r ≡ n → n ≤ room → HasIndent line text behind room r p stop (lose n r)
 indent-walk line text behind zero room r p stop is k e le =
@@ -244,6 +252,7 @@ indent-walk line text behind zero room r p stop is k e le =
       none = e;
       stands = subst (RestAt text behind r) (sym end) is;
       ends = ap (past_rest r) end;
+      onward = subst (λ (q : Point). IsTrue (at_or_before p q)) (sym end) (at_or_before-refl p);
     }
 indent-walk line text behind (suc n) zero r p stop is k e le = absurd (omega (arith, le))
 indent-walk line text behind (suc n) (suc room) r p stop is k e le =
@@ -260,6 +269,7 @@ indent-walk line text behind (suc n) (suc room) r p stop is k e le =
       none = further.none;
       stands = subst (RestAt text behind (lose n (without_first r))) (sym end) further.stands;
       ends = ap (past_rest (lose n (without_first r))) end ∙ further.ends ∙ column-end line text behind r p is first;
+      onward = subst (λ (q : Point). IsTrue (at_or_before p q)) (sym end) (at_or_before-trans p first.at (white_end room cs first.at) first.onward further.onward);
     }
 
 pub indent-taken : (line : Line) (text behind : List ℕ) (room : ℕ) (r : Rest) (p : Point) (stop : List Cell) → RestAt text behind r p → Stops stop → indent r ≤ room → HasIndent line text behind room r p stop (behind_indent r)
