@@ -16,15 +16,16 @@ use Rattle.md_containers.proofs.QuoteSteps.{quote-off, quote-on}
 use Rattle.md_seam.specs.Ahead.{begins_white, white_end, white_rest}
 use Rattle.md_seam.specs.Containers.{Taken, opens_quote, quote_taken}
 use Rattle.md_seam.specs.Lines.{begins_with}
-use Rattle.md_seam.specs.Nested.{Forward, enter, exit, last_point, pair}
+use Rattle.md_seam.specs.Nested.{Balanced, Forward, enter, exit, last_point, pair}
 use Rattle.md_seam.specs.Places.{at_or_before, past_byte, past_text}
 use Rattle.md_seam.specs.Rest.{Rest, behind, behind_indent, has_small_indent, indent, is_white, lose}
 use Rattle.md_seam.specs.Spaces.{IsRest, any_size, small_indent}
 use Rattle.md_seam.specs.State.{InQuote}
 use Rattle.md_seam.proofs.FeedLines.{Stops, before-byte, byte-one, cell, past-next, spread}
-use Rattle.md_seam.proofs.NestedLemmas.{at_or_before-refl, forward-append, last_point-append}
+use Rattle.md_seam.proofs.NestedLemmas.{at_or_before-refl, balanced-append, balanced-none, forward-append, last_point-append}
 use Rattle.md_seam.proofs.RestCells.{Bare, RestAt, bare, bare-cells, bare-same, cells_by, column-end, column-first, indent-length, indent-over, indent-taken, past_cut, past_rest, rest_cells, white-end, white-length, white-rest, without_first}
 use Rattle.md_seam.proofs.SpacesGoods.{rest-calm}
+use Rattle.md_seam.proofs.SpelledLemmas.{QuietOrPrefix, Roles, roles-append}
 
 -- What a prefix comes to.
 
@@ -64,14 +65,14 @@ agrees-behind line text past end stop cells inner h q front added o (Some taken)
 
 -- Behind the marker.
 
-behind-none : (cells : List Cell) (h : Here) → begins_white cells ≡ false → behind_marker cells h ≡ Accepts (record h { events = h.events ++ behind_events cells h.point }) cells
+behind-ended : (cells : List Cell) (h : Here) → begins_white cells ≡ false → behind_marker cells h ≡ Accepts (record h { events = h.events ++ behind_events cells h.point }) cells
 unfolding behind_marker
-behind-none [] h e = refl
-behind-none (c ∷ cs) h e = rw e refl
+behind-ended [] h e = refl
+behind-ended (c ∷ cs) h e = rw e refl
 
-behind-white : (c : Cell) (cs : List Cell) (h : Here) → is_white c.byte ≡ true → behind_marker (c ∷ cs) h ≡ Accepts (record h { events = h.events ++ behind_events (c ∷ cs) h.point; point = c.after }) cs
+behind-column : (c : Cell) (cs : List Cell) (h : Here) → is_white c.byte ≡ true → behind_marker (c ∷ cs) h ≡ Accepts (record h { events = h.events ++ behind_events (c ∷ cs) h.point; point = c.after }) cs
 unfolding behind_marker
-behind-white c cs h e = rw e (ap (λ (es : List Event). Accepts (record h { events = es; point = c.after }) cs) (append_assoc h.events (pair SpaceOrTab h.point c.after) (exit BlockQuotePrefix c.after ∷ [])))
+behind-column c cs h e = rw e (ap (λ (es : List Event). Accepts (record h { events = es; point = c.after }) cs) (append_assoc h.events (pair SpaceOrTab h.point c.after) (exit BlockQuotePrefix c.after ∷ [])))
 
 events-none : (cells : List Cell) (p : Point) → begins_white cells ≡ false → behind_events cells p ≡ exit BlockQuotePrefix p ∷ []
 events-none [] p e = refl
@@ -95,7 +96,7 @@ behind-taken line text past r stop h is k = go (indent r) refl
         let added = sym (events-none cells h.point none) in
         record {
           at = h.point;
-          comes = behind-none cells h none;
+          comes = behind-ended cells h none;
           stands = is;
           ends = refl;
           forward = subst (λ (es : List Event). Forward h.point es) added (at_or_before-refl h.point, tt);
@@ -111,8 +112,8 @@ behind-taken line text past r stop h is k = go (indent r) refl
         record {
           at = first.at;
           comes = ap (λ (l : List Cell). behind_marker l h) same
-          ∙ behind-white (cell first.byte first.at line) left h first.white
-          ∙ ap (λ (l : List Cell). Accepts (record h { events = h.events ++ behind_events l h.point; point = first.at }) left) (sym same);
+              ∙ behind-column (cell first.byte first.at line) left h first.white
+              ∙ ap (λ (l : List Cell). Accepts (record h { events = h.events ++ behind_events l h.point; point = first.at }) left) (sym same);
           stands = first.stands;
           ends = column-end line text past r h.point is first;
           forward = subst (λ (es : List Event). Forward h.point es) added (at_or_before-refl h.point, (first.onward, (at_or_before-refl first.at, tt)));
@@ -144,9 +145,9 @@ unfolding at_marker
 marker-here after line cs h = refl
 
 -- it is taken, and what stands behind it
-marker-taken : (line : Line) (text past : List ℕ) (r : Rest) (stop : List Cell) (h : Here) (q : Point) → RestAt text past r q → Stops stop → IsTrue (at_or_before h.point q) →
+marker-takes : (line : Line) (text past : List ℕ) (r : Rest) (stop : List Cell) (h : Here) (q : Point) → RestAt text past r q → Stops stop → IsTrue (at_or_before h.point q) →
     Takes line text past (past_rest r q) (lose 1 r) stop (cell 62 q line ∷ rest_cells line r q ++ stop) h (marker_events (cell 62 q line ∷ rest_cells line r q ++ stop) h.point) (at_marker (cell 62 q line ∷ rest_cells line r q ++ stop) h)
-marker-taken line text past r stop h q is k onward = subst Done (sym (marker-here q line cells h)) (takes-behind line text past (past_rest r q) (lose 1 r) stop (cell 62 q line ∷ cells) (cell 62 q line ∷ cells) h q front (behind_events cells q) (behind_marker cells marked) (at_or_before-refl h.point, (at_or_before-refl h.point, (onward, tt))) refl (omega arith) (behind-taken line text past r stop marked is k))
+marker-takes line text past r stop h q is k onward = subst Done (sym (marker-here q line cells h)) (takes-behind line text past (past_rest r q) (lose 1 r) stop (cell 62 q line ∷ cells) (cell 62 q line ∷ cells) h q front (behind_events cells q) (behind_marker cells marked) (at_or_before-refl h.point, (at_or_before-refl h.point, (onward, tt))) refl (omega arith) (behind-taken line text past r stop marked is k))
   where
     cells : List Cell
     cells = rest_cells line r q ++ stop
@@ -190,7 +191,7 @@ at-marker line text past r stop h is e k = go r.spaces r.bytes is (bare r e)
         marks : Marks 62
         marks here =
             let next : RestAt text past (behind 1 (rest 0 (62 ∷ bs))) (past_byte 62 p) = record { column = omega (arith, here.column); cut = refl; text_is = past-next p.index text 62 (bs ++ past) here.text_is } in
-            marker-taken line text past (behind 1 (rest 0 (62 ∷ bs))) stop h (past_byte 62 p) next k (before-byte p (past_byte 62 p) (omega arith))
+            marker-takes line text past (behind 1 (rest 0 (62 ∷ bs))) stop h (past_byte 62 p) next k (before-byte p (past_byte 62 p) (omega arith))
 
         by : (t : Bool) → (b == 62) ≡ t → Done 0 (b ∷ bs)
         by true f = subst Marks (sym (eqb-true b 62 f)) marks at
@@ -299,6 +300,19 @@ prefix-lines options line text past r stop h is k short calm = go (has_small_ind
         subst (λ (taken : Option Taken). Agrees line text past (past_rest r h.point) stop cells h (prefix_events options cells h.point) (prefix_at options cells h) taken) (sym (taken-large options r e))
         (prefix-marker options cells h calm ∙ marker-white left marked over)
 
+-- a prefix that the definition takes is taken, and one that it does not is refused
+pub prefix-taken : (options : ParseOptions) (line : Line) (text past : List ℕ) (r : Rest) (stop : List Cell) (h : Here) (taken : Taken) → RestAt text past r h.point → Stops stop → length (rest_cells line r h.point ++ stop) < 2 ^ 63 → IsRest h.scratch →
+    quote_taken options r ≡ Some taken → Takes line text past (past_rest r h.point) taken.rest stop (rest_cells line r h.point ++ stop) h (prefix_events options (rest_cells line r h.point ++ stop) h.point) (prefix_at options (rest_cells line r h.point ++ stop) h)
+prefix-taken options line text past r stop h taken is k short calm e =
+    let cells = rest_cells line r h.point ++ stop in
+    subst (Agrees line text past (past_rest r h.point) stop cells h (prefix_events options cells h.point) (prefix_at options cells h)) e (prefix-lines options line text past r stop h is k short calm)
+
+pub prefix-refused : (options : ParseOptions) (line : Line) (text past : List ℕ) (r : Rest) (stop : List Cell) (h : Here) → RestAt text past r h.point → Stops stop → length (rest_cells line r h.point ++ stop) < 2 ^ 63 → IsRest h.scratch →
+    quote_taken options r ≡ None → prefix_at options (rest_cells line r h.point ++ stop) h ≡ Refuses h.scratch h.flags
+prefix-refused options line text past r stop h is k short calm e =
+    let cells = rest_cells line r h.point ++ stop in
+    subst (Agrees line text past (past_rest r h.point) stop cells h (prefix_events options cells h.point) (prefix_at options cells h)) e (prefix-lines options line text past r stop h is k short calm)
+
 opens-on : (options : ParseOptions) (r : Rest) → options.constructs.block_quote ≡ true → opens_quote options r ≡ quote_taken options r
 unfolding opens_quote
 opens-on options r e = rw e refl
@@ -330,3 +344,60 @@ quote-lines options line text past r stop h is k short calm = go options.constru
     go false e =
         subst (λ (o : Outcome). Done o (opens_quote options r)) (sym (quote-off options cells h e))
         (subst (Done (Refuses h.scratch h.flags)) (sym (opens-off options r e)) refl)
+
+pub quote-taken : (options : ParseOptions) (line : Line) (text past : List ℕ) (r : Rest) (stop : List Cell) (h : Here) (taken : Taken) → RestAt text past r h.point → Stops stop → length (rest_cells line r h.point ++ stop) < 2 ^ 63 → IsRest h.scratch →
+    opens_quote options r ≡ Some taken → Takes line text past (past_rest r h.point) taken.rest stop (rest_cells line r h.point ++ stop) h (enter BlockQuote h.point ∷ prefix_events options (rest_cells line r h.point ++ stop) h.point) (quote_at options (rest_cells line r h.point ++ stop) h)
+quote-taken options line text past r stop h taken is k short calm e =
+    let cells = rest_cells line r h.point ++ stop in
+    subst (Agrees line text past (past_rest r h.point) stop cells h (enter BlockQuote h.point ∷ prefix_events options cells h.point) (quote_at options cells h)) e (quote-lines options line text past r stop h is k short calm)
+
+pub quote-refused : (options : ParseOptions) (line : Line) (text past : List ℕ) (r : Rest) (stop : List Cell) (h : Here) → RestAt text past r h.point → Stops stop → length (rest_cells line r h.point ++ stop) < 2 ^ 63 → IsRest h.scratch →
+    opens_quote options r ≡ None → quote_at options (rest_cells line r h.point ++ stop) h ≡ Refuses h.scratch h.flags
+quote-refused options line text past r stop h is k short calm e =
+    let cells = rest_cells line r h.point ++ stop in
+    subst (Agrees line text past (past_rest r h.point) stop cells h (enter BlockQuote h.point ∷ prefix_events options cells h.point) (quote_at options cells h)) e (quote-lines options line text past r stop h is k short calm)
+
+-- Its events.
+
+-- none of them but the begin and the end of a prefix is of use to who reads blocks
+behind-roles : (cells : List Cell) (p : Point) → Roles QuietOrPrefix (behind_events cells p)
+behind-roles [] p = (tt, tt)
+behind-roles (c ∷ cs) p = go (is_white c.byte)
+  where
+    go : (t : Bool) → Roles QuietOrPrefix (cond t (pair SpaceOrTab p c.after ++ exit BlockQuotePrefix c.after ∷ []) (exit BlockQuotePrefix p ∷ []))
+    go true = (tt, (tt, (tt, tt)))
+    go false = (tt, tt)
+
+marker-roles : (cells : List Cell) (p : Point) → Roles QuietOrPrefix (marker_events cells p)
+marker-roles [] p = tt
+marker-roles (c ∷ cs) p = (tt, (tt, (tt, behind-roles cs c.after)))
+
+indent-roles : (options : ParseOptions) (cells : List Cell) (p : Point) → Roles QuietOrPrefix (indent_events options cells p)
+indent-roles options cells p = go (begins_white cells)
+  where
+    go : (t : Bool) → Roles QuietOrPrefix (cond t (pair SpaceOrTab p (white_end (small_indent options) cells p)) [])
+    go true = (tt, (tt, tt))
+    go false = tt
+
+pub prefix-roles : (options : ParseOptions) (cells : List Cell) (p : Point) → Roles QuietOrPrefix (prefix_events options cells p)
+prefix-roles options cells p = roles-append QuietOrPrefix (indent_events options cells p) (marker_events (white_rest (small_indent options) cells) (white_end (small_indent options) cells p)) (indent-roles options cells p) (marker-roles (white_rest (small_indent options) cells) (white_end (small_indent options) cells p))
+
+marker-balanced : (cells : List Cell) (p : Point) → Balanced (marker_events cells p)
+marker-balanced [] p = balanced-none
+marker-balanced (c ∷ []) p = record { matches = (tt, (tt, (refl, (refl, tt)))); closed = refl }
+marker-balanced (c ∷ d ∷ cs) p = go (is_white d.byte)
+  where
+    go : (t : Bool) → Balanced (enter BlockQuotePrefix p ∷ pair BlockQuoteMarker p c.after ++ cond t (pair SpaceOrTab c.after d.after ++ exit BlockQuotePrefix d.after ∷ []) (exit BlockQuotePrefix c.after ∷ []))
+    go true = record { matches = (tt, (tt, (refl, (tt, (refl, (refl, tt)))))); closed = refl }
+    go false = record { matches = (tt, (tt, (refl, (refl, tt)))); closed = refl }
+
+indent-balanced : (options : ParseOptions) (cells : List Cell) (p : Point) → Balanced (indent_events options cells p)
+indent-balanced options cells p = go (begins_white cells)
+  where
+    go : (t : Bool) → Balanced (cond t (pair SpaceOrTab p (white_end (small_indent options) cells p)) [])
+    go true = record { matches = (tt, (refl, tt)); closed = refl }
+    go false = balanced-none
+
+-- they nest
+pub prefix-balanced : (options : ParseOptions) (cells : List Cell) (p : Point) → Balanced (prefix_events options cells p)
+prefix-balanced options cells p = balanced-append (indent_events options cells p) (marker_events (white_rest (small_indent options) cells) (white_end (small_indent options) cells p)) (indent-balanced options cells p) (marker-balanced (white_rest (small_indent options) cells) (white_end (small_indent options) cells p))

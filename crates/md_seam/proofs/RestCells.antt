@@ -263,9 +263,9 @@ indent-walk line text behind (suc n) (suc room) r p stop is k e le =
     let end : white_end (suc room) (rest_cells line r p ++ stop) p ≡ white_end room cs first.at = ap (λ (l : List Cell). white_end (suc room) l p) cells ∙ ap (λ (t : Bool). cond t (white_end room cs first.at) p) first.white in
     record {
       cells = ap (white_rest (suc room)) cells
-      ∙ ap (λ (t : Bool). cond t (white_rest room cs) (cell first.byte first.at line ∷ cs)) first.white
-      ∙ further.cells
-      ∙ ap (λ (q : Point). rest_cells line (lose n (without_first r)) q ++ stop) (sym end);
+          ∙ ap (λ (t : Bool). cond t (white_rest room cs) (cell first.byte first.at line ∷ cs)) first.white
+          ∙ further.cells
+          ∙ ap (λ (q : Point). rest_cells line (lose n (without_first r)) q ++ stop) (sym end);
       none = further.none;
       stands = subst (RestAt text behind (lose n (without_first r))) (sym end) further.stands;
       ends = ap (past_rest (lose n (without_first r))) end ∙ further.ends ∙ column-end line text behind r p is first;
