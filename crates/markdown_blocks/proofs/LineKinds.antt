@@ -15,7 +15,7 @@ use Rattle.md_seam.specs.Places.{past_byte, past_text}
 use Rattle.md_seam.specs.Rest.{is_blank, is_white, trim_start}
 use Rattle.md_seam.specs.Spaces.{any_size, small_indent}
 use Rattle.md_seam.proofs.FeedLines.{Stops, all-spread, byte-end, byte-one, byte_cells, bytes_of, cell, columns_more, count-spread, from_ending-append, line_cells-append, next_column, no_feed-spread, spread, spread-end, stops-white, tab_cells}
-use Rattle.md_seam.proofs.TextsLemmas.{NoEnding}
+use Rattle.md_seam.proofs.TextsLemmas.{NoEnding, no_ending-drop}
 use Rattle.markdown_blocks.specs.Rows.{BlankRow, BreakRow, HeadingRow, TextRow, is_break, line_kind, row_kind}
 use Rattle.markdown_blocks.proofs.HeadingSpread.{heading-spread}
 
@@ -207,11 +207,6 @@ rule-spread line (b ∷ bs) p = go (b == 9) refl (is_rule_marker b) refl
         ap (λ (t : Bool). is_rule (bytes_of (cond t (tab_cells line (columns_more p) 9 p) (cell b (past_byte b p) line ∷ []) ++ spread line bs (past_byte b p)))) e
         ∙ ap (λ (t : Bool). is_rule_marker b && t && nat_le 2 (count_by (λ c. c == b) (bytes_of (spread line bs (past_byte b p))))) (all-spread (λ c. (c == b) || is_white c) (or_true (32 == b) (9 == b)) line bs (past_byte b p))
         ∙ ap (λ (n : ℕ). is_rule_marker b && list_all (λ c. (c == b) || is_white c) bs && nat_le 2 n) (count-spread (λ c. c == b) (marker-apart b k) line bs (past_byte b p))
-
-no_ending-drop : (n : ℕ) (bytes : List ℕ) → NoEnding bytes → NoEnding (drop n bytes)
-no_ending-drop zero bytes h = h
-no_ending-drop (suc n) [] h = tt
-no_ending-drop (suc n) (b ∷ bs) h = no_ending-drop n bs h.1
 
 pub no_ending-trim : (bytes : List ℕ) → NoEnding bytes → NoEnding (trim_start bytes)
 no_ending-trim bytes h = no_ending-drop (prefix_len is_white bytes) bytes h

@@ -23,9 +23,10 @@ use Rattle.md_seam.specs.Spaces.{IsRest, any_size, small_indent}
 use Rattle.md_seam.specs.State.{InQuote}
 use Rattle.md_seam.proofs.FeedLines.{Stops, before-byte, byte-one, cell, past-next, spread}
 use Rattle.md_seam.proofs.NestedLemmas.{at_or_before-refl, balanced-append, balanced-none, forward-append, last_point-append}
-use Rattle.md_seam.proofs.RestCells.{Bare, RestAt, bare, bare-cells, bare-same, cells_by, column-end, column-first, indent-length, indent-over, indent-taken, past_cut, past_rest, rest_cells, white-end, white-length, white-rest, without_first}
+use Rattle.md_seam.proofs.RestCells.{Bare, RestAt, bare, bare-cells, bare-same, behind-no_ending, cells_by, column-end, column-first, indent-length, indent-over, indent-taken, lose-no_ending, past_cut, past_rest, rest_cells, white-end, white-length, white-rest, without_first}
 use Rattle.md_seam.proofs.SpacesGoods.{rest-calm}
 use Rattle.md_seam.proofs.SpelledLemmas.{QuietOrPrefix, Roles, roles-append}
+use Rattle.md_seam.proofs.TextsLemmas.{NoEnding}
 
 -- What a prefix comes to.
 
@@ -356,6 +357,32 @@ pub quote-refused : (options : ParseOptions) (line : Line) (text past : List ℕ
 quote-refused options line text past r stop h is k short calm e =
     let cells = rest_cells line r h.point ++ stop in
     subst (Agrees line text past (past_rest r h.point) stop cells h (enter BlockQuote h.point ∷ prefix_events options cells h.point) (quote_at options cells h)) e (quote-lines options line text past r stop h is k short calm)
+
+-- What is left.
+
+taken-left : (P : Taken → Type 0) (options : ParseOptions) (r : Rest) (taken : Taken) → P (record { container = InQuote; rest = lose 1 (behind 1 (behind_indent r)) }) → quote_taken options r ≡ Some taken → P taken
+taken-left P options r taken h e = subst Of e (small (has_small_indent options r) refl)
+  where
+    Of : Option Taken → Type 0
+    Of None = Unit {0}
+    Of (Some t) = P t
+
+    marked : (t : Bool) → Of (cond t (Some (record { container = InQuote; rest = lose 1 (behind 1 (behind_indent r)) })) None)
+    marked true = h
+    marked false = tt
+
+    small : (t : Bool) → has_small_indent options r ≡ t → Of (quote_taken options r)
+    small true f = subst Of (sym (taken-small options r f)) (marked (begins_with 62 (behind_indent r).bytes))
+    small false f = subst Of (sym (taken-large options r f)) tt
+
+pub quote-container : (options : ParseOptions) (r : Rest) (taken : Taken) → quote_taken options r ≡ Some taken → taken.container ≡ InQuote
+quote-container options r taken e = taken-left (λ t. t.container ≡ InQuote) options r taken refl e
+
+-- a line without an ending is left without one
+pub quote-no_ending : (options : ParseOptions) (r : Rest) (taken : Taken) → NoEnding r.bytes → quote_taken options r ≡ Some taken → NoEnding taken.rest.bytes
+quote-no_ending options r taken h e =
+    let marker = behind_indent r in
+    taken-left (λ t. NoEnding t.rest.bytes) options r taken (lose-no_ending 1 (behind 1 marker) (behind-no_ending 1 marker (lose-no_ending (indent r) r h))) e
 
 -- Its events.
 

@@ -12,10 +12,10 @@ use Rattle.md_engine.specs.World.{Setting}
 use Rattle.md_seam.specs.Ahead.{begins_white, point_after, white_end, white_rest}
 use Rattle.md_seam.specs.Places.{at_or_before, past_byte, past_text}
 use Rattle.md_seam.specs.Preamble.{rest_at}
-use Rattle.md_seam.specs.Rest.{Rest, behind_indent, indent, is_white, lose, tab_columns, white_columns, without_column}
+use Rattle.md_seam.specs.Rest.{Rest, behind, behind_indent, indent, is_white, lose, tab_columns, white_columns, without_column}
 use Rattle.md_seam.proofs.FeedLines.{HasLine, Stops, at-next, before-byte, before-column, behind_last, byte-one, cell, columns_more, line-feed, next_column, past-next, point_after-append, spread, spread-end, stops-white, tab-end, tab-feed, tab_cells, tab_end, tab_end-last, tab_end-next, tab_end-stop}
 use Rattle.md_seam.proofs.NestedLemmas.{at_or_before-refl, at_or_before-trans}
-use Rattle.md_seam.proofs.TextsLemmas.{NoEnding}
+use Rattle.md_seam.proofs.TextsLemmas.{NoEnding, no_ending-drop}
 use Rattle.md_seam.proofs.WhiteSteps.{none-end, none-rest}
 
 -- the columns that are left of a cut tab, and then the cells of the bytes
@@ -314,6 +314,9 @@ without-no_ending column zero (b ∷ bs) h = go (b == 9) (b == 32)
 pub lose-no_ending : (n : ℕ) (r : Rest) → NoEnding r.bytes → NoEnding (lose n r).bytes
 lose-no_ending zero r h = h
 lose-no_ending (suc n) r h = lose-no_ending n (without_first r) (without-no_ending r.column r.spaces r.bytes h)
+
+pub behind-no_ending : (n : ℕ) (r : Rest) → NoEnding r.bytes → NoEnding (behind n r).bytes
+behind-no_ending n r h = no_ending-drop n r.bytes h
 
 -- The text.
 
