@@ -37,7 +37,7 @@ use Rattle.md_seam.proofs.TextsLemmas.{Ending, EndsBefore, LineFeed, NoEnding, R
 use Rattle.markdown_blocks.specs.FlowReads.{NoHeading, NoText}
 use Rattle.markdown_blocks.specs.Rows.{BlankRow, BreakRow, Group, HeadingRow, Lines, Row, RowKind, Single, TextRow, behind_row, chunks_of, ending_events, group_events, groups, groups_events, last_row, line_kind, onto_groups, paragraph_events, read_text, read_title, row_events, row_events_by, row_title, rows_events, single_events_by}
 use Rattle.markdown_blocks.specs.Unread.{joined_groups, linked, titled_group, titled_groups, titled_row_by, unread_group, unread_groups, unread_paragraph}
-use Rattle.markdown_blocks.proofs.FeedLines.{past_text-whole, slice-front}
+use Rattle.md_seam.proofs.FeedLines.{past_text-whole, slice-front}
 use Rattle.markdown_blocks.proofs.JoinedLemmas.{EachEnds, EachNoContent, HasNoContent, behind-is, ending-is, ending-no_content, events-no_content, joined-rows, no_content-unwanted}
 use Rattle.markdown_blocks.proofs.RowFacts.{AreRows, IsEnding, IsRow, first-is, line-text}
 use Rattle.markdown_blocks.proofs.SubstitutedLemmas.{Becomes, Rest, Unwanted, becomes-append, becomes-around, becomes-same, no_links-unwanted, part-becomes, passes, places}

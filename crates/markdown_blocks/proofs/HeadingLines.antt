@@ -17,10 +17,10 @@ use Rattle.md_seam.specs.Leaves.{heading_at}
 use Rattle.md_seam.specs.Places.{past_byte, past_text}
 use Rattle.md_seam.specs.Rest.{Rest, has_small_indent, indent, is_white, tab_columns, trim_start, white_columns}
 use Rattle.md_seam.specs.Spaces.{any_size, small_indent}
+use Rattle.md_seam.proofs.FeedLines.{Stops, columns_more, next_column, spread, tab_cells}
 use Rattle.md_seam.proofs.TextsLemmas.{NoEnding}
-use Rattle.markdown_blocks.proofs.FeedLines.{columns_more, next_column, spread, tab_cells}
 use Rattle.markdown_blocks.proofs.HeadingSpread.{heading-other, heading-spread}
-use Rattle.markdown_blocks.proofs.LineKinds.{Stops, no_ending-trim, small-rest, spread-bytes, white_front}
+use Rattle.markdown_blocks.proofs.LineKinds.{no_ending-trim, small-rest, spread-bytes, white_front}
 
 -- The columns of the indent.
 

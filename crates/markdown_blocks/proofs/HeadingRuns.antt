@@ -16,9 +16,9 @@ use Rattle.md_seam.specs.Nested.{enter, pair}
 use Rattle.md_seam.specs.Places.{past_byte}
 use Rattle.md_seam.specs.Rest.{is_white}
 use Rattle.md_seam.specs.Spaces.{small_indent}
+use Rattle.md_seam.proofs.FeedLines.{Stops, byte_cells, cell, columns_more, next_column, spread, tab_cells, tab_end, tab_end-last, tab_end-next, tab_end-stop}
 use Rattle.md_seam.proofs.TextsLemmas.{NoEnding}
-use Rattle.markdown_blocks.proofs.FeedLines.{byte_cells, cell, columns_more, next_column, spread, tab_cells, tab_end, tab_end-last, tab_end-next, tab_end-stop}
-use Rattle.markdown_blocks.proofs.LineKinds.{Stops, no_limit, spread-line}
+use Rattle.markdown_blocks.proofs.LineKinds.{no_limit, spread-line}
 
 -- The indent is the first run of a line.
 

@@ -9,7 +9,7 @@ use Rattle.md_engine.specs.Meaning.{Cell}
 use Rattle.md_leaves.specs.HeadingRule.{is_heading, is_opening}
 use Rattle.md_seam.specs.Places.{past_byte}
 use Rattle.md_seam.specs.Rest.{is_white, run_len}
-use Rattle.markdown_blocks.proofs.FeedLines.{bytes_of, cell, columns_more, spread, tab_cells}
+use Rattle.md_seam.proofs.FeedLines.{bytes_of, cell, columns_more, spread, tab_cells}
 
 -- `#` at the front.
 

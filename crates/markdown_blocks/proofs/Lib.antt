@@ -7,7 +7,6 @@ pub mod FlowRuns
 pub mod FlowEnds
 pub mod PiecesLemmas
 pub mod RowFacts
-pub mod FeedLines
 pub mod HeadingSpread
 pub mod LineKinds
 pub mod HeadingLines

@@ -2,7 +2,7 @@
 use Rattle.std.proofs.Common.{◌≡◌, ℕ, zero, suc, ◌+◌, ◌^◌, ◌<◌, ◌≤◌, Bool, true, false, cond, ◌&&◌, ◌||◌, List, [], ◌∷◌, ◌++◌, length, take, drop, refl, sym, ap, ◌∙◌, subst, arith, append_assoc, append-nil}
 use Rattle.std.specs.Prelude.{◌==◌, nat_le, count_by}
 use Rattle.std.specs.List.{list_all, prefix_len}
-use Rattle.std.proofs.lemmas.Bool.{eqb-true, or_parts}
+use Rattle.std.proofs.lemmas.Bool.{eqb-true}
 use Rattle.std.proofs.lemmas.Bool.Decides.{nat_tests}
 use Rattle.md_engine.specs.declared.configuration.ParseOptions.{ParseOptions}
 use Rattle.md_engine.specs.declared.event.Point.{Point}
@@ -14,15 +14,10 @@ use Rattle.md_seam.specs.Leaves.{is_rule, is_rule_marker}
 use Rattle.md_seam.specs.Places.{past_byte, past_text}
 use Rattle.md_seam.specs.Rest.{is_blank, is_white, trim_start}
 use Rattle.md_seam.specs.Spaces.{any_size, small_indent}
-use Rattle.md_seam.proofs.TextsLemmas.{NoEnding}
+use Rattle.md_seam.proofs.FeedLines.{Stops, all-spread, byte-end, byte-one, byte_cells, bytes_of, cell, columns_more, count-spread, from_ending-append, line_cells-append, next_column, no_feed-spread, spread, spread-end, stops-white, tab_cells}
+use Rattle.md_seam.proofs.TextsLemmas.{NoEnding, no_ending-drop}
 use Rattle.markdown_blocks.specs.Rows.{BlankRow, BreakRow, HeadingRow, TextRow, is_break, line_kind, row_kind}
-use Rattle.markdown_blocks.proofs.FeedLines.{all-spread, byte-end, byte_cells, bytes_of, cell, columns_more, count-spread, from_ending-append, line_cells-append, next_column, no_feed-spread, spread, spread-end, tab_cells}
 use Rattle.markdown_blocks.proofs.HeadingSpread.{heading-spread}
-
--- nothing comes, or an ending
-abbrev pub Stops : List Cell → Type 0
-Stops [] = Unit {0}
-Stops (c ∷ cs) = (c.byte == 10) ≡ true
 
 stops-line : (rest : List Cell) → Stops rest → line_cells rest ≡ []
 stops-line [] h = refl
@@ -31,11 +26,6 @@ stops-line (c ∷ cs) h = rw h refl
 stops-rest : (rest : List Cell) → Stops rest → from_ending rest ≡ rest
 stops-rest [] h = refl
 stops-rest (c ∷ cs) h = rw h refl
-
--- an ending is no whitespace
-stops-white : (rest : List Cell) → Stops rest → begins_white rest ≡ false
-stops-white [] h = refl
-stops-white (c ∷ cs) h = let ten : c.byte ≡ 10 = eqb-true c.byte 10 h in ap is_white ten
 
 -- the cells of a line, without what follows
 pub spread-line : (line : Line) (bytes : List ℕ) (p : Point) (rest : List Cell) → NoEnding bytes → Stops rest → line_cells (spread line bytes p ++ rest) ≡ spread line bytes p
@@ -102,10 +92,6 @@ byte-white line b p e = go (b == 9)
     go : (t : Bool) → AllWhite (cond t (tab_cells line (columns_more p) 9 p) (cell b (past_byte b p) line ∷ []))
     go true = tab-white line (columns_more p) 9 p refl
     go false = (e, tt)
-
--- what is no whitespace is one cell
-byte-one : (line : Line) (b : ℕ) (p : Point) → is_white b ≡ false → byte_cells line b p ≡ cell b (past_byte b p) line ∷ []
-byte-one line b p e = ap (λ (t : Bool). cond t (tab_cells line (columns_more p) 9 p) (cell b (past_byte b p) line ∷ [])) (or_parts (b == 32) (b == 9) e).1
 
 -- the whitespace in front of a line
 abbrev pub white_front : List ℕ → List ℕ
@@ -221,11 +207,6 @@ rule-spread line (b ∷ bs) p = go (b == 9) refl (is_rule_marker b) refl
         ap (λ (t : Bool). is_rule (bytes_of (cond t (tab_cells line (columns_more p) 9 p) (cell b (past_byte b p) line ∷ []) ++ spread line bs (past_byte b p)))) e
         ∙ ap (λ (t : Bool). is_rule_marker b && t && nat_le 2 (count_by (λ c. c == b) (bytes_of (spread line bs (past_byte b p))))) (all-spread (λ c. (c == b) || is_white c) (or_true (32 == b) (9 == b)) line bs (past_byte b p))
         ∙ ap (λ (n : ℕ). is_rule_marker b && list_all (λ c. (c == b) || is_white c) bs && nat_le 2 n) (count-spread (λ c. c == b) (marker-apart b k) line bs (past_byte b p))
-
-pub no_ending-drop : (n : ℕ) (bytes : List ℕ) → NoEnding bytes → NoEnding (drop n bytes)
-no_ending-drop zero bytes h = h
-no_ending-drop (suc n) [] h = tt
-no_ending-drop (suc n) (b ∷ bs) h = no_ending-drop n bs h.1
 
 pub no_ending-trim : (bytes : List ℕ) → NoEnding bytes → NoEnding (trim_start bytes)
 no_ending-trim bytes h = no_ending-drop (prefix_len is_white bytes) bytes h

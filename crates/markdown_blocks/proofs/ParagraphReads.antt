@@ -17,9 +17,9 @@ use Rattle.md_seam.specs.declared.inline.Chunk.{Chunk}
 use Rattle.md_seam.specs.Ahead.{point_after}
 use Rattle.md_seam.specs.Places.{past_byte, past_text}
 use Rattle.md_seam.specs.Nested.{around, enter, enter_link, exit}
+use Rattle.md_seam.proofs.FeedLines.{HasEnding, HasLine, NoFeed, begun-same, cell, ending-feed, ending-some, feed-none, line-feed, no_feed-spread, past_ending, point_after-append, spread, spread-end}
 use Rattle.markdown_blocks.specs.Rows.{Row, TextRow, chunks_of, last_row}
 use Rattle.markdown_blocks.specs.Unread.{linked, unread_paragraph}
-use Rattle.markdown_blocks.proofs.FeedLines.{HasEnding, HasLine, NoFeed, begun-same, cell, ending-feed, ending-some, feed-none, line-feed, no_feed-spread, past_ending, point_after-append, spread, spread-end}
 use Rattle.markdown_blocks.proofs.GroupLemmas.{IsParagraph, ReadsContent, piece, row-line, text-some}
 use Rattle.markdown_blocks.proofs.JoinedLemmas.{behind-is}
 use Rattle.markdown_blocks.proofs.RowFacts.{IsEnding, IsRow}

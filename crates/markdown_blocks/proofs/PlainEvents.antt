@@ -21,7 +21,7 @@ use Rattle.md_seam.proofs.SpelledLemmas.{Quiet, Roles}
 use Rattle.markdown_blocks.specs.Between.{is_between}
 use Rattle.markdown_blocks.specs.Outlined.{IsOutlined, are_shallow, has_plain_name, is_plain, is_told, is_whole}
 use Rattle.markdown_blocks.specs.Rows.{BlankRow, BreakRow, Group, HeadingRow, Lines, Row, RowKind, Single, TextRow, chunks_of, ending_events, group_events, groups, groups_events, last_row, onto_groups, read_text, read_title, row_line, row_title, single_events_by}
-use Rattle.markdown_blocks.proofs.FeedLines.{past_text-whole}
+use Rattle.md_seam.proofs.FeedLines.{past_text-whole}
 use Rattle.markdown_blocks.proofs.RowFacts.{AreRows, IsInside}
 use Rattle.markdown_blocks.proofs.TitleNests.{blank-no_heading, break-no_heading, text_begin, text_end}
 

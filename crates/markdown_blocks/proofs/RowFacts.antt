@@ -7,8 +7,9 @@ use Rattle.md_leaves.specs.HeadingRule.{Apart}
 use Rattle.md_leaves.specs.HeadingTitle.{line_runs}
 use Rattle.md_seam.specs.Nested.{Balanced, Forward, last_point}
 use Rattle.md_seam.specs.Places.{at_or_before, past_text}
+pub use Rattle.md_seam.proofs.FeedLines.{IsEnding}
 use Rattle.md_seam.proofs.SpelledLemmas.{Roles, Quiet}
-use Rattle.md_seam.proofs.TextsLemmas.{Ending, EndsBefore, NoEnding, ending_bytes}
+use Rattle.md_seam.proofs.TextsLemmas.{NoEnding, ending_bytes}
 use Rattle.markdown_blocks.specs.Rows.{HeadingRow, Row, TextRow, line_kind}
 use Rattle.markdown_blocks.proofs.PiecesLemmas.{Tiled}
 
@@ -36,18 +37,6 @@ pub record IsRow (options : ParseOptions) (bytes line : List ℕ) (row : Row) : 
   pub no_inside : row.kind ≡ TextRow → row.inside ≡ []
   -- in a heading, its runs
   pub heading : row.kind ≡ HeadingRow → row.inside ≡ line_runs Apart line row.first
-
--- an ending stands between two points
-pub record IsEnding (bytes : List ℕ) (p q : Point) : Type 0 where
-  pub ending : Ending
-  pub text : slice_range bytes p.index q.index ≡ ending_bytes ending
-  pub size : q.index ≡ p.index + length (ending_bytes ending)
-  pub in_text : q.index ≤ length bytes
-  pub before : EndsBefore ending (drop q.index bytes)
-  pub whole : q.vs ≡ 0
-  -- a line begins there
-  pub line : q.line ≡ p.line + 1
-  pub column : q.column ≡ 1
 
 -- these lines, from this point to the end of the text
 abbrev pub AreRows : ParseOptions → List ℕ → Point → List (List ℕ) → List Row → Type 0

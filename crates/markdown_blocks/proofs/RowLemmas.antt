@@ -25,15 +25,15 @@ use Rattle.md_seam.specs.Places.{at_or_before, past_byte, past_text, same_place}
 use Rattle.md_seam.specs.Rest.{is_blank, is_white, trim_start}
 use Rattle.md_seam.specs.Spaces.{small_indent}
 use Rattle.md_seam.specs.Texts.{split_lines}
+use Rattle.md_seam.proofs.FeedLines.{HasEnding, HasLine, Stops, before-byte, before-column, behind_last, begun-none, byte-end, byte_cells, cell, columns_more, drop-past, ending-feed, ending-some, feed-none, front-within, is-ending, line-feed, next_column, past_ending, past_text-column, past_text-whole, slice-front, spread, spread-end, tab_cells}
 use Rattle.md_seam.proofs.InlineLemmas.{past-index, same-refl}
 use Rattle.md_seam.proofs.NestedLemmas.{at_or_before-refl, at_or_before-trans, balanced-append, balanced-none, forward-append, forward-from, last_point-append}
 use Rattle.md_seam.proofs.SpelledLemmas.{Quiet, Roles, roles-append}
 use Rattle.md_seam.proofs.TextsLemmas.{Both, Ending, EndsBefore, LineFeed, NoEnding, Return, ending_bytes, split-line, split-next}
 use Rattle.markdown_blocks.specs.FlowReads.{text_cells, text_rows, text_setting}
 use Rattle.markdown_blocks.specs.Rows.{BlankRow, BreakRow, HeadingRow, Row, RowKind, TextRow, after_ending, break_inside, first_cell, inside_of, is_break, row_at, row_kind, rows_at}
-use Rattle.markdown_blocks.proofs.FeedLines.{HasEnding, HasLine, behind_last, begun-none, byte-end, byte_cells, cell, columns_more, drop-past, ending-feed, ending-some, feed-none, front-within, is-ending, line-feed, next_column, past_ending, past_text-column, past_text-whole, slice-front, spread, spread-end, tab_cells}
 use Rattle.markdown_blocks.proofs.HeadingRuns.{heading-runs}
-use Rattle.markdown_blocks.proofs.LineKinds.{Stops, kind-spread, no_ending-trim, small-end, small-rest, spread-line, spread-line_end, spread-rest, white_front}
+use Rattle.markdown_blocks.proofs.LineKinds.{kind-spread, no_ending-trim, small-end, small-rest, spread-line, spread-line_end, spread-rest, white_front}
 use Rattle.markdown_blocks.proofs.PiecesLemmas.{Shut, Tiled, shut-exit, tiled-append, tiled-enter, tiled-none, tiled-pair}
 use Rattle.markdown_blocks.proofs.RowFacts.{AreRows, IsEnding, IsInside, IsRow}
 use Rattle.markdown_blocks.proofs.TitleNests.{either}
@@ -48,13 +48,6 @@ Climbs p (c ∷ cs) = IsTrue (at_or_before p c.after) × Climbs c.after cs
 climbs-append : (xs ys : List Cell) (p : Point) → Climbs p xs → Climbs (point_after xs p) ys → Climbs p (xs ++ ys)
 climbs-append [] ys p h k = k
 climbs-append (c ∷ xs) ys p h k = (h.0, climbs-append xs ys c.after h.1 k)
-
--- a later byte, or a later column of the same
-before-byte : (p q : Point) → p.index < q.index → IsTrue (at_or_before p q)
-before-byte p q lt = grind (arith, nat_tests)
-
-before-column : (p : Point) → IsTrue (at_or_before p (next_column p))
-before-column p = grind (arith, nat_tests)
 
 climbs-tab : (line : Line) (n byte : ℕ) (p : Point) → Climbs p (tab_cells line n byte p)
 climbs-tab line zero byte p = (before-byte p (behind_last p) (omega arith), tt)

@@ -1,2 +1,3 @@
 pub mod QuoteGoods
 pub mod QuoteSteps
+pub mod QuoteLines

@@ -25,11 +25,11 @@ small-some options = go options.constructs.code_indented
 
 -- The start.
 
-quote-on : (options : ParseOptions) (cells : List Cell) (h : Here) → options.constructs.block_quote ≡ true → quote_at options cells h ≡ prefix_at options cells (record h { events = h.events ++ enter BlockQuote h.point ∷ [] })
+pub quote-on : (options : ParseOptions) (cells : List Cell) (h : Here) → options.constructs.block_quote ≡ true → quote_at options cells h ≡ prefix_at options cells (record h { events = h.events ++ enter BlockQuote h.point ∷ [] })
 unfolding quote_at
 quote-on options cells h on = rw on refl
 
-quote-off : (options : ParseOptions) (cells : List Cell) (h : Here) → options.constructs.block_quote ≡ false → quote_at options cells h ≡ Refuses h.scratch h.flags
+pub quote-off : (options : ParseOptions) (cells : List Cell) (h : Here) → options.constructs.block_quote ≡ false → quote_at options cells h ≡ Refuses h.scratch h.flags
 unfolding quote_at
 quote-off options cells h off = rw off refl
 

@@ -1,7 +1,9 @@
 -- The rule of the prefix of a block quote, as what is left of it at each state (CommonMark 5.1).
 use Rattle.std.specs.Prelude.{◌≡◌, ◌==◌, if◌then◌else◌, List, [], ◌∷◌, ◌++◌}
 use Rattle.md_engine.specs.declared.configuration.ParseOptions.{ParseOptions}
+use Rattle.md_engine.specs.declared.event.Event.{Event}
 use Rattle.md_engine.specs.declared.event.Name.TheVariants.{BlockQuote, BlockQuoteMarker, BlockQuotePrefix, SpaceOrTab}
+use Rattle.md_engine.specs.declared.event.Point.{Point}
 use Rattle.md_engine.specs.declared.state.Name.TheVariants.{BlockQuoteStart, BlockQuoteContStart, BlockQuoteContBefore, BlockQuoteContAfter}
 use Rattle.md_engine.specs.Meaning.{Accepts, Behaviour, Cell, Here, Outcome, Refuses}
 use Rattle.md_seam.specs.Ahead.{HasWhite, begins_white, white_end, white_rest}
@@ -44,6 +46,24 @@ quote_at options cells h =
     if options.constructs.block_quote
     then prefix_at options cells (record h { events = h.events ++ enter BlockQuote h.point ∷ [] })
     else Refuses h.scratch h.flags
+
+-- The events of a prefix.
+
+abbrev pub indent_events : ParseOptions → List Cell → Point → List Event
+indent_events options cells p = if begins_white cells then pair SpaceOrTab p (white_end (small_indent options) cells p) else []
+
+-- behind `>`
+abbrev pub behind_events : List Cell → Point → List Event
+behind_events [] p = exit BlockQuotePrefix p ∷ []
+behind_events (c ∷ cs) p = if is_white c.byte then pair SpaceOrTab p c.after ++ exit BlockQuotePrefix c.after ∷ [] else exit BlockQuotePrefix p ∷ []
+
+-- from `>` on
+abbrev pub marker_events : List Cell → Point → List Event
+marker_events [] p = []
+marker_events (c ∷ cs) p = enter BlockQuotePrefix p ∷ pair BlockQuoteMarker p c.after ++ behind_events cs c.after
+
+abbrev pub prefix_events : ParseOptions → List Cell → Point → List Event
+prefix_events options cells p = indent_events options cells p ++ marker_events (white_rest (small_indent options) cells) (white_end (small_indent options) cells p)
 
 pub record HasQuote (B : Behaviour) (options : ParseOptions) : Type 0 where
   pub white : HasWhite B

@@ -1,5 +1,5 @@
 -- Texts are split at their line endings.
-use Rattle.std.proofs.Common.{◌≡◌, ℕ, Bool, true, false, cond, ◌&&◌, ◌||◌, List, [], ◌∷◌, ◌++◌, refl, ap, ◌∙◌}
+use Rattle.std.proofs.Common.{◌≡◌, ℕ, zero, suc, Bool, true, false, cond, ◌&&◌, ◌||◌, List, [], ◌∷◌, ◌++◌, drop, refl, ap, ◌∙◌}
 use Rattle.std.specs.Prelude.{◌==◌, not}
 use Rattle.std.specs.List.{onto_first}
 use Rattle.md_seam.specs.Lines.{is_ending, begins_with}
@@ -9,6 +9,11 @@ use Rattle.md_seam.specs.Texts.{split_lines}
 abbrev pub NoEnding : List ℕ → Type 0
 NoEnding [] = Unit {0}
 NoEnding (b ∷ bs) = (is_ending b ≡ false) × NoEnding bs
+
+pub no_ending-drop : (n : ℕ) (bytes : List ℕ) → NoEnding bytes → NoEnding (drop n bytes)
+no_ending-drop zero bytes h = h
+no_ending-drop (suc n) [] h = tt
+no_ending-drop (suc n) (b ∷ bs) h = no_ending-drop n bs h.1
 
 -- a line ending in front of a text: LF, CR LF, or a CR that no LF follows (CommonMark 2.1)
 pub data Ending : Type 0 where

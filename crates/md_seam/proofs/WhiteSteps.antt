@@ -37,11 +37,11 @@ inside-full (c ∷ cs) h le =
     let room : h.scratch.whitespace.max - h.scratch.whitespace.size ≡ 0 = omega arith in
     rw (room, add-zero) refl
 
-none-end : (room : ℕ) (c : Cell) (cs : List Cell) (p : Point) → is_white c.byte ≡ false → white_end room (c ∷ cs) p ≡ p
+pub none-end : (room : ℕ) (c : Cell) (cs : List Cell) (p : Point) → is_white c.byte ≡ false → white_end room (c ∷ cs) p ≡ p
 none-end zero c cs p e = refl
 none-end (suc n) c cs p e = rw e refl
 
-none-rest : (room : ℕ) (c : Cell) (cs : List Cell) → is_white c.byte ≡ false → white_rest room (c ∷ cs) ≡ c ∷ cs
+pub none-rest : (room : ℕ) (c : Cell) (cs : List Cell) → is_white c.byte ≡ false → white_rest room (c ∷ cs) ≡ c ∷ cs
 none-rest zero c cs e = refl
 none-rest (suc n) c cs e = rw e refl
 

@@ -1,6 +1,6 @@
 -- The cells of a line: what is fed from a point of a line to the line's end, and the cell of its ending.
 use Rattle.std.proofs.Common.{◌≡◌, ℕ, zero, suc, ◌+◌, ◌-◌, ◌%◌, ◌^◌, ◌<◌, ◌≤◌, Bool, true, false, cond, ◌&&◌, List, [], ◌∷◌, ◌++◌, length, take, drop, Option, Some, refl, sym, ap, ◌∙◌, subst, add-one, arith, append_assoc}
-use Rattle.std.specs.Prelude.{◌==◌, not, nat_lt, nat_le, map, slice_get, slice_index, slice_range, if◌then◌else◌, count_by}
+use Rattle.std.specs.Prelude.{IsTrue, ◌==◌, not, nat_lt, nat_le, map, slice_get, slice_index, slice_range, if◌then◌else◌, count_by}
 use Rattle.std.specs.List.{list_all}
 use Rattle.std.proofs.lemmas.Bool.{eqb-true, or_parts}
 use Rattle.std.proofs.lemmas.Bool.Decides.{nat_tests}
@@ -15,13 +15,13 @@ use Rattle.md_engine.specs.Scheme.{cells_left}
 use Rattle.md_engine.specs.TextFeed.{cells_from, text_feed}
 use Rattle.md_engine.specs.World.{Setting, after, line_begun}
 use Rattle.md_engine.proofs.TextFeed.{text-follows}
-use Rattle.md_seam.specs.Ahead.{from_ending, line_cells, point_after}
+use Rattle.md_seam.specs.Ahead.{begins_white, from_ending, line_cells, point_after}
 use Rattle.md_seam.specs.Lines.{is_ending, begins_with}
-use Rattle.md_seam.specs.Places.{past_byte, past_text}
+use Rattle.md_seam.specs.Places.{at_or_before, past_byte, past_text}
+use Rattle.md_seam.specs.Rest.{is_white}
 use Rattle.md_seam.specs.Texts.{first_byte}
 use Rattle.md_seam.proofs.PlacesLemmas.{drop-next}
 use Rattle.md_seam.proofs.TextsLemmas.{Both, Ending, EndsBefore, LineFeed, NoEnding, Return, ending_bytes}
-use Rattle.markdown_blocks.proofs.RowFacts.{IsEnding}
 
 -- What stands in a text.
 
@@ -70,6 +70,13 @@ next_column p = record p { column = p.column + 1; vs = p.vs + 1 }
 abbrev pub behind_last : Point → Point
 behind_last p = record p { column = p.column + 1; index = p.index + 1; vs = 0 }
 
+-- a later byte, or a later column of the same
+pub before-byte : (p q : Point) → p.index < q.index → IsTrue (at_or_before p q)
+before-byte p q lt = grind (arith, nat_tests)
+
+pub before-column : (p : Point) → IsTrue (at_or_before p (next_column p))
+before-column p = grind (arith, nat_tests)
+
 -- how many columns of a tab there are behind this one
 abbrev pub columns_more : Point → ℕ
 columns_more p = 3 - (p.column + 3) % 4
@@ -81,6 +88,10 @@ tab_cells line (suc n) byte p = cell byte (next_column p) line ∷ tab_cells lin
 
 abbrev pub byte_cells : Line → ℕ → Point → List Cell
 byte_cells line b p = if b == 9 then tab_cells line (columns_more p) 9 p else cell b (past_byte b p) line ∷ []
+
+-- what is no whitespace is one cell
+pub byte-one : (line : Line) (b : ℕ) (p : Point) → is_white b ≡ false → byte_cells line b p ≡ cell b (past_byte b p) line ∷ []
+byte-one line b p e = ap (λ (t : Bool). cond t (tab_cells line (columns_more p) 9 p) (cell b (past_byte b p) line ∷ [])) (or_parts (b == 32) (b == 9) e).1
 
 -- the cells of a piece of a line
 abbrev pub spread : Line → List ℕ → Point → List Cell
@@ -118,7 +129,7 @@ seen-first bytes b p is e vs = rw (is, e, vs) (go (b == 9))
     go false = refl
 
 -- a tab is fed column by column
-tab-feed : (x : Setting) (n : ℕ) (p : Point) → x.limit < 2 ^ 61 → p.index < x.limit → slice_index x.bytes p.index ≡ 9 → n ≡ columns_more p →
+pub tab-feed : (x : Setting) (n : ℕ) (p : Point) → x.limit < 2 ^ 61 → p.index < x.limit → slice_index x.bytes p.index ≡ 9 → n ≡ columns_more p →
     text_feed x p ≡ tab_cells x.line n (seen_at x.bytes p) p ++ text_feed x (tab_end n p)
 tab-feed x zero p small lt is e =
     feed-next x p small lt
@@ -192,7 +203,7 @@ pub point_after-append : (xs ys : List Cell) (p : Point) → point_after (xs ++ 
 point_after-append [] ys p = refl
 point_after-append (c ∷ xs) ys p = point_after-append xs ys c.after
 
-tab-end : (line : Line) (n byte : ℕ) (p q : Point) → point_after (tab_cells line n byte p) q ≡ tab_end n p
+pub tab-end : (line : Line) (n byte : ℕ) (p q : Point) → point_after (tab_cells line n byte p) q ≡ tab_end n p
 tab-end line zero byte p q = tab_end-last p
 tab-end line (suc n) byte p q = tab-end line n 32 (next_column p) (next_column p) ∙ tab_end-next n p
 
@@ -319,6 +330,18 @@ pub from_ending-append : (xs ys : List Cell) → NoFeed xs → from_ending (xs +
 from_ending-append [] ys h = refl
 from_ending-append (c ∷ xs) ys h = rw h.0 (from_ending-append xs ys h.1)
 
+-- What follows the cells of a line.
+
+-- nothing comes, or an ending
+abbrev pub Stops : List Cell → Type 0
+Stops [] = Unit {0}
+Stops (c ∷ cs) = (c.byte == 10) ≡ true
+
+-- an ending is no whitespace
+pub stops-white : (rest : List Cell) → Stops rest → begins_white rest ≡ false
+stops-white [] h = refl
+stops-white (c ∷ cs) h = let ten : c.byte ≡ 10 = eqb-true c.byte 10 h in ap is_white ten
+
 -- The cell of an ending.
 
 -- behind an ending
@@ -396,6 +419,18 @@ pub ending-some : (ending : Ending) → 0 < length (ending_bytes ending)
 ending-some LineFeed = omega arith
 ending-some Return = omega arith
 ending-some Both = omega arith
+
+-- an ending stands between two points
+pub record IsEnding (bytes : List ℕ) (p q : Point) : Type 0 where
+  pub ending : Ending
+  pub text : slice_range bytes p.index q.index ≡ ending_bytes ending
+  pub size : q.index ≡ p.index + length (ending_bytes ending)
+  pub in_text : q.index ≤ length bytes
+  pub before : EndsBefore ending (drop q.index bytes)
+  pub whole : q.vs ≡ 0
+  -- a line begins there
+  pub line : q.line ≡ p.line + 1
+  pub column : q.column ≡ 1
 
 pub is-ending : (bytes : List ℕ) (ending : Ending) (rest : List ℕ) (p : Point) → drop p.index bytes ≡ ending_bytes ending ++ rest → EndsBefore ending rest → IsEnding bytes p (past_ending ending p)
 is-ending bytes ending rest p e h =
