@@ -25,10 +25,9 @@ use Rattle.md_seam.specs.Tree.{Heading}
 use Rattle.md_seam.proofs.BlocksLemmas.{read-leaf, read-told}
 use Rattle.md_seam.proofs.InlineLemmas.{past-index, past-vs}
 use Rattle.md_seam.proofs.SpelledLemmas.{Between, Quiet, QuietOrEnding, Roles, read-from, read-quiet, text-inline, text_after}
-use Rattle.md_seam.proofs.TextsLemmas.{NoEnding, split-line}
+use Rattle.md_seam.proofs.TextsLemmas.{NoEnding, no_ending-drop, split-line}
 use Rattle.markdown_blocks.specs.Rows.{Row, read_text, read_title, row_title}
 use Rattle.markdown_blocks.specs.Sections.{heading_block}
-use Rattle.markdown_blocks.proofs.LineKinds.{no_ending-drop}
 use Rattle.markdown_blocks.proofs.PlainRoles.{plain-roles}
 use Rattle.markdown_blocks.proofs.RowFacts.{IsRow}
 use Rattle.markdown_blocks.proofs.TitleFacts.{text-fits, text-place}
