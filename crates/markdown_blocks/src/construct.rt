@@ -4,4 +4,6 @@ pub mod document;
 pub mod flow;
 
 pub use md_content::{content, paragraph};
-pub use md_leaves::{blank_line, heading_atx, partial_bom, thematic_break};
+pub use md_leaves::{
+    blank_line, heading_atx, partial_bom, partial_non_lazy_continuation, thematic_break,
+};

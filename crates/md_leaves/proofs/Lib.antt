@@ -7,6 +7,8 @@ pub mod HeadingLemmas
 pub mod HeadingSteps
 pub mod HeadingWhole
 pub mod BomSteps
+pub mod NonLazyGoods
+pub mod NonLazySteps
 pub mod HeadingWalkLemmas
 pub mod TitleRuns
 pub mod TitleTexts

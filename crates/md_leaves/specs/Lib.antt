@@ -4,8 +4,10 @@ pub mod Break
 pub mod Heading
 pub mod HeadingText
 pub mod HeadingWalk
+pub mod NonLazy
 pub mod BlankRule
 pub mod BomRule
 pub mod BreakRule
 pub mod HeadingRule
 pub mod HeadingTitle
+pub mod NonLazyRule

@@ -1,0 +1,77 @@
+-- Each state of the check that a further line is not lazy takes one step of its rule.
+use Rattle.std.proofs.Common.{◌≡◌, ◌⊎◌, ℕ, ◌<◌, ◌≤◌, Bool, true, false, nat_lt, List, [], ◌∷◌, ◌++◌, Option, Some, None, refl, sym, ◌∙◌, ap, arith, append_assoc, inl, inr}
+use Rattle.std.proofs.lemmas.Bool.Decides.{nat_tests}
+use Rattle.md_engine.specs.declared.event.Event.{Event}
+use Rattle.md_engine.specs.declared.event.Name.TheVariants.{LineEnding}
+use Rattle.md_engine.specs.declared.state.Name.TheVariants as n
+use Rattle.md_engine.specs.declared.state.State.TheVariants.{Next}
+use Rattle.md_engine.specs.declared.tokenizer.Line.{Line}
+use Rattle.md_engine.specs.Meaning.{Accepts, Behaviour, Cell, Feed, Follows, Here, Refuses, Steps, here, line_of}
+use Rattle.md_engine.specs.World.{World, after}
+use Rattle.md_engine.proofs.StepOf.{Sees, ahead, moves, passes}
+use Rattle.md_leaves.specs.NonLazy.{after_code, start_code}
+use Rattle.md_leaves.specs.NonLazyRule.{HasNonLazy, after_ending, continuation_at, is_lazy}
+use Rattle.md_seam.specs.Nested.{enter, exit, pair}
+use Rattle.md_seam.specs.Spaces.{is_current}
+
+-- The start.
+
+ending-taken : (feed : Feed) (w : World) (none : Line) (h : Here) (o : Option ℕ) → is_current 10 o ≡ true →
+    continuation_at none (ahead feed w o) h ≡ after_ending none (feed (after w.setting w.point)) (record h { events = h.events ++ pair LineEnding h.point (after w.setting w.point); point = after w.setting w.point })
+unfolding continuation_at after_ending
+ending-taken feed w none h None e = cc
+ending-taken feed w none h (Some b) e = go (is_lazy none (feed (after w.setting w.point))) refl
+  where
+    go : (x : Bool) → is_lazy none (feed (after w.setting w.point)) ≡ x →
+        continuation_at none (ahead feed w (Some b)) h ≡ after_ending none (feed (after w.setting w.point)) (record h { events = h.events ++ pair LineEnding h.point (after w.setting w.point); point = after w.setting w.point })
+    go true k = rw (e, k) refl
+    go false k = rw (e, k) refl
+
+ending-none : (feed : Feed) (w : World) (none : Line) (h : Here) (o : Option ℕ) → is_current 10 o ≡ false → continuation_at none (ahead feed w o) h ≡ Refuses h.scratch h.flags
+unfolding continuation_at
+ending-none feed w none h None e = refl
+ending-none feed w none h (Some b) e = rw e refl
+
+pub non_lazy_start_steps : (B : Behaviour) (none : Line) (feed : Feed) (w : World) (x : Bool) → HasNonLazy B none → Sees feed w → is_current 10 w.current ≡ x →
+    Steps B feed (Next n.NonLazyContinuationStart) w (start_code w x).to (start_code w x).world
+non_lazy_start_steps B none feed w true has s e =
+    let q = after w.setting w.point in
+    let joined = append_assoc w.events (enter LineEnding w.point ∷ []) (exit LineEnding q ∷ []) in
+    moves B feed _ _ w (start_code w true).world (pair LineEnding w.point q) refl joined
+    (has.start _ _ ∙ ap (λ (x : List Cell). continuation_at none x (here w)) s.next ∙ ending-taken feed w none (here w) w.current e
+    ∙ ap (λ (es : List Event). after_ending none (feed q) (record (here w) { events = es; point = q })) (sym joined) ∙ sym (has.behind _ _))
+non_lazy_start_steps B none feed w false has s e =
+    passes B feed _ _ w w refl refl (has.start _ _ ∙ ap (λ (x : List Cell). continuation_at none x (here w)) s.next ∙ ending-none feed w none (here w) w.current e)
+
+-- Behind the ending.
+
+-- where a state is called at a point of the line that the parent speaks of, that is the line ahead, also with no cell left
+pub line-said : (feed : Feed) (w : World) (is_end : Bool) (none : Line) → Follows feed w.setting is_end → (is_end ≡ true) ⊎ (w.point.index < w.setting.limit) →
+    w.setting.line.start ≤ w.point.index → (is_end ≡ true → none ≡ w.setting.line) → line_of none (feed w.point) ≡ w.setting.line
+line-said feed w is_end none f may start end = go (nat_lt w.point.index w.setting.limit) refl may
+  where
+    more : w.point.index < w.setting.limit → line_of none (feed w.point) ≡ w.setting.line
+    more lt = rw (f.cell w.point lt) (f.said w.point start lt)
+
+    last : is_end ≡ true → w.setting.limit ≤ w.point.index → line_of none (feed w.point) ≡ w.setting.line
+    last e le = rw (f.none e w.point le) (end e)
+
+    go : (b : Bool) → nat_lt w.point.index w.setting.limit ≡ b → (is_end ≡ true) ⊎ (w.point.index < w.setting.limit) → line_of none (feed w.point) ≡ w.setting.line
+    go true k m = more (grind (arith, nat_tests))
+    go false k (inl e) = last e (grind (arith, nat_tests))
+    go false k (inr lt) = grind (arith, nat_tests)
+
+behind-lazy : (none : Line) (cells : List Cell) (h : Here) → is_lazy none cells ≡ true → after_ending none cells h ≡ Refuses h.scratch h.flags
+unfolding after_ending
+behind-lazy none cells h e = rw e refl
+
+behind-other : (none : Line) (cells : List Cell) (h : Here) → is_lazy none cells ≡ false → after_ending none cells h ≡ Accepts h cells
+unfolding after_ending
+behind-other none cells h e = rw e refl
+
+pub non_lazy_after_steps : (B : Behaviour) (none : Line) (feed : Feed) (w : World) (x : Bool) → HasNonLazy B none → line_of none (feed w.point) ≡ w.setting.line → w.setting.line.lazy ≡ x →
+    Steps B feed (Next n.NonLazyContinuationAfter) w (after_code w x).to (after_code w x).world
+non_lazy_after_steps B none feed w true has said e =
+    passes B feed _ _ w w refl refl (has.behind _ _ ∙ behind-lazy none (feed w.point) (here w) (ap (λ (l : Line). l.lazy) said ∙ e))
+non_lazy_after_steps B none feed w false has said e =
+    passes B feed _ _ w w refl refl (has.behind _ _ ∙ behind-other none (feed w.point) (here w) (ap (λ (l : Line). l.lazy) said ∙ e))

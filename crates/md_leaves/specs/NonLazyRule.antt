@@ -1,0 +1,27 @@
+-- The rule that a further line is not lazy, as what is left of it at each state (CommonMark 5.1).
+use Rattle.std.specs.Prelude.{◌≡◌, Bool, ◌&&◌, ◌==◌, not, if◌then◌else◌, List, [], ◌∷◌, ◌++◌}
+use Rattle.md_engine.specs.declared.event.Name.TheVariants.{LineEnding}
+use Rattle.md_engine.specs.declared.state.Name.TheVariants.{NonLazyContinuationStart, NonLazyContinuationAfter}
+use Rattle.md_engine.specs.declared.tokenizer.Line.{Line}
+use Rattle.md_engine.specs.Meaning.{Accepts, Behaviour, Cell, Here, Outcome, Refuses, line_of}
+use Rattle.md_seam.specs.Nested.{pair}
+
+-- whether the line of these cells is lazy; where no cell is left, it is what the parent says of the end
+abbrev pub is_lazy : Line → List Cell → Bool
+is_lazy none cells = (line_of none cells).lazy
+
+-- behind the ending: the line that begins here is not lazy
+unfoldable pub after_ending : Line → List Cell → Here → Outcome
+after_ending none cells h = if is_lazy none cells then Refuses h.scratch h.flags else Accepts h cells
+
+-- the whole rule: an ending, and behind it a line that is not lazy
+unfoldable pub continuation_at : Line → List Cell → Here → Outcome
+continuation_at none [] h = Refuses h.scratch h.flags
+continuation_at none (c ∷ cs) h =
+    if (c.byte == 10) && not (is_lazy none cs)
+    then Accepts (record h { events = h.events ++ pair LineEnding h.point c.after; point = c.after }) cs
+    else Refuses h.scratch h.flags
+
+pub record HasNonLazy (B : Behaviour) (none : Line) : Type 0 where
+  pub start : (cells : List Cell) (h : Here) → B NonLazyContinuationStart cells h ≡ continuation_at none cells h
+  pub behind : (cells : List Cell) (h : Here) → B NonLazyContinuationAfter cells h ≡ after_ending none cells h

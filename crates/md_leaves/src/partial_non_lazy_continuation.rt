@@ -1,0 +1,58 @@
+// The check that a block may go on with the next line: that the line is not lazy (CommonMark 5.1).
+//
+//     non_lazy_continuation ::= line_ending      ; behind which no lazy line begins
+//
+// A line is lazy where not all containers went on, and none opened. It adds the `LineEnding` between the lines.
+
+ghost use Rattle.std.specs.Prelude.{◌≡◌, ◌≢◌};
+ghost use Rattle.md_engine.specs.World.{world};
+ghost use Rattle.md_engine.specs.declared.state.Name.{Name as StateName};
+ghost use Rattle.md_engine.specs.declared.state.State.{State};
+ghost use Rattle.md_leaves.specs.NonLazy.{after_went, start_went};
+ghost use Rattle.md_seam.specs.Went.{IsAt, NeedsNothing};
+
+use md_engine::event::Name;
+use md_engine::or_error;
+use md_engine::state::{Name as StateName, State};
+use md_engine::tokenizer::Tokenizer;
+
+/// At the end of a line.
+///
+/// ```markdown
+/// > | > ~~~ c
+///            ^
+///   | > d
+/// ```
+pub fn start(tokenizer: &mut Tokenizer) -> State
+    requires { IsAt NeedsNothing StateName.NonLazyContinuationStart (world tokenizer.old) }
+    ensures to { result ≢ State.Error → result ≡ (start_went (world tokenizer.old)).to }
+    ensures world { result ≢ State.Error → world tokenizer.new ≡ (start_went (world tokenizer.old)).world }
+{
+    if tokenizer.current == Some(b'\n') {
+        or_error!(tokenizer.enter(Name::LineEnding));
+        tokenizer.consume();
+        or_error!(tokenizer.exit(Name::LineEnding));
+        State::Next(StateName::NonLazyContinuationAfter)
+    } else {
+        State::Nok
+    }
+}
+
+/// At the beginning of the next line, behind the prefixes of its containers.
+///
+/// ```markdown
+///   | > ~~~ c
+/// > | > d
+///       ^
+/// ```
+pub fn after(tokenizer: &mut Tokenizer) -> State
+    requires { IsAt NeedsNothing StateName.NonLazyContinuationAfter (world tokenizer.old) }
+    ensures to { result ≡ (after_went (world tokenizer.old)).to }
+    ensures world { world tokenizer.new ≡ (after_went (world tokenizer.old)).world }
+{
+    if tokenizer.line.lazy {
+        State::Nok
+    } else {
+        State::Ok
+    }
+}
