@@ -87,7 +87,7 @@ at_indent F f c d bytes h =
     subst (λ (j : ℕ). BothTaken (F (indent (rest_at c bytes)) (behind_indent (rest_at c bytes))) (F j (lose j (rest_at d bytes)))) (indent-any c d bytes h)
     (f (indent (rest_at c bytes)) (behind_indent (rest_at c bytes)) (lose (indent (rest_at c bytes)) (rest_at d bytes)) (lose-alike (indent (rest_at c bytes)) c d bytes h))
 
-abbrev quote_from : ParseOptions → ℕ → Rest → Option Taken
+abbrev pub quote_from : ParseOptions → ℕ → Rest → Option Taken
 quote_from options columns marker = if is_small options columns && begins_with 62 marker.bytes then Some (record { container = InQuote; rest = lose 1 (record { column = marker.column + 1; spaces = 0; bytes = drop 1 marker.bytes }) }) else None
 
 quote_from-alike : (options : ParseOptions) (k : ℕ) (r s : Rest) → Alike r s → BothTaken (quote_from options k r) (quote_from options k s)
@@ -143,7 +143,7 @@ item_by-alike options interrupting k (Some marker) c d bytes h = go (length mark
         (item_padding-any (c + n) (d + n) (drop n bytes) (no_tab-drop n bytes h))
         (when _ _ _ (taken-alike _ _ _ (lose-alike (item_padding (rest_at (c + n) (drop n bytes))) (c + n) (d + n) (drop n bytes) (no_tab-drop n bytes h))))
 
-abbrev item_from : ParseOptions → Bool → ℕ → Rest → Option Taken
+abbrev pub item_from : ParseOptions → Bool → ℕ → Rest → Option Taken
 item_from options interrupting columns from = if options.constructs.list_item && is_small options columns then item_by options interrupting columns from (list_marker from.bytes) else None
 
 item_from-alike : (options : ParseOptions) (interrupting : Bool) (k : ℕ) (r s : Rest) → Alike r s → BothTaken (item_from options interrupting k r) (item_from options interrupting k s)
@@ -160,7 +160,7 @@ footnote_by-alike (Some l) c d bytes h =
     let n : ℕ = length l.label + 4 in
     when (nat_le 1 (length l.label) && nat_le (length l.label) 999 && begins_with 58 l.after) _ _ (taken-alike (InFootnote l.label) _ _ (behind_indent-alike (c + n) (d + n) (drop n bytes) (no_tab-drop n bytes h)))
 
-abbrev footnote_from : ParseOptions → ℕ → Rest → Option Taken
+abbrev pub footnote_from : ParseOptions → ℕ → Rest → Option Taken
 footnote_from options columns from =
     if options.constructs.gfm_footnote_definition && is_small options columns && starts_with nat_eq from.bytes (91 ∷ 94 ∷ [])
     then footnote_by from (footnote_label false (drop 2 from.bytes))
@@ -341,7 +341,7 @@ leaf_line_by-any options s (OpenTable delimiter rows) c d bytes h = leaf_on-any 
 
 -- The step of a line.
 
-abbrev opened_by : ParseOptions → ℕ → Rest → Option Taken → Path
+abbrev pub opened_by : ParseOptions → ℕ → Rest → Option Taken → Path
 opened_by options n r o = elim o as (λ _. Path) [ Some t ↦ Within End t.container (opened options n t.rest) | None ↦ At (fresh_line options End r) ]
 
 opened-any : (options : ParseOptions) (n c d : ℕ) (bytes : List ℕ) → NoTab bytes → opened options n (rest_at c bytes) ≡ opened options n (rest_at d bytes)
@@ -388,7 +388,7 @@ stopped-any : (options : ParseOptions) (before : Blocks) (container : Container)
 unfolding stopped
 stopped-any options before container p c d bytes h = stopped_by-any options before container p _ _ c d bytes h (opens-alike options false c d bytes h)
 
-abbrev step_by : ParseOptions → Blocks → Container → Path → Rest → Option Taken → Path
+abbrev pub step_by : ParseOptions → Blocks → Container → Path → Rest → Option Taken → Path
 step_by options before container p r o = elim o as (λ _. Path) [ Some t ↦ Within before t.container (step options p t.rest) | None ↦ stopped options before container p r ]
 
 -- a line without tabs does the same from any column on
