@@ -4,7 +4,7 @@ use Rattle.std.specs.Prelude.{nat_le, nat_eq}
 use Rattle.std.specs.List.{starts_with}
 use Rattle.std.specs.Option.{option_or, is_some}
 use Rattle.md_engine.specs.declared.configuration.ParseOptions.{ParseOptions}
-use Rattle.md_seam.specs.Containers.{Labelled, Marker, Taken, continues, footnote_by, footnote_continues, footnote_label, is_bullet, item_by, item_continues, item_padding, list_marker, may_interrupt, opens, opens_footnote, opens_item, opens_quote, quote_taken}
+use Rattle.md_seam.specs.Containers.{Labelled, Marker, Taken, continues, footnote_by, footnote_continues, footnote_label, item_by, item_continues, item_padding, list_marker, may_interrupt, opens, opens_footnote, opens_item, opens_quote, quote_taken}
 use Rattle.md_seam.specs.Html.{HtmlKind, html_kind}
 use Rattle.md_seam.specs.Leaves.{Against, Came, Finished, LazyText, NoText, Opened, Text, break_at, code_at, code_goes_on, code_line, fence_at, fence_from, fence_goes_on, goes_on, heading_at, heading_lines, heading_text, html_at, html_by, html_goes_on, is_free, is_rule, is_run, starts, table_at, table_by, table_goes_on, underline_depth, underlined, underlined_by, with_line}
 use Rattle.md_seam.specs.Lines.{begins_with}
@@ -13,7 +13,7 @@ use Rattle.md_seam.specs.Rest.{Rest, behind_indent, indent, is_blank, is_parted,
 use Rattle.md_seam.specs.State.{At, Container, InFootnote, InItem, InQuote, Kept, Leaf, NoLeaf, OpenCode, OpenFence, OpenHtml, OpenParagraph, OpenTable, Opening, Path, Spot, Within, closed, container_block, cut, fence_block, kept, shut, spot, texts, then_block, then_definitions, then_leaf}
 use Rattle.md_seam.specs.Step.{all_continued, all_continued_by, fresh_by, fresh_line, is_concrete, is_open_text, lazy_by, leaf_line_by, on_or_fresh, opened, row_or_text, spot_of, step, stopped, stopped_by, text_by, text_line, underline_or_text, with_lazy}
 use Rattle.md_seam.specs.Table.{delimiter_columns, row_cells}
-use Rattle.md_seam.specs.Tree.{Block, Blocks, Break, End, Heading, Line}
+use Rattle.md_seam.specs.Tree.{Blocks, Break, End, Heading, Line}
 
 -- no byte is a tab
 abbrev pub NoTab : List ℕ → Type 0

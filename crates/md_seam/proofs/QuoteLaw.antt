@@ -15,7 +15,7 @@ use Rattle.md_seam.specs.State.{At, InQuote, Path, Within, closed}
 use Rattle.md_seam.specs.Step.{all_continued, all_continued_by, opened, spot_of, step, steps}
 use Rattle.md_seam.specs.Tree.{Blocks, End, More, Quote}
 use Rattle.md_seam.specs.Wrapped.{prefixed, quoted}
-use Rattle.md_seam.proofs.ColumnLemmas.{footnote_from, item_from, opened_by, quote_from, step-any, step_by}
+use Rattle.md_seam.proofs.ColumnLemmas.{NoTab, footnote_from, item_from, opened_by, quote_from, step-any, step_by}
 use Rattle.md_seam.proofs.QuotedLines.{NoTabs, lines_of-quoted, no_tab-lines, quote_line, some-line}
 
 -- What a container leaves is shorter than its line.
@@ -35,51 +35,51 @@ length-lose zero r = omega arith
 length-lose (suc n) r = omega (arith, length-lose n (without_column r.column r.spaces r.bytes), length-without_column r.column r.spaces r.bytes)
 
 -- what is taken leaves fewer bytes than these
-abbrev Leaves : Option Taken → ℕ → Type 0
-Leaves o n = (t : Taken) → o ≡ Some t → length t.rest.bytes < n
+abbrev LeavesFewer : Option Taken → ℕ → Type 0
+LeavesFewer o n = (t : Taken) → o ≡ Some t → length t.rest.bytes < n
 
-when-leaves : (x : Bool) (o : Option Taken) (n : ℕ) → Leaves o n → Leaves (cond x o None) n
+when-leaves : (x : Bool) (o : Option Taken) (n : ℕ) → LeavesFewer o n → LeavesFewer (cond x o None) n
 when-leaves true o n h = h
 when-leaves false o n h = λ t e. cc
 
-some-leaves : (u : Taken) (n : ℕ) → length u.rest.bytes < n → Leaves (Some u) n
+some-leaves : (u : Taken) (n : ℕ) → length u.rest.bytes < n → LeavesFewer (Some u) n
 some-leaves u n h = λ t e. let same : u ≡ t = cc in omega (arith, h, ap (λ (x : Taken). length x.rest.bytes) same)
 
-first-leaves : (o p : Option Taken) (n : ℕ) → Leaves o n → Leaves p n → Leaves (option_or o p) n
+first-leaves : (o p : Option Taken) (n : ℕ) → LeavesFewer o n → LeavesFewer p n → LeavesFewer (option_or o p) n
 first-leaves None p n h k = k
 first-leaves (Some u) p n h k = h
 
-none-leaves : (n : ℕ) → Leaves None n
+none-leaves : (n : ℕ) → LeavesFewer None n
 none-leaves n = λ t e. cc
 
 -- what is taken behind an indent leaves fewer bytes than the line has
-behind-leaves : (o : Option Taken) (r : Rest) → Leaves o (length (behind_indent r).bytes) → Leaves o (length r.bytes)
+behind-leaves : (o : Option Taken) (r : Rest) → LeavesFewer o (length (behind_indent r).bytes) → LeavesFewer o (length r.bytes)
 behind-leaves o r h = λ t e. omega (arith, h t e, length-lose (indent r) r)
 
-quote-leaves : (options : ParseOptions) (k column spaces : ℕ) (bytes : List ℕ) → Leaves (quote_from options k (record { column = column; spaces = spaces; bytes = bytes })) (length bytes)
+quote-leaves : (options : ParseOptions) (k column spaces : ℕ) (bytes : List ℕ) → LeavesFewer (quote_from options k (record { column = column; spaces = spaces; bytes = bytes })) (length bytes)
 quote-leaves options k column spaces [] = go _
   where
-    go : (x : Bool) → Leaves (cond (x && false) (Some (record { container = InQuote; rest = lose 1 (rest_at (column + 1) []) })) None) 0
+    go : (x : Bool) → LeavesFewer (cond (x && false) (Some (record { container = InQuote; rest = lose 1 (rest_at (column + 1) []) })) None) 0
     go true = none-leaves 0
     go false = none-leaves 0
 quote-leaves options k column spaces (b ∷ bytes) = when-leaves _ _ _ (some-leaves _ _ (omega (arith, length-lose 1 (rest_at (column + 1) bytes))))
 
-item-leaves : (options : ParseOptions) (interrupting : Bool) (k column spaces : ℕ) (bytes : List ℕ) → Leaves (item_from options interrupting k (record { column = column; spaces = spaces; bytes = bytes })) (length bytes)
+item-leaves : (options : ParseOptions) (interrupting : Bool) (k column spaces : ℕ) (bytes : List ℕ) → LeavesFewer (item_from options interrupting k (record { column = column; spaces = spaces; bytes = bytes })) (length bytes)
 item-leaves options interrupting k column spaces [] = when-leaves _ _ _ (none-leaves 0)
 item-leaves options interrupting k column spaces (b ∷ bytes) = when-leaves _ _ _ (go (list_marker (b ∷ bytes)))
   where
-    go : (marker : Option Marker) → Leaves (item_by options interrupting k (record { column = column; spaces = spaces; bytes = b ∷ bytes }) marker) (length (b ∷ bytes))
+    go : (marker : Option Marker) → LeavesFewer (item_by options interrupting k (record { column = column; spaces = spaces; bytes = b ∷ bytes }) marker) (length (b ∷ bytes))
     go None = none-leaves _
     go (Some marker) =
         let n : ℕ = length marker.digits + 1 in
         let after : Rest = behind n (record { column = column; spaces = spaces; bytes = b ∷ bytes }) in
         when-leaves _ _ _ (some-leaves _ _ (omega (arith, length-lose (item_padding after) after, length-drop n (b ∷ bytes))))
 
-footnote-leaves : (options : ParseOptions) (k column spaces : ℕ) (bytes : List ℕ) → Leaves (footnote_from options k (record { column = column; spaces = spaces; bytes = bytes })) (length bytes)
+footnote-leaves : (options : ParseOptions) (k column spaces : ℕ) (bytes : List ℕ) → LeavesFewer (footnote_from options k (record { column = column; spaces = spaces; bytes = bytes })) (length bytes)
 footnote-leaves options k column spaces [] = when-leaves _ _ _ (none-leaves 0)
 footnote-leaves options k column spaces (b ∷ bytes) = when-leaves _ _ _ (go (footnote_label false (drop 2 (b ∷ bytes))))
   where
-    go : (label : Option Labelled) → Leaves (footnote_by (record { column = column; spaces = spaces; bytes = b ∷ bytes }) label) (length (b ∷ bytes))
+    go : (label : Option Labelled) → LeavesFewer (footnote_by (record { column = column; spaces = spaces; bytes = b ∷ bytes }) label) (length (b ∷ bytes))
     go None = none-leaves _
     go (Some l) =
         let n : ℕ = length l.label + 4 in
@@ -87,7 +87,7 @@ footnote-leaves options k column spaces (b ∷ bytes) = when-leaves _ _ _ (go (f
         when-leaves _ _ _ (some-leaves _ _ (omega (arith, length-lose (indent from) from, length-drop n (b ∷ bytes))))
 
 -- each container that opens takes a byte
-opens-leaves : (options : ParseOptions) (interrupting : Bool) (r : Rest) → Leaves (opens options interrupting r) (length r.bytes)
+opens-leaves : (options : ParseOptions) (interrupting : Bool) (r : Rest) → LeavesFewer (opens options interrupting r) (length r.bytes)
 unfolding opens_quote quote_taken opens_item opens_footnote
 opens-leaves options interrupting r =
     let from : Rest = behind_indent r in
@@ -102,17 +102,17 @@ opened-enough : (options : ParseOptions) (n m : ℕ) (r : Rest) → length r.byt
 opened-enough options zero zero r h k = refl
 opened-enough options zero (suc m) r h k = go (opens options false r) (opens-leaves options false r)
   where
-    go : (o : Option Taken) → Leaves o (length r.bytes) → opened options zero r ≡ opened_by options m r o
+    go : (o : Option Taken) → LeavesFewer o (length r.bytes) → opened options zero r ≡ opened_by options m r o
     go None less = refl
     go (Some t) less = absurd (omega (arith, h, less t refl))
 opened-enough options (suc n) zero r h k = go (opens options false r) (opens-leaves options false r)
   where
-    go : (o : Option Taken) → Leaves o (length r.bytes) → opened_by options n r o ≡ opened options zero r
+    go : (o : Option Taken) → LeavesFewer o (length r.bytes) → opened_by options n r o ≡ opened options zero r
     go None less = refl
     go (Some t) less = absurd (omega (arith, k, less t refl))
 opened-enough options (suc n) (suc m) r h k = go (opened-enough options n m) (opens options false r) (opens-leaves options false r)
   where
-    go : ((s : Rest) → length s.bytes ≤ n → length s.bytes ≤ m → opened options n s ≡ opened options m s) → (o : Option Taken) → Leaves o (length r.bytes) → opened_by options n r o ≡ opened_by options m r o
+    go : ((s : Rest) → length s.bytes ≤ n → length s.bytes ≤ m → opened options n s ≡ opened options m s) → (o : Option Taken) → LeavesFewer o (length r.bytes) → opened_by options n r o ≡ opened_by options m r o
     go below None less = refl
     go below (Some t) less = ap (Within End t.container) (below t.rest (omega (arith, h, less t refl)) (omega (arith, k, less t refl)))
 
@@ -121,12 +121,12 @@ opened-step : (options : ParseOptions) (n : ℕ) (r : Rest) → length r.bytes �
 unfolding all_continued
 opened-step options zero r h = go (opens options false r) (opens-leaves options false r)
   where
-    go : (o : Option Taken) → Leaves o (length r.bytes) → opened options zero r ≡ all_continued_by options (spot_of End) r o
+    go : (o : Option Taken) → LeavesFewer o (length r.bytes) → opened options zero r ≡ all_continued_by options (spot_of End) r o
     go None less = refl
     go (Some t) less = absurd (omega (arith, h, less t refl))
 opened-step options (suc n) r h = go (opens options false r) (opens-leaves options false r)
   where
-    go : (o : Option Taken) → Leaves o (length r.bytes) → opened_by options n r o ≡ all_continued_by options (spot_of End) r o
+    go : (o : Option Taken) → LeavesFewer o (length r.bytes) → opened_by options n r o ≡ all_continued_by options (spot_of End) r o
     go None less = refl
     go (Some t) less = ap (Within End t.container) (opened-enough options n (length t.rest.bytes) t.rest (omega (arith, h, less t refl)) (omega arith))
 
@@ -147,23 +147,23 @@ opens-line options line on =
     ∙ ap (λ (o : Option Taken). option_or o (option_or (opens_item options false (rest_at 0 (quote_line line))) (opens_footnote options (rest_at 0 (quote_line line))))) (quote_taken-line options line)
 
 -- the first line opens a quote
-step-first : (options : ParseOptions) (line : List ℕ) → options.constructs.block_quote ≡ true → NoTabs (line ∷ []) →
+step-first : (options : ParseOptions) (line : List ℕ) → options.constructs.block_quote ≡ true → NoTab line →
     step options (At (spot_of End)) (rest_at 0 (quote_line line)) ≡ Within End InQuote (step options (At (spot_of End)) (rest_at 0 line))
 unfolding all_continued
 step-first options line on h =
     ap (all_continued_by options (spot_of End) (rest_at 0 (quote_line line))) (opens-line options line on)
-    ∙ ap (Within End InQuote) (opened-step options (length line) (rest_at 2 line) (omega arith) ∙ step-any options (At (spot_of End)) 2 0 line h.0)
+    ∙ ap (Within End InQuote) (opened-step options (length line) (rest_at 2 line) (omega arith) ∙ step-any options (At (spot_of End)) 2 0 line h)
 
 -- and each other goes on in it
-step-inside : (options : ParseOptions) (p : Path) (line : List ℕ) → NoTabs (line ∷ []) → step options (Within End InQuote p) (rest_at 0 (quote_line line)) ≡ Within End InQuote (step options p (rest_at 0 line))
+step-inside : (options : ParseOptions) (p : Path) (line : List ℕ) → NoTab line → step options (Within End InQuote p) (rest_at 0 (quote_line line)) ≡ Within End InQuote (step options p (rest_at 0 line))
 step-inside options p line h =
-    ap (step_by options End InQuote p (rest_at 0 (quote_line line))) (quote_taken-line options line) ∙ ap (Within End InQuote) (step-any options p 2 0 line h.0)
+    ap (step_by options End InQuote p (rest_at 0 (quote_line line))) (quote_taken-line options line) ∙ ap (Within End InQuote) (step-any options p 2 0 line h)
 
 steps-inside : (options : ParseOptions) (p : Path) (lines : List (List ℕ)) → NoTabs lines →
     steps options (Within End InQuote p) (map (rest_at 0) (map quote_line lines)) ≡ Within End InQuote (steps options p (map (rest_at 0) lines))
 steps-inside options p [] h = refl
 steps-inside options p (line ∷ lines) h =
-    ap (λ (q : Path). steps options q (map (rest_at 0) (map quote_line lines))) (step-inside options p line (h.0, tt))
+    ap (λ (q : Path). steps options q (map (rest_at 0) (map quote_line lines))) (step-inside options p line h.0)
     ∙ steps-inside options (step options p (rest_at 0 line)) lines h.1
 
 -- what is open behind the lines of a text
@@ -173,7 +173,7 @@ after_lines options lines = steps options (At (spot_of End)) (map (rest_at 0) li
 after_lines-quoted : (options : ParseOptions) (line : List ℕ) (lines : List (List ℕ)) → options.constructs.block_quote ≡ true → NoTabs (line ∷ lines) →
     after_lines options (map quote_line (line ∷ lines)) ≡ Within End InQuote (after_lines options (line ∷ lines))
 after_lines-quoted options line lines on h =
-    ap (λ (q : Path). steps options q (map (rest_at 0) (map quote_line lines))) (step-first options line on (h.0, tt))
+    ap (λ (q : Path). steps options q (map (rest_at 0) (map quote_line lines))) (step-first options line on h.0)
     ∙ steps-inside options (step options (At (spot_of End)) (rest_at 0 line)) lines h.1
 
 -- Whole texts.

@@ -62,11 +62,13 @@ splits-inside : (b : ℕ) (bytes : List ℕ) → Splits (full_lines_of bytes) (b
 splits-inside b bytes h e =
     let lines : List (List ℕ) = full_lines_of bytes in
     let behind : List ℕ = behind_prefix lines in
-    let same : ends_line b behind ≡ false = ap (λ (z : Bool). (b == 10) || ((b == 13) && not z)) h.1 ∙ e in
-    (ap full_lines_of (behind_prefix-onto b lines)
-    ∙ ap (λ (t : Bool). cond t ((b ∷ []) ∷ full_lines_of behind) (onto_first b (full_lines_of behind))) same
-    ∙ ap (onto_first b) h.0
-    ∙ sym (others_quoted-onto b lines), ap (begins_with 10) (behind_prefix-onto b lines))
+    let same : ends_line b behind ≡ false = ap (λ (z : Bool). (b == 10) || ((b == 13) && not z)) h.1 ∙ e in (
+      ap full_lines_of (behind_prefix-onto b lines)
+          ∙ ap (λ (t : Bool). cond t ((b ∷ []) ∷ full_lines_of behind) (onto_first b (full_lines_of behind))) same
+          ∙ ap (onto_first b) h.0
+          ∙ sym (others_quoted-onto b lines),
+      ap (begins_with 10) (behind_prefix-onto b lines),
+    )
 
 splits : (text : List ℕ) → Splits (full_lines_of text) (begins_with 10 text)
 splits [] = (refl, refl)
