@@ -83,6 +83,11 @@ piece_to bytes p text = slice_range bytes text.from p.index
 abbrev pub begins_line : Span → List ℕ → Bool
 begins_line text piece = not text.is_parted || not (begins_with 10 piece)
 
+-- whether no text is read that has a prefix in it
+abbrev pub is_unparted : Option Span → Bool
+is_unparted None = true
+is_unparted (Some text) = not text.is_parted
+
 -- whether an event may stand in a text: a prefix stands where a line begins, with nothing but spaces and tabs in front of
 -- it, and nothing but a paragraph is parted
 abbrev pub parts_enter : List ℕ → Role → Point → Span → Bool
@@ -103,9 +108,9 @@ parts_by bytes kind x p None = true
 parts_by bytes Enter x p (Some text) = parts_enter bytes x p text
 parts_by bytes Exit x p (Some text) = parts_exit bytes x p text
 
--- whether so do all events, behind a text of which this was read
+-- whether all events do, from where this text is read, and each text that is parted ends
 abbrev pub are_parted : List ℕ → Option Span → List Event → Bool
-are_parted bytes text [] = true
+are_parted bytes text [] = is_unparted text
 are_parted bytes text (e ∷ es) = parts_by bytes e.kind (role e.name) e.point text && are_parted bytes (span_by e.kind (role e.name) e.point text) es
 
 -- the events of breaks, headings, paragraphs and block quotes, between characters of a text
