@@ -58,9 +58,10 @@ abbrev mutual
   are_shallow End = true
   are_shallow (More block blocks) = is_shallow block && are_shallow blocks
 
--- Container prefixes in a text: they part it into pieces.
+-- Container prefixes in a text: they part it into pieces, which an outline shows one by one. So each line of the text has to
+-- lie in one piece.
 
--- the text that is read behind an event
+-- the text that is read behind an event: where it begins, or goes on behind the last prefix in it, and whether there is one
 abbrev pub span_enter : Role → Point → Option Span → Option Span
 span_enter (Tells purpose) p text = Some (record { from = p.index; is_parted = false })
 span_enter IsPrefix p text = option_map (λ (t : Span). record t { is_parted = true }) text
@@ -88,8 +89,9 @@ abbrev pub is_unparted : Option Span → Bool
 is_unparted None = true
 is_unparted (Some text) = not text.is_parted
 
--- whether an event may stand in a text: a prefix stands where a line begins, with nothing but spaces and tabs in front of
--- it, and nothing but a paragraph is parted
+-- whether an event may stand in a text: a prefix begins where a line does, with nothing but spaces and tabs in front of it,
+-- and ends between characters; no text but that of a paragraph is parted, and from its first prefix to its end nothing else
+-- begins or ends that the tree shows
 abbrev pub parts_enter : List ℕ → Role → Point → Span → Bool
 parts_enter bytes IsPrefix p text = begins_line text (piece_to bytes p text) && is_blank (last_line (split_lines (piece_to bytes p text)))
 parts_enter bytes IsEnding p text = true
@@ -108,18 +110,20 @@ parts_by bytes kind x p None = true
 parts_by bytes Enter x p (Some text) = parts_enter bytes x p text
 parts_by bytes Exit x p (Some text) = parts_exit bytes x p text
 
--- whether all events do, from where this text is read, and each text that is parted ends
+-- whether all these events do, with this text read before them, and each text that is parted ends
 abbrev pub are_parted : List ℕ → Option Span → List Event → Bool
 are_parted bytes text [] = is_unparted text
 are_parted bytes text (e ∷ es) = parts_by bytes e.kind (role e.name) e.point text && are_parted bytes (span_by e.kind (role e.name) e.point text) es
 
 -- the events of breaks, headings, paragraphs and block quotes, between characters of a text
 pub record IsOutlined (events : List Event) (bytes : List ℕ) : Type 0 where
+  -- so each quote that begins ends
   pub balanced : Balanced events
   pub names : list_all has_plain_name events ≡ true
   pub text : IsUtf8 bytes
   pub between : list_all (λ (e : Event). is_between bytes e.point.index) events ≡ true
   pub whole : list_all is_whole events ≡ true
+  -- each container prefix in a text stands where a line begins
   pub parted : are_parted bytes None events ≡ true
   pub depths : are_shallow (spelled events bytes) ≡ true
 
