@@ -4,7 +4,9 @@ ghost use Rattle.markdown_blocks.specs.Parsed.{IsSmall};
 use markdown_blocks::outline::outline;
 use markdown_blocks::parser::parse;
 use md_engine::configuration::{Constructs, ParseOptions};
+use md_engine::event::{Event, Kind, Name, Point};
 use md_engine::message::Message;
+use md_engine::parse_state::ParseState;
 use md_seam::outline::Word;
 use std::alloc::{AllocError, Global};
 use std::process::Abort;
@@ -30,7 +32,7 @@ const NONE: Constructs = Constructs {
     mdx_jsx_text: false,
 };
 
-// Prints an outline: a heading as its markers, a paragraph as `p`, a break as `b`, and each line of text between bars.
+// Prints an outline: a heading as its markers, a quote as `q`, a paragraph as `p`, a break as `b`, and each line of text between bars.
 fn printed(alloc: Global, text: &str, is_on: bool) -> Result<String, Message>
     requires { IsSmall text.now }
 {
@@ -60,6 +62,7 @@ fn add(all: &mut String, word: Word, text: &str) -> Result<(), AllocError> {
             }
             Ok(())
         }
+        Word::Quote => all.push_str("q"),
         Word::Paragraph => all.push_str("p"),
         Word::Break => all.push_str("b"),
         _ => {
@@ -144,4 +147,99 @@ fn reads_large_texts(rt: HostRuntime) -> Result<(), AllocError> {
         }
     }
     Ok(())
+}
+
+// Two quotes, one in the other, and a break behind them. The prefix of the second line has a column of its tab.
+const QUOTES: &str = "> a\n >\tb\n> > c\r> > d\n***";
+
+// The events of the quotes: what begins or ends, its name, the byte, and how many columns of a tab are cut.
+const QUOTED: [(Kind, Name, usize, usize); 34] = [
+    (Kind::Enter, Name::BlockQuote, 0, 0),
+    (Kind::Enter, Name::BlockQuotePrefix, 0, 0),
+    (Kind::Exit, Name::BlockQuotePrefix, 2, 0),
+    (Kind::Enter, Name::Paragraph, 2, 0),
+    (Kind::Enter, Name::LineEnding, 3, 0),
+    (Kind::Exit, Name::LineEnding, 4, 0),
+    (Kind::Enter, Name::SpaceOrTab, 4, 0),
+    (Kind::Exit, Name::SpaceOrTab, 5, 0),
+    (Kind::Enter, Name::BlockQuotePrefix, 5, 0),
+    (Kind::Exit, Name::BlockQuotePrefix, 6, 1),
+    (Kind::Enter, Name::Data, 7, 0),
+    (Kind::Exit, Name::Data, 8, 0),
+    (Kind::Exit, Name::Paragraph, 8, 0),
+    (Kind::Enter, Name::LineEnding, 8, 0),
+    (Kind::Exit, Name::LineEnding, 9, 0),
+    (Kind::Enter, Name::BlockQuotePrefix, 9, 0),
+    (Kind::Exit, Name::BlockQuotePrefix, 11, 0),
+    (Kind::Enter, Name::BlockQuote, 11, 0),
+    (Kind::Enter, Name::BlockQuotePrefix, 11, 0),
+    (Kind::Exit, Name::BlockQuotePrefix, 13, 0),
+    (Kind::Enter, Name::Paragraph, 13, 0),
+    (Kind::Enter, Name::LineEnding, 14, 0),
+    (Kind::Exit, Name::LineEnding, 15, 0),
+    (Kind::Enter, Name::BlockQuotePrefix, 15, 0),
+    (Kind::Exit, Name::BlockQuotePrefix, 17, 0),
+    (Kind::Enter, Name::BlockQuotePrefix, 17, 0),
+    (Kind::Exit, Name::BlockQuotePrefix, 19, 0),
+    (Kind::Exit, Name::Paragraph, 20, 0),
+    (Kind::Exit, Name::BlockQuote, 20, 0),
+    (Kind::Exit, Name::BlockQuote, 20, 0),
+    (Kind::Enter, Name::LineEnding, 20, 0),
+    (Kind::Exit, Name::LineEnding, 21, 0),
+    (Kind::Enter, Name::ThematicBreak, 21, 0),
+    (Kind::Exit, Name::ThematicBreak, 24, 0),
+];
+
+// Prints the outline of the quotes, each line behind as many spaces as it is deep.
+fn quoted(alloc: Global) -> Result<String, Message> {
+    let mut events = Vec::new(alloc);
+    for (kind, name, index, vs) in QUOTED {
+        let point = Point {
+            line: 1,
+            column: 1,
+            index,
+            vs,
+        };
+        let event = Event {
+            kind,
+            name,
+            point,
+            link: None,
+        };
+        if events.push(event).is_err() {
+            return Err(Message);
+        }
+    }
+    let options = ParseOptions { constructs: NONE };
+    let state = ParseState {
+        options: &options,
+        bytes: QUOTES.as_bytes(),
+        definitions: Vec::new(alloc),
+        gfm_footnote_definitions: Vec::new(alloc),
+    };
+    let lines = outline(alloc, &events, &state)?;
+    let mut all = String::new(alloc);
+    for line in lines.iter() {
+        for _ in 0..line.depth {
+            if all.push_str(" ").is_err() {
+                return Err(Message);
+            }
+        }
+        if add(&mut all, line.word, line.text).is_err() {
+            return Err(Message);
+        }
+    }
+    Ok(all)
+}
+
+#[test]
+fn reads_quotes(rt: HostRuntime) {
+    let outline = match quoted(rt.alloc()) {
+        Ok(outline) => Ok(outline),
+        Err(Message) => quoted(rt.alloc()),
+    };
+    match outline {
+        Ok(outline) => assert_eq!(rt; outline.as_str(), "q p  |a|  |b| q  p   |c|   |d|b"),
+        Err(Message) => panic!(rt; "no memory for the quotes"),
+    }
 }

@@ -1,5 +1,6 @@
 -- The byte order mark in front of a text: its bytes, where the lines begin behind it, and what its events add.
 use Rattle.std.proofs.Common.{◌≡◌, ℕ, ◌-◌, ◌/◌, ◌^◌, ◌≤◌, Bool, true, false, cond, nat_lt, ◌||◌, ◌&&◌, ◌==◌, List, [], ◌∷◌, ◌++◌, length, drop, slice_index, refl, ap, ◌∙◌, sym, subst, arith}
+use Rattle.std.specs.Prelude.{None}
 use Rattle.std.specs.List.{list_all}
 use Rattle.std.proofs.lemmas.Bool.{and_from}
 use Rattle.std.proofs.lemmas.Bool.Decides.{Decides-eqb}
@@ -15,7 +16,7 @@ use Rattle.md_seam.proofs.PlacesLemmas.{all-append}
 use Rattle.md_seam.proofs.SpelledLemmas.{read-from, read-quiet}
 use Rattle.markdown_blocks.specs.Between.{is_between}
 use Rattle.markdown_blocks.specs.Document.{body_point, mark_end, mark_events}
-use Rattle.markdown_blocks.specs.Outlined.{IsOutlined, are_shallow, has_plain_name, is_whole}
+use Rattle.markdown_blocks.specs.Outlined.{IsOutlined, are_parted, are_shallow, has_plain_name, is_whole}
 use Rattle.markdown_blocks.proofs.Settings.{placed-first}
 
 -- The text.
@@ -100,15 +101,19 @@ body-between bytes = go (has_mark bytes) refl
 
 -- The events of the mark, in front of others.
 
-pub mark-nested : (bytes : List ℕ) (events : List Event) → Balanced events → Forward (body_point bytes) events → Nested (mark_events bytes ++ events)
-mark-nested bytes events balanced forward = go (has_mark bytes) forward
+mark-balanced : (bytes : List ℕ) (events : List Event) → Balanced events → Balanced (mark_events bytes ++ events)
+mark-balanced bytes events balanced = go (has_mark bytes)
   where
-    go : (x : Bool) → Forward (cond x mark_end first_point) events → Nested (cond x (pair ByteOrderMark first_point mark_end) [] ++ events)
-    go true f = record {
-      balanced = balanced-append (pair ByteOrderMark first_point mark_end) events (record { matches = (tt, (refl, tt)); closed = refl }) balanced;
-      forward = (refl, (refl, f));
-    }
-    go false f = record { balanced = balanced; forward = f }
+    go : (x : Bool) → Balanced (cond x (pair ByteOrderMark first_point mark_end) [] ++ events)
+    go true = balanced-append (pair ByteOrderMark first_point mark_end) events (record { matches = (tt, (refl, tt)); closed = refl }) balanced
+    go false = balanced
+
+pub mark-nested : (bytes : List ℕ) (events : List Event) → Balanced events → Forward (body_point bytes) events → Nested (mark_events bytes ++ events)
+mark-nested bytes events balanced forward = record { balanced = mark-balanced bytes events balanced; forward = go (has_mark bytes) forward }
+  where
+    go : (x : Bool) → Forward (cond x mark_end first_point) events → Forward first_point (cond x (pair ByteOrderMark first_point mark_end) [] ++ events)
+    go true f = (refl, (refl, f))
+    go false f = f
 
 -- the tree does not show them
 pub mark-spelled : (bytes : List ℕ) (events : List Event) → spelled (mark_events bytes ++ events) bytes ≡ spelled events bytes
@@ -142,11 +147,21 @@ mark-whole bytes = go (has_mark bytes)
     go true = refl
     go false = refl
 
+-- they part no text
+mark-parted : (bytes : List ℕ) (events : List Event) → are_parted bytes None events ≡ true → are_parted bytes None (mark_events bytes ++ events) ≡ true
+mark-parted bytes events h = go (has_mark bytes)
+  where
+    go : (x : Bool) → are_parted bytes None (cond x (pair ByteOrderMark first_point mark_end) [] ++ events) ≡ true
+    go true = h
+    go false = h
+
 pub mark-outlined : (bytes : List ℕ) (events : List Event) → IsOutlined events bytes → IsOutlined (mark_events bytes ++ events) bytes
 mark-outlined bytes events is = record {
+  balanced = mark-balanced bytes events is.balanced;
   names = all-append has_plain_name (mark_events bytes) events (mark-names bytes) is.names;
   text = is.text;
   between = all-append (λ (e : Event). is_between bytes e.point.index) (mark_events bytes) events (mark-between bytes) is.between;
   whole = all-append is_whole (mark_events bytes) events (mark-whole bytes) is.whole;
+  parted = mark-parted bytes events is.parted;
   depths = ap are_shallow (mark-spelled bytes events) ∙ is.depths;
 }

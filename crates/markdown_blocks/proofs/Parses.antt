@@ -151,7 +151,7 @@ text-reads options bytes built utf8 small events is =
     let spells : spelled body bytes ≡ sections options [] lines = spelled-rows options bytes p lines rows are in
     subst (λ (l : List Event). Reads options bytes (mark_events bytes ++ titled_groups bytes (groups rows)) (mark_events bytes ++ l)) (sym is) (record {
       nested = mark-nested bytes body nests.balanced nests.forward;
-      outlined = mark-outlined bytes body (groups-outlined options bytes p lines rows are utf8 (rows-between options bytes p lines rows (body-between bytes) are) (ap are_shallow spells ∙ sections-shallow options [] lines));
+      outlined = mark-outlined bytes body (groups-outlined options bytes p lines rows are utf8 nests.balanced (rows-between options bytes p lines rows (body-between bytes) are) (ap are_shallow spells ∙ sections-shallow options [] lines));
       tree = mark-spelled bytes body ∙ spells ∙ ap (λ (l : List ℕ). sections options [] (split_lines l)) (sym (without-mark bytes)) ∙ sym (tree-sections options bytes built);
       tiles = tiles-are options bytes built small;
     })

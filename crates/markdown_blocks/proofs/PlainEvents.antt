@@ -1,12 +1,14 @@
 -- The events of a text where only headings and breaks are on are those that an outline can be made of.
-use Rattle.std.proofs.Common.{◌≡◌, ◌≢◌, ℕ, ◌+◌, Bool, true, false, cond, ◌||◌, ◌==◌, not, List, [], ◌∷◌, ◌++◌, length, take, drop, refl, ◌∙◌, ap}
+use Rattle.std.proofs.Common.{◌≡◌, ◌≢◌, ℕ, ◌+◌, Bool, true, false, cond, ◌||◌, ◌==◌, not, List, [], ◌∷◌, ◌++◌, length, take, drop, refl, sym, ◌∙◌, ap}
 use Rattle.std.specs.Prelude.{Option, Some, None}
 use Rattle.std.specs.List.{list_all}
 use Rattle.std.specs.Str.{IsUtf8}
-use Rattle.std.proofs.lemmas.Bool.{and_from}
+use Rattle.std.proofs.lemmas.Bool.{and_from, and_parts, true≢false}
 use Rattle.std.proofs.lemmas.List.Folds.{list_all-append}
 use Rattle.md_engine.specs.declared.configuration.ParseOptions.{ParseOptions}
 use Rattle.md_engine.specs.declared.event.Event.{Event}
+use Rattle.md_engine.specs.declared.event.Kind.{Kind}
+use Rattle.md_engine.specs.declared.event.Kind.TheVariants.{Enter, Exit}
 use Rattle.md_engine.specs.declared.event.Name.TheVariants as n
 use Rattle.md_engine.specs.declared.event.Point.{Point}
 use Rattle.md_leaves.specs.HeadingRule.{Apart, Hashes, Run, Text as TextRun, White, begun, closes, goes_on, opens}
@@ -14,20 +16,36 @@ use Rattle.md_leaves.specs.HeadingTitle.{Title, chunk_unless_empty, front_len, l
 use Rattle.md_seam.specs.declared.inline.Chunk.{Chunk}
 use Rattle.md_seam.specs.declared.inline.PartKind.TheVariants.{Text}
 use Rattle.md_seam.specs.Inline.{line_end, plain_chunk, plain_chunks, plain_events, together}
-use Rattle.md_seam.specs.Nested.{around, enter, exit, pair}
+use Rattle.md_seam.specs.Lines.{begins_with}
+use Rattle.md_seam.specs.Nested.{Balanced, around, enter, exit, pair}
 use Rattle.md_seam.specs.Places.{past_byte, same_place}
-use Rattle.md_seam.specs.Spelled.{IsQuiet, Role, role, spelled}
+use Rattle.md_seam.specs.Spelled.{AsHeading, AsMarkers, AsParagraph, IsEnding, IsQuiet, OfBreak, OfHeadingAtx, Opens, Role, Tells, role, spelled}
 use Rattle.md_seam.proofs.SpelledLemmas.{Quiet, Roles}
 use Rattle.markdown_blocks.specs.Between.{is_between}
-use Rattle.markdown_blocks.specs.Outlined.{IsOutlined, are_shallow, has_plain_name, is_plain, is_told, is_whole}
+use Rattle.markdown_blocks.specs.declared.outline.Span.{Span}
+use Rattle.markdown_blocks.specs.Outlined.{IsOutlined, are_parted, are_shallow, has_plain_name, is_plain, is_told, is_unparted, is_whole, parts_by, piece_to, span_by}
 use Rattle.markdown_blocks.specs.Rows.{BlankRow, BreakRow, Group, HeadingRow, Lines, Row, RowKind, Single, TextRow, chunks_of, ending_events, group_events, groups, groups_events, last_row, onto_groups, read_text, read_title, row_line, row_title, single_events_by}
 use Rattle.md_seam.proofs.FeedLines.{past_text-whole}
 use Rattle.markdown_blocks.proofs.RowFacts.{AreRows, IsInside}
 use Rattle.markdown_blocks.proofs.TitleNests.{blank-no_heading, break-no_heading, text_begin, text_end}
 
--- what an outline asks of the names and the columns of events
+-- the roles of breaks, headings and paragraphs, and of what the tree does not show
+abbrev is_leaf : Role → Bool
+is_leaf (Opens OfBreak) = true
+is_leaf (Opens OfHeadingAtx) = true
+is_leaf (Tells AsParagraph) = true
+is_leaf (Tells AsHeading) = true
+is_leaf (Tells AsMarkers) = true
+is_leaf IsEnding = true
+is_leaf IsQuiet = true
+is_leaf _ = false
+
+abbrev pub has_leaf_name : Event → Bool
+has_leaf_name e = is_leaf (role e.name)
+
+-- what is known of the names and the columns of events without containers
 pub record ArePlain (events : List Event) : Type 0 where
-  pub names : list_all has_plain_name events ≡ true
+  pub names : list_all has_leaf_name events ≡ true
   pub whole : list_all is_whole events ≡ true
 
 pub plain-nil : ArePlain []
@@ -35,17 +53,17 @@ plain-nil = record { names = refl; whole = refl }
 
 pub plain-append : (xs ys : List Event) → ArePlain xs → ArePlain ys → ArePlain (xs ++ ys)
 plain-append xs ys h k = record {
-  names = list_all-append has_plain_name xs ys ∙ and_from (list_all has_plain_name xs) (list_all has_plain_name ys) h.names k.names;
+  names = list_all-append has_leaf_name xs ys ∙ and_from (list_all has_leaf_name xs) (list_all has_leaf_name ys) h.names k.names;
   whole = list_all-append is_whole xs ys ∙ and_from (list_all is_whole xs) (list_all is_whole ys) h.whole k.whole;
 }
 
-pub plain-cons : (e : Event) (es : List Event) → has_plain_name e ≡ true → is_whole e ≡ true → ArePlain es → ArePlain (e ∷ es)
+pub plain-cons : (e : Event) (es : List Event) → has_leaf_name e ≡ true → is_whole e ≡ true → ArePlain es → ArePlain (e ∷ es)
 plain-cons e es h w k = record {
-  names = and_from (has_plain_name e) (list_all has_plain_name es) h k.names;
+  names = and_from (has_leaf_name e) (list_all has_leaf_name es) h k.names;
   whole = and_from (is_whole e) (list_all is_whole es) w k.whole;
 }
 
-quiet-plain : (x : Role) → Quiet x → is_plain x ≡ true
+quiet-plain : (x : Role) → Quiet x → is_leaf x ≡ true
 quiet-plain IsQuiet h = refl
 quiet-plain _ h = absurd h
 
@@ -229,10 +247,69 @@ plain-rows options bytes p (line ∷ next ∷ lines) [] h = absurd h
 plain-rows options bytes p (line ∷ []) (row ∷ below ∷ rows) h = absurd h
 plain-rows options bytes p (line ∷ next ∷ lines) (row ∷ []) h = absurd h
 
--- the events of a text are outlined, if they stand between its characters, and no heading is too deep
+-- Where there is no container, no text is parted.
+
+leaf-plain : (x : Role) → is_leaf x ≡ true → is_plain x ≡ true
+leaf-plain (Opens OfBreak) h = refl
+leaf-plain (Opens OfHeadingAtx) h = refl
+leaf-plain (Tells AsParagraph) h = refl
+leaf-plain (Tells AsHeading) h = refl
+leaf-plain (Tells AsMarkers) h = refl
+leaf-plain IsEnding h = refl
+leaf-plain IsQuiet h = refl
+leaf-plain _ h = absurd (true≢false (sym h))
+
+leaves-plain : (events : List Event) → list_all has_leaf_name events ≡ true → list_all has_plain_name events ≡ true
+leaves-plain [] h = refl
+leaves-plain (e ∷ events) h =
+    let parts = and_parts (has_leaf_name e) (list_all has_leaf_name events) h in
+    and_from (has_plain_name e) (list_all has_plain_name events) (leaf-plain (role e.name) parts.0) (leaves-plain events parts.1)
+
+leaf-parts : (bytes : List ℕ) (kind : Kind) (x : Role) (p : Point) (text : Option Span) → is_leaf x ≡ true → is_unparted text ≡ true → parts_by bytes kind x p text ≡ true
+leaf-parts bytes kind x p None h k = refl
+leaf-parts bytes Enter (Opens kind) p (Some text) h k = k
+leaf-parts bytes Enter (Tells purpose) p (Some text) h k = k
+leaf-parts bytes Enter IsEnding p (Some text) h k = refl
+leaf-parts bytes Enter IsQuiet p (Some text) h k = refl
+leaf-parts bytes Exit (Opens kind) p (Some text) h k = k
+leaf-parts bytes Exit (Tells AsParagraph) p (Some text) h k = ap (λ x. x || not (begins_with 10 (piece_to bytes p text))) k
+leaf-parts bytes Exit (Tells AsHeading) p (Some text) h k = k
+leaf-parts bytes Exit (Tells AsMarkers) p (Some text) h k = k
+leaf-parts bytes Exit IsEnding p (Some text) h k = refl
+leaf-parts bytes Exit IsQuiet p (Some text) h k = refl
+leaf-parts bytes kind _ p (Some text) h k = absurd (true≢false (sym h))
+
+leaf-span : (kind : Kind) (x : Role) (p : Point) (text : Option Span) → is_leaf x ≡ true → is_unparted text ≡ true → is_unparted (span_by kind x p text) ≡ true
+leaf-span Enter (Opens kind) p text h k = k
+leaf-span Enter (Tells purpose) p text h k = refl
+leaf-span Enter IsEnding p text h k = k
+leaf-span Enter IsQuiet p text h k = k
+leaf-span Exit (Opens kind) p text h k = k
+leaf-span Exit (Tells purpose) p text h k = refl
+leaf-span Exit IsEnding p text h k = k
+leaf-span Exit IsQuiet p text h k = k
+leaf-span kind _ p text h k = absurd (true≢false (sym h))
+
+leaves-parted : (bytes : List ℕ) (text : Option Span) (events : List Event) → list_all has_leaf_name events ≡ true → is_unparted text ≡ true → are_parted bytes text events ≡ true
+leaves-parted bytes text [] h k = k
+leaves-parted bytes text (e ∷ events) h k =
+    let parts = and_parts (has_leaf_name e) (list_all has_leaf_name events) h in
+    and_from (parts_by bytes e.kind (role e.name) e.point text) (are_parted bytes (span_by e.kind (role e.name) e.point text) events)
+    (leaf-parts bytes e.kind (role e.name) e.point text parts.0 k)
+    (leaves-parted bytes (span_by e.kind (role e.name) e.point text) events parts.1 (leaf-span e.kind (role e.name) e.point text parts.0 k))
+
+-- the events of a text are outlined, if they nest and stand between its characters, and no heading is too deep
 pub groups-outlined : (options : ParseOptions) (bytes : List ℕ) (p : Point) (lines : List (List ℕ)) (rows : List Row) → AreRows options bytes p lines rows → IsUtf8 bytes →
-    list_all (λ (e : Event). is_between bytes e.point.index) (groups_events bytes (groups rows)) ≡ true → are_shallow (spelled (groups_events bytes (groups rows)) bytes) ≡ true →
+    Balanced (groups_events bytes (groups rows)) → list_all (λ (e : Event). is_between bytes e.point.index) (groups_events bytes (groups rows)) ≡ true → are_shallow (spelled (groups_events bytes (groups rows)) bytes) ≡ true →
     IsOutlined (groups_events bytes (groups rows)) bytes
-groups-outlined options bytes p lines rows are utf8 between depths =
+groups-outlined options bytes p lines rows are utf8 balanced between depths =
     let plain : ArePlain (groups_events bytes (groups rows)) = plain-all bytes (groups rows) (plain-groups rows (plain-rows options bytes p lines rows are)) in
-    record { names = plain.names; text = utf8; between = between; whole = plain.whole; depths = depths }
+    record {
+      balanced = balanced;
+      names = leaves-plain (groups_events bytes (groups rows)) plain.names;
+      text = utf8;
+      between = between;
+      whole = plain.whole;
+      parted = leaves-parted bytes None (groups_events bytes (groups rows)) plain.names refl;
+      depths = depths;
+    }

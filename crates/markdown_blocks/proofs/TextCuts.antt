@@ -1,5 +1,5 @@
 -- Parts of UTF-8 texts: a text that is cut beside bytes of ASCII or behind its mark, and its lines.
-use Rattle.std.proofs.Common.{◌≡◌, ℕ, suc, ◌+◌, ◌-◌, ◌<◌, ◌≤◌, Bool, true, false, cond, ◌&&◌, ◌||◌, ◌==◌, not, List, [], ◌∷◌, ◌++◌, length, take, drop, get_or, slice_range, inl, inr, ◌⊎◌, Result, Ok, Err, refl, sym, ◌∙◌, ap, subst, append_assoc, arith}
+use Rattle.std.proofs.Common.{◌≡◌, ℕ, suc, ◌+◌, ◌-◌, ◌<◌, ◌≤◌, Bool, true, false, cond, ◌&&◌, ◌||◌, ◌==◌, not, List, [], ◌∷◌, ◌++◌, length, take, drop, get_or, slice_range, inl, inr, ◌⊎◌, Result, Ok, Err, refl, sym, ◌∙◌, ap, subst, append_assoc, append-nil, arith}
 use Rattle.std.specs.Prelude.{nat_lt, MatchResult}
 use Rattle.std.specs.Result.{result_unwrap_or}
 use Rattle.std.specs.Borrow.{Bor}
@@ -12,15 +12,18 @@ use Rattle.std.proofs.lemmas.List.{drop_all, length-drop, take_all}
 use Rattle.std.proofs.lemmas.List.Sums.{prefix_len_stops}
 use Rattle.std.proofs.lemmas.Str.{IsCharBoundary-after_ascii, IsCharBoundary-before_ascii, IsCharBoundary-end, IsCharBoundary-past_char, IsCharBoundary-start, IsUtf8-between, IsUtf8-drop, IsUtf8-nil, IsUtf8-take}
 use Rattle.md_seam.specs.declared.outline.Word.TheVariants as word
-use Rattle.md_seam.specs.Lines.{begins_with, is_ending}
+use Rattle.md_seam.specs.Lines.{begins_with, ends_line, is_ending}
 use Rattle.md_seam.specs.Preamble.{has_mark}
 use Rattle.md_seam.specs.Outline.{Entry, entries, entry_with}
-use Rattle.md_seam.specs.Rest.{is_white, trim_start}
+use Rattle.md_seam.specs.Places.{last_line}
+use Rattle.md_seam.specs.Rest.{is_blank, is_white, trim_start}
+use Rattle.md_seam.specs.Spelled.{without_last}
 use Rattle.md_seam.specs.Texts.{split_lines, trim_each}
+use Rattle.md_seam.proofs.PlacesLemmas.{Some_line, some-split}
 use Rattle.md_seam.proofs.PlainSteps.{range-none}
 use Rattle.md_seam.proofs.TextsLemmas.{split-byte}
 use Rattle.markdown_blocks.specs.Between.{is_between}
-use Rattle.markdown_blocks.specs.Sketched.{after_ending, line_len, text_entries}
+use Rattle.markdown_blocks.specs.Sketched.{after_ending, full_entries, line_len, text_entries}
 use Rattle.markdown_blocks.proofs.MarkLemmas.{mark-bytes}
 
 -- behind a byte of ASCII
@@ -193,29 +196,133 @@ shown-line left line text k ek eline u shows =
     let same : line ≡ take (line_len left) left = eline ∙ ap (λ n. take n left) ek in
     shows (subst IsUtf8 (sym same) (utf8-line left u)) ∙ ap trim_start same
 
-pub lines-next : (done next : List Entry) (left line ending left' text : List ℕ) (k : ℕ) →
+entries-append : (depth : ℕ) (xs ys : List (List ℕ)) → entries depth word.Line (trim_each (xs ++ ys)) ≡ entries depth word.Line (trim_each xs) ++ entries depth word.Line (trim_each ys)
+entries-append depth [] ys = refl
+entries-append depth (x ∷ xs) ys = ap (λ es. entry_with depth word.Line (trim_start x) ∷ es) (entries-append depth xs ys)
+
+shown-parted : (depth : ℕ) (lines : List (List ℕ)) (line : List ℕ) → entries depth word.Line (trim_each (lines ++ line ∷ [])) ≡ entries depth word.Line (trim_each lines) ++ entry_with depth word.Line (trim_start line) ∷ []
+shown-parted depth lines line = entries-append depth lines (line ∷ [])
+
+last-line : (line : List ℕ) (lines : List (List ℕ)) → Some_line lines → last_line (line ∷ lines) ≡ last_line lines
+last-line line [] h = absurd h
+last-line line (next ∷ lines) h = refl
+
+full-line : (line : List ℕ) (lines : List (List ℕ)) → Some_line lines → without_last (line ∷ lines) ≡ line ∷ without_last lines
+full-line line [] h = absurd h
+full-line line (next ∷ lines) h = refl
+
+-- some lines are those before the last, and the last
+pub lines-parted : (lines : List (List ℕ)) → Some_line lines → lines ≡ without_last lines ++ last_line lines ∷ []
+lines-parted [] h = absurd h
+lines-parted (line ∷ []) h = refl
+lines-parted (line ∷ next ∷ lines) h = ap (λ ls. line ∷ ls) (lines-parted (next ∷ lines) tt)
+
+-- a line that has an ending was shown: what is left of the text is what stands behind the ending
+pub lines-next : (depth : ℕ) (done next : List Entry) (left line ending left' text : List ℕ) (k : ℕ) →
     k ≡ line_len left → line ≡ take k left → ending ≡ drop k left → (length ending == 0) ≡ false → left' ≡ after_ending ending →
-    IsUtf8 left → (IsUtf8 line → text ≡ trim_start line) → next ≡ done ++ entry_with 1 word.Line text ∷ [] →
-    IsUtf8 left' × (next ++ text_entries left' ≡ done ++ text_entries left)
-lines-next done next left line ending left' text k ek eline eending some eleft u shows enext =
+    IsUtf8 left → (IsUtf8 line → text ≡ trim_start line) → next ≡ done ++ entry_with depth word.Line text ∷ [] →
+    IsUtf8 left' × ((next ++ full_entries depth left' ≡ done ++ full_entries depth left) × (last_line (split_lines left') ≡ last_line (split_lines left)))
+lines-next depth done next left line ending left' text k ek eline eending some eleft u shows enext =
     let behind : ending ≡ drop (line_len left) left = eending ∙ ap (λ n. drop n left) ek in
     let split : Splits left (line_len left) ending = subst (Splits left (line_len left)) (sym behind) (splits left) in
     let first : text ≡ trim_start (take (line_len left) left) = shown-line left line text k ek eline u shows in
-    let all : split_lines left ≡ take (line_len left) left ∷ split_lines left' = split-next left (line_len left) ending split some ∙ ap (λ l. take (line_len left) left ∷ split_lines l) (sym eleft) in (
+    let all : split_lines left ≡ take (line_len left) left ∷ split_lines left' = split-next left (line_len left) ending split some ∙ ap (λ l. take (line_len left) left ∷ split_lines l) (sym eleft) in
+    let full : without_last (split_lines left) ≡ take (line_len left) left ∷ without_last (split_lines left') = ap without_last all ∙ full-line (take (line_len left) left) (split_lines left') (some-split left') in (
       subst IsUtf8 (sym eleft) (utf8-after left (line_len left) ending split (subst IsUtf8 (sym behind) (utf8-ending left u))),
-      ap (λ es. es ++ text_entries left') enext
-          ∙ append_assoc done (entry_with 1 word.Line text ∷ []) (text_entries left')
-          ∙ ap (λ t. done ++ entry_with 1 word.Line t ∷ text_entries left') first
-          ∙ sym (ap (λ ls. done ++ entries 1 word.Line (trim_each ls)) all),
+      (
+        ap (λ es. es ++ full_entries depth left') enext
+            ∙ append_assoc done (entry_with depth word.Line text ∷ []) (full_entries depth left')
+            ∙ ap (λ t. done ++ entry_with depth word.Line t ∷ full_entries depth left') first
+            ∙ sym (ap (λ ls. done ++ entries depth word.Line (trim_each ls)) full),
+        sym (ap last_line all ∙ last-line (take (line_len left) left) (split_lines left') (some-split left')),
+      ),
     )
 
-pub lines-last : (done next : List Entry) (left line ending text : List ℕ) (k : ℕ) →
-    k ≡ line_len left → line ≡ take k left → ending ≡ drop k left → (length ending == 0) ≡ true →
-    IsUtf8 left → (IsUtf8 line → text ≡ trim_start line) → next ≡ done ++ entry_with 1 word.Line text ∷ [] →
-    next ≡ done ++ text_entries left
-lines-last done next left line ending text k ek eline eending none u shows enext =
+-- no line that has an ending is left: the rest of the text is its last line
+pub lines-end : (depth : ℕ) (done : List Entry) (left ending : List ℕ) (k : ℕ) → k ≡ line_len left → ending ≡ drop k left → (length ending == 0) ≡ true → (done ≡ done ++ full_entries depth left) × (left ≡ last_line (split_lines left))
+lines-end depth done left ending k ek eending none =
     let behind : ending ≡ drop (line_len left) left = eending ∙ ap (λ n. drop n left) ek in
     let split : Splits left (line_len left) ending = subst (Splits left (line_len left)) (sym behind) (splits left) in
+    let one : split_lines left ≡ take (line_len left) left ∷ [] = split-last left (line_len left) ending split none in
+    let nothing : drop (line_len left) left ≡ [] = sym behind ∙ length-none ending none in
+    let whole : take (line_len left) left ≡ left = take-whole (line_len left) left nothing in (
+      sym (append-nil done) ∙ sym (ap (λ ls. done ++ entries depth word.Line (trim_each (without_last ls))) one),
+      sym (ap last_line one ∙ whole),
+    )
+  where
+    length-none : (xs : List ℕ) → (length xs == 0) ≡ true → xs ≡ []
+    length-none [] h = refl
+    length-none (x ∷ xs) h = let some : ⊥ = omega (arith, eqb-true (length (x ∷ xs)) 0 h) in absurd some
+
+    take-whole : (n : ℕ) (xs : List ℕ) → drop n xs ≡ [] → take n xs ≡ xs
+    take-whole n xs h = take_all n xs (let l = length-drop n xs in let z : length (drop n xs) ≡ 0 = ap length h in omega (arith, l, z))
+
+-- the last line is shown behind those that have an ending
+pub lines-all : (depth : ℕ) (before done next : List Entry) (text rest shown : List ℕ) → rest ≡ last_line (split_lines text) → done ≡ before ++ full_entries depth text → shown ≡ trim_start rest → next ≡ done ++ entry_with depth word.Line shown ∷ [] → next ≡ before ++ text_entries depth text
+lines-all depth before done next text rest shown erest edone eshown enext =
+    let lines : List (List ℕ) = split_lines text in
     enext
-    ∙ ap (λ t. done ++ entry_with 1 word.Line t ∷ []) (shown-line left line text k ek eline u shows)
-    ∙ sym (ap (λ ls. done ++ entries 1 word.Line (trim_each ls)) (split-last left (line_len left) ending split none))
+    ∙ ap (λ es. es ++ entry_with depth word.Line shown ∷ []) edone
+    ∙ append_assoc before (full_entries depth text) (entry_with depth word.Line shown ∷ [])
+    ∙ ap (λ t. before ++ (full_entries depth text ++ entry_with depth word.Line t ∷ [])) (eshown ∙ ap trim_start erest)
+    ∙ ap (λ es. before ++ es) (sym (shown-parted depth (without_last lines) (last_line lines)) ∙ sym (ap (λ ls. entries depth word.Line (trim_each ls)) (lines-parted lines (some-split text))))
+
+-- Pieces.
+
+-- lines behind some bytes of the same line
+abbrev onto_line : List ℕ → List (List ℕ) → List (List ℕ)
+onto_line front [] = front ∷ []
+onto_line front (line ∷ lines) = (front ++ line) ∷ lines
+
+onto-byte : (b : ℕ) (lines further : List (List ℕ)) → Some_line lines → onto_first b (without_last lines ++ onto_line (last_line lines) further) ≡ without_last (onto_first b lines) ++ onto_line (last_line (onto_first b lines)) further
+onto-byte b [] further h = absurd h
+onto-byte b (line ∷ []) [] h = refl
+onto-byte b (line ∷ []) (l ∷ further) h = refl
+onto-byte b (line ∷ next ∷ lines) further h = refl
+
+ends-before : (b : ℕ) (bs rest : List ℕ) → begins_with 10 rest ≡ false → ends_line b (bs ++ rest) ≡ ends_line b bs
+ends-before b [] rest h = ap (λ x. (b == 10) || ((b == 13) && not x)) h
+ends-before b (c ∷ bs) rest h = refl
+
+onto-none : (lines : List (List ℕ)) → Some_line lines → onto_line [] lines ≡ lines
+onto-none [] h = absurd h
+onto-none (line ∷ lines) h = refl
+
+-- a text is split where a piece ends: its last line goes on in what follows
+pub split-piece : (piece rest : List ℕ) → begins_with 10 rest ≡ false → split_lines (piece ++ rest) ≡ without_last (split_lines piece) ++ onto_line (last_line (split_lines piece)) (split_lines rest)
+split-piece [] rest h = sym (onto-none (split_lines rest) (some-split rest))
+split-piece (b ∷ bs) rest h =
+    ap (λ x. cond x ([] ∷ split_lines (bs ++ rest)) (cond (is_ending b) (split_lines (bs ++ rest)) (onto_first b (split_lines (bs ++ rest))))) (ends-before b bs rest h)
+    ∙ go (ends_line b bs) (is_ending b) (split_lines bs) (split_lines (bs ++ rest)) (some-split bs) (split-piece bs rest h)
+  where
+    go : (x y : Bool) (lines all : List (List ℕ)) → Some_line lines → all ≡ without_last lines ++ onto_line (last_line lines) (split_lines rest) →
+        cond x ([] ∷ all) (cond y all (onto_first b all))
+        ≡ without_last (cond x ([] ∷ lines) (cond y lines (onto_first b lines))) ++ onto_line (last_line (cond x ([] ∷ lines) (cond y lines (onto_first b lines)))) (split_lines rest)
+    go true y lines all some e =
+        ap (λ ls. [] ∷ ls) e
+        ∙ sym (ap (λ ls. ls ++ onto_line (last_line lines) (split_lines rest)) (full-line [] lines some))
+        ∙ sym (ap (λ l. without_last ([] ∷ lines) ++ onto_line l (split_lines rest)) (last-line [] lines some))
+    go false true lines all some e = e
+    go false false lines all some e = ap (onto_first b) e ∙ onto-byte b lines (split_lines rest) some
+
+trim-blank : (front line : List ℕ) → is_blank front ≡ true → trim_start (front ++ line) ≡ trim_start line
+trim-blank [] line h = refl
+trim-blank (b ∷ front) line h =
+    let parts = and_parts (is_white b) (is_blank front) h in
+    let one : 1 + prefix_len is_white (front ++ line) ≡ suc (prefix_len is_white (front ++ line)) = omega arith in
+    ap (λ x. drop (cond x (1 + prefix_len is_white (front ++ line)) 0) (b ∷ front ++ line)) parts.0
+    ∙ ap (λ n. drop n (b ∷ front ++ line)) one
+    ∙ trim-blank front line parts.1
+
+trim-onto : (front : List ℕ) (lines : List (List ℕ)) → Some_line lines → is_blank front ≡ true → trim_each (onto_line front lines) ≡ trim_each lines
+trim-onto front [] some h = absurd some
+trim-onto front (line ∷ lines) some h = ap (λ l. l ∷ trim_each lines) (trim-blank front line h)
+
+-- a piece that ends where a line begins is shown by its lines that have an ending, and what follows it by its own lines
+pub piece-entries : (depth : ℕ) (piece rest : List ℕ) → begins_with 10 rest ≡ false → is_blank (last_line (split_lines piece)) ≡ true → text_entries depth (piece ++ rest) ≡ full_entries depth piece ++ text_entries depth rest
+piece-entries depth piece rest h blank =
+    let full : List (List ℕ) = without_last (split_lines piece) in
+    let further : List (List ℕ) = onto_line (last_line (split_lines piece)) (split_lines rest) in
+    ap (λ ls. entries depth word.Line (trim_each ls)) (split-piece piece rest h)
+    ∙ entries-append depth full further
+    ∙ ap (λ ls. full_entries depth piece ++ entries depth word.Line ls) (trim-onto (last_line (split_lines piece)) (split_lines rest) (some-split rest) blank)

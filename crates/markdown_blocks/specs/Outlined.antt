@@ -1,16 +1,27 @@
--- What an outline shows: the blocks that the events of paragraphs, headings and breaks spell out.
-use Rattle.std.specs.Prelude.{◌≡◌, ℕ, Bool, true, false, ◌||◌, ◌&&◌, ◌==◌, nat_le, not, List}
+-- What an outline shows: the blocks that the events of paragraphs, headings, breaks and block quotes spell out.
+use Rattle.std.specs.Prelude.{◌≡◌, ℕ, Bool, true, false, ◌||◌, ◌&&◌, ◌==◌, nat_le, not, List, [], ◌∷◌, slice_range, Option, Some, None, option_map}
 use Rattle.std.specs.List.{list_all}
 use Rattle.std.specs.Str.{IsUtf8}
 use Rattle.md_engine.specs.declared.event.Event.{Event}
+use Rattle.md_engine.specs.declared.event.Kind.{Kind}
+use Rattle.md_engine.specs.declared.event.Kind.TheVariants.{Enter, Exit}
+use Rattle.md_engine.specs.declared.event.Point.{Point}
 use Rattle.md_seam.specs.declared.outline.OutlineLine.{OutlineLine}
+use Rattle.md_seam.specs.Lines.{begins_with}
+use Rattle.md_seam.specs.Nested.{Balanced}
 use Rattle.md_seam.specs.Outline.{entries_of, outline}
-use Rattle.md_seam.specs.Spelled.{AsHeading, AsMarkers, AsParagraph, IsEnding, IsQuiet, OfBreak, OfHeadingAtx, Opens, Role, Tells, role, spelled}
-use Rattle.md_seam.specs.Tree.{Block, Blocks, End, Heading, More}
+use Rattle.md_seam.specs.Places.{last_line}
+use Rattle.md_seam.specs.Rest.{is_blank}
+use Rattle.md_seam.specs.Spelled.{AsHeading, AsMarkers, AsParagraph, Holds, IsEnding, IsPrefix, IsQuiet, OfBreak, OfHeadingAtx, Opens, QuoteShape, Role, Tells, byte_at, role, spelled}
+use Rattle.md_seam.specs.Texts.{split_lines}
+use Rattle.md_seam.specs.Tree.{Block, Blocks, End, Footnote, Heading, Item, ListOf, More, Quote}
 use Rattle.markdown_blocks.specs.Between.{is_between}
+use Rattle.markdown_blocks.specs.declared.outline.Span.{Span}
 
--- the roles of breaks, headings and paragraphs, and of what the tree does not show
+-- the roles of breaks, headings, paragraphs and block quotes, and of what the tree does not show
 abbrev pub is_plain : Role → Bool
+is_plain (Holds QuoteShape) = true
+is_plain IsPrefix = true
 is_plain (Opens OfBreak) = true
 is_plain (Opens OfHeadingAtx) = true
 is_plain (Tells AsParagraph) = true
@@ -34,20 +45,86 @@ abbrev pub is_whole : Event → Bool
 is_whole e = not (is_told (role e.name)) || (e.point.vs == 0)
 
 -- whether no heading is deeper than 6 (CommonMark 4.2)
-abbrev pub is_shallow : Block → Bool
-is_shallow (Heading depth lines) = nat_le depth 6
-is_shallow _ = true
+abbrev mutual
+  pub is_shallow : Block → Bool
+  is_shallow (Heading depth lines) = nat_le depth 6
+  is_shallow (Quote blocks) = are_shallow blocks
+  is_shallow (ListOf marker items) = are_shallow items
+  is_shallow (Item marker digits blocks) = are_shallow blocks
+  is_shallow (Footnote label blocks) = are_shallow blocks
+  is_shallow _ = true
 
-abbrev pub are_shallow : Blocks → Bool
-are_shallow End = true
-are_shallow (More block blocks) = is_shallow block && are_shallow blocks
+  pub are_shallow : Blocks → Bool
+  are_shallow End = true
+  are_shallow (More block blocks) = is_shallow block && are_shallow blocks
 
--- the events of breaks, headings and paragraphs, between characters of a text
+-- Container prefixes in a text: they part it into pieces, which an outline shows one by one. So each line of the text has to
+-- lie in one piece.
+
+-- the text that is read behind an event: where it begins, or goes on behind the last prefix in it, and whether there is one
+abbrev pub span_enter : Role → Point → Option Span → Option Span
+span_enter (Tells purpose) p text = Some (record { from = p.index; is_parted = false })
+span_enter IsPrefix p text = option_map (λ (t : Span). record t { is_parted = true }) text
+span_enter _ p text = text
+
+abbrev pub span_exit : Role → Point → Option Span → Option Span
+span_exit (Tells purpose) p text = None
+span_exit IsPrefix p text = option_map (λ (t : Span). record t { from = byte_at p }) text
+span_exit _ p text = text
+
+abbrev pub span_by : Kind → Role → Point → Option Span → Option Span
+span_by Enter x p text = span_enter x p text
+span_by Exit x p text = span_exit x p text
+
+-- the piece of a text that ends at a point
+abbrev pub piece_to : List ℕ → Point → Span → List ℕ
+piece_to bytes p text = slice_range bytes text.from p.index
+
+-- whether a piece is the first, or begins with no line feed: one behind a carriage return would end the same line
+abbrev pub begins_line : Span → List ℕ → Bool
+begins_line text piece = not text.is_parted || not (begins_with 10 piece)
+
+-- whether no text is read that has a prefix in it
+abbrev pub is_unparted : Option Span → Bool
+is_unparted None = true
+is_unparted (Some text) = not text.is_parted
+
+-- whether an event may stand in a text: a prefix begins where a line does, with nothing but spaces and tabs in front of it,
+-- and ends between characters; no text but that of a paragraph is parted, and from its first prefix to its end nothing else
+-- begins or ends that the tree shows
+abbrev pub parts_enter : List ℕ → Role → Point → Span → Bool
+parts_enter bytes IsPrefix p text = begins_line text (piece_to bytes p text) && is_blank (last_line (split_lines (piece_to bytes p text)))
+parts_enter bytes IsEnding p text = true
+parts_enter bytes IsQuiet p text = true
+parts_enter bytes _ p text = not text.is_parted
+
+abbrev pub parts_exit : List ℕ → Role → Point → Span → Bool
+parts_exit bytes IsPrefix p text = is_between bytes (byte_at p)
+parts_exit bytes (Tells AsParagraph) p text = begins_line text (piece_to bytes p text)
+parts_exit bytes IsEnding p text = true
+parts_exit bytes IsQuiet p text = true
+parts_exit bytes _ p text = not text.is_parted
+
+abbrev pub parts_by : List ℕ → Kind → Role → Point → Option Span → Bool
+parts_by bytes kind x p None = true
+parts_by bytes Enter x p (Some text) = parts_enter bytes x p text
+parts_by bytes Exit x p (Some text) = parts_exit bytes x p text
+
+-- whether all these events do, with this text read before them, and each text that is parted ends
+abbrev pub are_parted : List ℕ → Option Span → List Event → Bool
+are_parted bytes text [] = is_unparted text
+are_parted bytes text (e ∷ es) = parts_by bytes e.kind (role e.name) e.point text && are_parted bytes (span_by e.kind (role e.name) e.point text) es
+
+-- the events of breaks, headings, paragraphs and block quotes, between characters of a text
 pub record IsOutlined (events : List Event) (bytes : List ℕ) : Type 0 where
+  -- so each quote that begins ends
+  pub balanced : Balanced events
   pub names : list_all has_plain_name events ≡ true
   pub text : IsUtf8 bytes
   pub between : list_all (λ (e : Event). is_between bytes e.point.index) events ≡ true
   pub whole : list_all is_whole events ≡ true
+  -- each container prefix in a text stands where a line begins
+  pub parted : are_parted bytes None events ≡ true
   pub depths : are_shallow (spelled events bytes) ≡ true
 
 -- the lines are those of the tree that the events spell out

@@ -1,15 +1,16 @@
 -- What an outline has read between two events.
-use Rattle.std.specs.Prelude.{◌≡◌, ℕ, ◌++◌, true, ◌&&◌, ◌==◌, nat_lt, not, if◌then◌else◌, List, [], ◌∷◌, length, drop, slice_range, Option, Some, None, option_map}
+use Rattle.std.specs.Prelude.{◌≡◌, ℕ, ◌+◌, ◌-◌, ◌++◌, Bool, true, false, ◌&&◌, ◌==◌, nat_lt, not, if◌then◌else◌, List, [], ◌∷◌, length, drop, slice_range, Option, Some, None, option_map}
 use Rattle.std.specs.Borrow.{Bor}
 use Rattle.std.specs.List.{prefix_len}
 use Rattle.std.specs.Str.{IsUtf8}
 use Rattle.md_engine.specs.declared.event.Event.{Event}
 use Rattle.md_engine.specs.declared.event.Kind.{Kind}
 use Rattle.md_engine.specs.declared.event.Kind.TheVariants.{Enter, Exit}
+use Rattle.md_engine.specs.declared.event.Point.{Point}
 use Rattle.md_seam.specs.declared.outline.Word.TheVariants as word
 use Rattle.md_seam.specs.Lines.{begins_with, is_ending}
 use Rattle.md_seam.specs.Outline.{Entry, block_entries, entries, entries_of, entry}
-use Rattle.md_seam.specs.Spelled.{AsHeading, AsMarkers, AsParagraph, OfBreak, OfHeadingAtx, Opens, Tells}
+use Rattle.md_seam.specs.Spelled.{AsHeading, AsMarkers, AsParagraph, Holds, IsPrefix, OfBreak, OfHeadingAtx, Opens, QuoteShape, Tells, without_last}
 use Rattle.md_seam.specs.Spelled as spelled
 use Rattle.md_seam.specs.Texts.{split_lines, trim_each}
 use Rattle.md_seam.specs.Tree.{Break}
@@ -21,6 +22,7 @@ use Rattle.markdown_blocks.specs.declared.outline.Purpose.TheVariants as purpose
 use Rattle.markdown_blocks.specs.declared.outline.Reading.{Reading}
 use Rattle.markdown_blocks.specs.declared.outline.Role.{Role}
 use Rattle.markdown_blocks.specs.declared.outline.Role.TheVariants as role
+use Rattle.markdown_blocks.specs.declared.outline.Span.{Span}
 
 -- Lines of a text.
 
@@ -33,29 +35,35 @@ abbrev pub after_ending : List ℕ → List ℕ
 after_ending [] = []
 after_ending (b ∷ bytes) = if (b == 13) && begins_with 10 bytes then drop 1 bytes else bytes
 
--- the lines of a paragraph's text
-abbrev pub text_entries : List ℕ → List Entry
-text_entries text = entries 1 word.Line (trim_each (split_lines text))
+-- the lines of a text, which stand at this depth
+abbrev pub text_entries : ℕ → List ℕ → List Entry
+text_entries depth text = entries depth word.Line (trim_each (split_lines text))
 
--- the lines of a paragraph
-abbrev pub paragraph_entries : List ℕ → List Entry
-paragraph_entries text = entry 0 word.Paragraph ∷ text_entries text
+-- those of them that have an ending
+abbrev pub full_entries : ℕ → List ℕ → List Entry
+full_entries depth text = entries depth word.Line (trim_each (without_last (split_lines text)))
+
+-- the begin of a paragraph, if it is not shown yet
+abbrev pub begin_entries : ℕ → Bool → List Entry
+begin_entries depth is_shown = if is_shown then [] else entry depth word.Paragraph ∷ []
 
 -- the lines of a heading's text, if there is one
-abbrev pub title_entries : Option (List ℕ) → List Entry
-title_entries None = []
-title_entries (Some text) = text_entries text
+abbrev pub title_entries : ℕ → Option (List ℕ) → List Entry
+title_entries depth None = []
+title_entries depth (Some text) = text_entries depth text
 
 -- a depth as a byte has it
 abbrev pub byte_depth : ℕ → ℕ
 byte_depth markers = if nat_lt markers 256 then markers else 255
 
 -- the lines of a heading
-abbrev pub heading_entries : ℕ → Option (List ℕ) → List Entry
-heading_entries markers text = entry 0 (word.Heading (byte_depth markers)) ∷ title_entries text
+abbrev pub heading_entries : ℕ → ℕ → Option (List ℕ) → List Entry
+heading_entries depth markers text = entry depth (word.Heading (byte_depth markers)) ∷ title_entries (depth + 1) text
 
 -- What the events of a name mean to an outline.
 abbrev pub shown_as : spelled.Role → Role
+shown_as (Holds QuoteShape) = role.Quote
+shown_as IsPrefix = role.Prefix
 shown_as (Opens OfBreak) = role.Break
 shown_as (Opens OfHeadingAtx) = role.Heading
 shown_as (Tells AsParagraph) = role.Text purpose.Paragraph
@@ -86,26 +94,27 @@ abbrev pub titled : List ℕ → LeafSketch → LeafSketch
 titled text BreakSketch = BreakSketch
 titled text (HeadingSketch markers before) = HeadingSketch markers (Some text)
 
-abbrev pub leaf_entries : LeafSketch → List Entry
-leaf_entries BreakSketch = block_entries 0 Break
-leaf_entries (HeadingSketch markers text) = heading_entries markers text
+abbrev pub leaf_entries : ℕ → LeafSketch → List Entry
+leaf_entries depth BreakSketch = block_entries depth Break
+leaf_entries depth (HeadingSketch markers text) = heading_entries depth markers text
 
--- What was read between two events: the leaf that is open, where the text begins that is read, and the lines so far.
+-- What was read between two events: how many quotes are open, the leaf that is, the text that is read, and the lines so far.
 pub record Sketch : Type 0 where
+  pub depth : ℕ
   pub leaf : Option LeafSketch
-  pub text : Option ℕ
+  pub text : Option Span
   pub lines : List Entry
 
 abbrev pub sketch_of : Reading → Sketch
-sketch_of r = record { leaf = option_map leaf_sketch r.leaf; text = r.text; lines = entries_of r.lines.items }
+sketch_of r = record { depth = r.depth; leaf = option_map leaf_sketch r.leaf; text = r.text; lines = entries_of r.lines.items }
 
 -- before the first event
 abbrev pub unsketched : Sketch
-unsketched = record { leaf = None; text = None; lines = [] }
+unsketched = record { depth = 0; leaf = None; text = None; lines = [] }
 
 abbrev pub leaf_ended : Option LeafSketch → Sketch → Sketch
 leaf_ended None s = s
-leaf_ended (Some leaf) s = record { leaf = None; text = s.text; lines = s.lines ++ leaf_entries leaf }
+leaf_ended (Some leaf) s = record s { leaf = None; lines = s.lines ++ leaf_entries s.depth leaf }
 
 abbrev pub told_markers : ℕ → Sketch → Sketch
 told_markers count s = record s { leaf = option_map (marked count) s.leaf }
@@ -113,40 +122,52 @@ told_markers count s = record s { leaf = option_map (marked count) s.leaf }
 abbrev pub told_title : List ℕ → Sketch → Sketch
 told_title text s = record s { leaf = option_map (titled text) s.leaf }
 
--- a text has ended
-abbrev pub told : Purpose → List ℕ → Sketch → Sketch
-told purpose.Paragraph text s = record s { lines = s.lines ++ paragraph_entries text }
-told purpose.Markers text s = told_markers (length text) s
-told purpose.Title text s = told_title text s
+-- a text has ended, with this piece
+abbrev pub told : Purpose → Bool → List ℕ → Sketch → Sketch
+told purpose.Paragraph is_shown text s = record s { lines = s.lines ++ begin_entries s.depth is_shown ++ text_entries (s.depth + 1) text }
+told purpose.Markers is_shown text s = told_markers (length text) s
+told purpose.Title is_shown text s = told_title text s
 
-abbrev pub told_at : List ℕ → Purpose → ℕ → Option ℕ → Sketch → Sketch
+abbrev pub told_at : List ℕ → Purpose → ℕ → Option Span → Sketch → Sketch
 told_at bytes purpose end None s = s
-told_at bytes purpose end (Some first) s = told purpose (slice_range bytes first end) (record s { text = None })
+told_at bytes purpose end (Some text) s = told purpose text.is_parted (slice_range bytes text.from end) (record s { text = None })
 
-abbrev pub sketch_enter : Role → ℕ → Sketch → Sketch
-sketch_enter role.Break i s = record s { leaf = Some BreakSketch }
-sketch_enter role.Heading i s = record s { leaf = Some (HeadingSketch 0 None) }
-sketch_enter (role.Text purpose) i s = record s { text = Some i }
-sketch_enter role.Quiet i s = s
+-- a prefix begins
+abbrev pub parted_at : List ℕ → ℕ → Option Span → Sketch → Sketch
+parted_at bytes end None s = s
+parted_at bytes end (Some text) s = record s {
+  text = Some (record text { is_parted = true });
+  lines = s.lines ++ begin_entries s.depth text.is_parted ++ full_entries (s.depth + 1) (slice_range bytes text.from end);
+}
 
-abbrev pub sketch_exit : List ℕ → Role → ℕ → Sketch → Sketch
-sketch_exit bytes role.Break i s = leaf_ended s.leaf s
-sketch_exit bytes role.Heading i s = leaf_ended s.leaf s
-sketch_exit bytes (role.Text purpose) i s = told_at bytes purpose i s.text s
-sketch_exit bytes role.Quiet i s = s
+abbrev pub sketch_enter : List ℕ → Role → ℕ → Sketch → Sketch
+sketch_enter bytes role.Quote i s = record s { depth = s.depth + 1; lines = s.lines ++ entry s.depth word.Quote ∷ [] }
+sketch_enter bytes role.Prefix i s = parted_at bytes i s.text s
+sketch_enter bytes role.Break i s = record s { leaf = Some BreakSketch }
+sketch_enter bytes role.Heading i s = record s { leaf = Some (HeadingSketch 0 None) }
+sketch_enter bytes (role.Text purpose) i s = record s { text = Some (record { from = i; is_parted = false }) }
+sketch_enter bytes role.Quiet i s = s
 
-abbrev pub sketch_by : List ℕ → Kind → Role → ℕ → Sketch → Sketch
-sketch_by bytes Enter x i s = sketch_enter x i s
-sketch_by bytes Exit x i s = sketch_exit bytes x i s
+abbrev pub sketch_exit : List ℕ → Role → Point → Sketch → Sketch
+sketch_exit bytes role.Quote p s = record s { depth = s.depth - 1 }
+sketch_exit bytes role.Prefix p s = record s { text = option_map (λ (t : Span). record t { from = spelled.byte_at p }) s.text }
+sketch_exit bytes role.Break p s = leaf_ended s.leaf s
+sketch_exit bytes role.Heading p s = leaf_ended s.leaf s
+sketch_exit bytes (role.Text purpose) p s = told_at bytes purpose p.index s.text s
+sketch_exit bytes role.Quiet p s = s
+
+abbrev pub sketch_by : List ℕ → Kind → Role → Point → Sketch → Sketch
+sketch_by bytes Enter x p s = sketch_enter bytes x p.index s
+sketch_by bytes Exit x p s = sketch_exit bytes x p s
 
 abbrev pub sketched : List ℕ → Sketch → List Event → Sketch
 sketched bytes s [] = s
-sketched bytes s (e ∷ es) = sketched bytes (sketch_by bytes e.kind (shown_as (spelled.role e.name)) e.point.index s) es
+sketched bytes s (e ∷ es) = sketched bytes (sketch_by bytes e.kind (shown_as (spelled.role e.name)) e.point s) es
 
--- the text that is read begins between characters
-abbrev pub BeginsBetween : List ℕ → Option ℕ → Type 0
+-- the text that is read begins, or goes on, between characters
+abbrev pub BeginsBetween : List ℕ → Option Span → Type 0
 BeginsBetween bytes None = Unit {0}
-BeginsBetween bytes (Some first) = is_between bytes first ≡ true
+BeginsBetween bytes (Some text) = is_between bytes text.from ≡ true
 
 -- the text of a heading, if there is one, is UTF-8
 abbrev pub IsText : Option (List ℕ) → Type 0

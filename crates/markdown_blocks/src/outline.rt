@@ -1,16 +1,19 @@
 // The outline of a text: its blocks and their lines, from the first to the last.
 
-ghost use Rattle.std.specs.Prelude.{◌≡◌, ◌≤◌, true, ◌-◌, ◌∷◌, [], ◌++◌, length, slice_range, IfOk, OnOk};
+ghost use Rattle.std.specs.Prelude.{◌≡◌, ◌≤◌, true, ◌+◌, ◌-◌, ◌∷◌, [], ◌++◌, length, slice_range, Option, option_map, IfOk, OnOk};
 ghost use Rattle.std.specs.List.{prefix_len};
 ghost use Rattle.std.specs.Str.{IsUtf8};
 ghost use Rattle.md_seam.specs.Outline.{entries_of, entry_with};
+ghost use Rattle.md_seam.specs.Places.{last_line};
 ghost use Rattle.md_seam.specs.Rest.{is_white, trim_start};
 ghost use Rattle.md_seam.specs.Spelled as spelled;
+ghost use Rattle.md_seam.specs.Texts.{split_lines};
 ghost use Rattle.markdown_blocks.specs.Between.{is_between};
 ghost use Rattle.markdown_blocks.specs.Outlined.{Outlines};
-ghost use Rattle.markdown_blocks.specs.Sketched.{BeginsBetween, IsCut, IsText, LeafIsText, after_ending, bytes_of, heading_entries, leaf_ended, line_len, paragraph_entries, shown_as, sketch_by, sketch_enter, sketch_exit, sketch_of, text_entries, told_at, told_markers, told_title};
+ghost use Rattle.markdown_blocks.specs.declared.outline.Span.{Span};
+ghost use Rattle.markdown_blocks.specs.Sketched.{BeginsBetween, IsCut, IsText, LeafIsText, after_ending, begin_entries, bytes_of, full_entries, heading_entries, leaf_ended, line_len, parted_at, shown_as, sketch_by, sketch_enter, sketch_exit, sketch_of, text_entries, told_at, told_markers, told_title};
 
-use md_engine::event::{Event, Kind, Name};
+use md_engine::event::{Event, Kind, Name, Point};
 use md_engine::message::Message;
 use md_engine::parse_state::ParseState;
 pub use md_seam::outline::{OutlineLine, Word};
@@ -30,6 +33,9 @@ enum Purpose {
 /// What the events of a name mean to an outline.
 #[derive(Clone, Copy)]
 enum Role {
+    Quote,
+    /// The prefix of a container, which belongs to no text.
+    Prefix,
     Break,
     Heading,
     Text(Purpose),
@@ -47,13 +53,23 @@ enum Leaf<'a> {
     },
 }
 
+/// A text that is read.
+#[derive(Clone, Copy)]
+struct Span {
+    /// Where it begins, or goes on behind the last container prefix in it.
+    from: usize,
+    /// Whether there is a prefix in it: what stands in front of that is shown.
+    is_parted: bool,
+}
+
 /// What was read of the events so far.
 #[derive(Drop)]
 struct Reading<'a> {
     bytes: &'a [u8],
+    /// How many quotes are open.
+    depth: usize,
     leaf: Option<Leaf<'a>>,
-    /// Where the text begins that is read, if one is.
-    text: Option<usize>,
+    text: Option<Span>,
     lines: Vec<OutlineLine<'a>>,
 }
 
@@ -62,6 +78,8 @@ fn role_of(name: Name) -> Role
     ensures { result ≡ shown_as (spelled.role name) }
 {
     match name {
+        Name::BlockQuote => Role::Quote,
+        Name::BlockQuotePrefix => Role::Prefix,
         Name::ThematicBreak => Role::Break,
         Name::HeadingAtx => Role::Heading,
         Name::Paragraph => Role::Text(Purpose::Paragraph),
@@ -72,6 +90,24 @@ fn role_of(name: Name) -> Role
         | Name::MathFlowFenceSequence => Role::Text(Purpose::Markers),
         Name::HeadingAtxText | Name::HeadingSetextText => Role::Text(Purpose::Title),
         _ => Role::Quiet,
+    }
+}
+
+/// One more. A number that is no `usize` is one of which no memory holds so many.
+fn next(number: usize) -> Result<usize, Message>
+    ensures { IfOk result (λ n. n ≡ number + 1) }
+{
+    number.checked_add(1).ok_or(Message)
+}
+
+/// The first byte behind a point: a tab that is cut belongs to what stands in front.
+fn byte_at(point: Point) -> Result<usize, Message>
+    ensures { IfOk result (λ n. n ≡ spelled.byte_at point) }
+{
+    if point.vs == 0 {
+        Ok(point.index)
+    } else {
+        next(point.index)
     }
 }
 
@@ -152,41 +188,93 @@ fn push<'a>(
     }
 }
 
-/// Adds the lines of a text.
-fn push_lines<'a>(lines: &mut Vec<OutlineLine<'a>>, text: &'a [u8]) -> Result<(), Message>
-    ensures { OnOk result (IsUtf8 text.now → entries_of lines.new.items ≡ entries_of lines.old.items ++ text_entries text.now) }
+/// Adds the lines of a text that have an ending, and answers what stands behind the last ending.
+fn push_full_lines<'a>(
+    lines: &mut Vec<OutlineLine<'a>>,
+    depth: usize,
+    text: &'a [u8],
+) -> Result<&'a [u8], Message>
+    ensures rest { IfOk result (λ rest. IsUtf8 text.now → IsUtf8 rest.now × (rest.now ≡ last_line (split_lines text.now))) }
+    ensures lines { OnOk result (IsUtf8 text.now → entries_of lines.new.items ≡ entries_of lines.old.items ++ full_entries depth text.now) }
 {
     let mut left = text;
     'rest: loop {
         let (line, ending) = left.split_at(first_line_len(left));
-        push(lines, 1, Word::Line, line_text(line))?;
         if ending.is_empty() {
-            return Ok(());
+            return Ok(left);
         }
+        push(lines, depth, Word::Line, line_text(line))?;
         left = behind_ending(ending);
     }
 }
 
-/// Adds a paragraph.
-fn push_paragraph<'a>(lines: &mut Vec<OutlineLine<'a>>, text: &'a [u8]) -> Result<(), Message>
-    ensures { OnOk result (IsUtf8 text.now → entries_of lines.new.items ≡ entries_of lines.old.items ++ paragraph_entries text.now) }
+/// Adds the lines of a text.
+fn push_lines<'a>(
+    lines: &mut Vec<OutlineLine<'a>>,
+    depth: usize,
+    text: &'a [u8],
+) -> Result<(), Message>
+    ensures { OnOk result (IsUtf8 text.now → entries_of lines.new.items ≡ entries_of lines.old.items ++ text_entries depth text.now) }
 {
-    push(lines, 0, Word::Paragraph, "")?;
-    push_lines(lines, text)
+    let rest = push_full_lines(lines, depth, text)?;
+    push(lines, depth, Word::Line, line_text(rest))
+}
+
+/// Adds the begin of a paragraph, if it is not shown yet.
+fn push_begin<'a>(
+    lines: &mut Vec<OutlineLine<'a>>,
+    depth: usize,
+    is_shown: bool,
+) -> Result<(), Message>
+    ensures { OnOk result (entries_of lines.new.items ≡ entries_of lines.old.items ++ begin_entries depth is_shown) }
+{
+    if is_shown {
+        Ok(())
+    } else {
+        push(lines, depth, Word::Paragraph, "")
+    }
+}
+
+/// Adds what a paragraph ends with.
+fn push_paragraph<'a>(
+    lines: &mut Vec<OutlineLine<'a>>,
+    depth: usize,
+    is_shown: bool,
+    text: &'a [u8],
+) -> Result<(), Message>
+    ensures { OnOk result (IsUtf8 text.now → entries_of lines.new.items ≡ entries_of lines.old.items ++ begin_entries depth is_shown ++ text_entries (depth + 1) text.now) }
+{
+    push_begin(lines, depth, is_shown)?;
+    push_lines(lines, next(depth)?, text)
+}
+
+/// Adds what stands in a paragraph in front of a prefix.
+fn push_piece<'a>(
+    lines: &mut Vec<OutlineLine<'a>>,
+    depth: usize,
+    is_shown: bool,
+    text: &'a [u8],
+) -> Result<(), Message>
+    ensures { OnOk result (IsUtf8 text.now → entries_of lines.new.items ≡ entries_of lines.old.items ++ begin_entries depth is_shown ++ full_entries (depth + 1) text.now) }
+{
+    push_begin(lines, depth, is_shown)?;
+    push_full_lines(lines, next(depth)?, text)?;
+    Ok(())
 }
 
 /// Adds a heading.
 fn push_heading<'a>(
     lines: &mut Vec<OutlineLine<'a>>,
+    depth: usize,
     markers: usize,
     text: Option<&'a [u8]>,
 ) -> Result<(), Message>
-    ensures { OnOk result (IsText (bytes_of text.entry) → entries_of lines.new.items ≡ entries_of lines.old.items ++ heading_entries markers (bytes_of text.entry)) }
+    ensures { OnOk result (IsText (bytes_of text.entry) → entries_of lines.new.items ≡ entries_of lines.old.items ++ heading_entries depth markers (bytes_of text.entry)) }
 {
-    let depth = u8::try_from(markers).unwrap_or(u8::MAX);
-    push(lines, 0, Word::Heading(depth), "")?;
+    let level = u8::try_from(markers).unwrap_or(u8::MAX);
+    push(lines, depth, Word::Heading(level), "")?;
     match text {
-        Some(text) => push_lines(lines, text),
+        Some(text) => push_lines(lines, next(depth)?, text),
         None => Ok(()),
     }
 }
@@ -228,8 +316,10 @@ impl<'a> Reading<'a> {
         };
         self.leaf = None;
         match leaf {
-            Leaf::Break => push(&mut self.lines, 0, Word::Break, ""),
-            Leaf::Heading { markers, text } => push_heading(&mut self.lines, markers, text),
+            Leaf::Break => push(&mut self.lines, self.depth, Word::Break, ""),
+            Leaf::Heading { markers, text } => {
+                push_heading(&mut self.lines, self.depth, markers, text)
+            }
         }
     }
 
@@ -239,13 +329,15 @@ impl<'a> Reading<'a> {
         ensures read { OnOk result (IsUtf8 self.old.bytes.now → BeginsBetween self.old.bytes.now self.old.text → is_between self.old.bytes.now end ≡ true →
             sketch_of self.new ≡ told_at self.old.bytes.now purpose end self.old.text (sketch_of self.old)) }
     {
-        let Some(first) = self.text else {
+        let Some(span) = self.text else {
             return Ok(());
         };
         self.text = None;
-        let text = part(self.bytes, first, end);
+        let text = part(self.bytes, span.from, end);
         match purpose {
-            Purpose::Paragraph => push_paragraph(&mut self.lines, text),
+            Purpose::Paragraph => {
+                push_paragraph(&mut self.lines, self.depth, span.is_parted, text)
+            }
             Purpose::Markers => {
                 self.mark(text.len());
                 Ok(())
@@ -257,12 +349,48 @@ impl<'a> Reading<'a> {
         }
     }
 
-    /// Reads an event that begins a part.
-    fn enter(&mut self, role: Role, place: usize)
+    /// Shows what stands in front of a prefix in the text that is read, if one is.
+    fn part_text(&mut self, end: usize) -> Result<(), Message>
         ensures bytes { self.new.bytes ≡ self.old.bytes }
-        ensures read { sketch_of self.new ≡ sketch_enter role place (sketch_of self.old) }
+        ensures read { OnOk result (IsUtf8 self.old.bytes.now → BeginsBetween self.old.bytes.now self.old.text → is_between self.old.bytes.now end ≡ true →
+            sketch_of self.new ≡ parted_at self.old.bytes.now end self.old.text (sketch_of self.old)) }
+    {
+        let Some(span) = self.text else {
+            return Ok(());
+        };
+        let text = part(self.bytes, span.from, end);
+        self.text = Some(Span {
+            from: span.from,
+            is_parted: true,
+        });
+        push_piece(&mut self.lines, self.depth, span.is_parted, text)
+    }
+
+    /// Reads on behind a prefix.
+    fn go_on(&mut self, place: usize)
+        ensures bytes { self.new.bytes ≡ self.old.bytes }
+        ensures read { sketch_of self.new ≡ record (sketch_of self.old) { text = option_map (λ (t : Span). record t { from = place }) self.old.text } }
+    {
+        if let Some(Span { is_parted, .. }) = self.text {
+            self.text = Some(Span {
+                from: place,
+                is_parted,
+            });
+        }
+    }
+
+    /// Reads an event that begins a part.
+    fn enter(&mut self, role: Role, place: usize) -> Result<(), Message>
+        ensures bytes { self.new.bytes ≡ self.old.bytes }
+        ensures read { OnOk result (IsUtf8 self.old.bytes.now → IsCut self.old.bytes.now (sketch_of self.old) → is_between self.old.bytes.now place ≡ true →
+            sketch_of self.new ≡ sketch_enter self.old.bytes.now role place (sketch_of self.old)) }
     {
         match role {
+            Role::Quote => {
+                push(&mut self.lines, self.depth, Word::Quote, "")?;
+                self.depth = next(self.depth)?;
+            }
+            Role::Prefix => self.part_text(place)?,
             Role::Break => self.leaf = Some(Leaf::Break),
             Role::Heading => {
                 self.leaf = Some(Leaf::Heading {
@@ -270,20 +398,34 @@ impl<'a> Reading<'a> {
                     text: None,
                 });
             }
-            Role::Text(_) => self.text = Some(place),
+            Role::Text(_) => {
+                self.text = Some(Span {
+                    from: place,
+                    is_parted: false,
+                });
+            }
             Role::Quiet => {}
         }
+        Ok(())
     }
 
     /// Reads an event that ends a part.
-    fn exit(&mut self, role: Role, place: usize) -> Result<(), Message>
+    fn exit(&mut self, role: Role, point: Point) -> Result<(), Message>
         ensures bytes { self.new.bytes ≡ self.old.bytes }
-        ensures read { OnOk result (IsUtf8 self.old.bytes.now → IsCut self.old.bytes.now (sketch_of self.old) → is_between self.old.bytes.now place ≡ true →
-            sketch_of self.new ≡ sketch_exit self.old.bytes.now role place (sketch_of self.old)) }
+        ensures read { OnOk result (IsUtf8 self.old.bytes.now → IsCut self.old.bytes.now (sketch_of self.old) → is_between self.old.bytes.now point.index ≡ true →
+            sketch_of self.new ≡ sketch_exit self.old.bytes.now role point (sketch_of self.old)) }
     {
         match role {
+            Role::Quote => {
+                self.depth = self.depth.saturating_sub(1);
+                Ok(())
+            }
+            Role::Prefix => {
+                self.go_on(byte_at(point)?);
+                Ok(())
+            }
             Role::Break | Role::Heading => self.end_leaf(),
-            Role::Text(purpose) => self.end_text(purpose, place),
+            Role::Text(purpose) => self.end_text(purpose, point.index),
             Role::Quiet => Ok(()),
         }
     }
@@ -292,15 +434,12 @@ impl<'a> Reading<'a> {
     fn read(&mut self, event: &Event) -> Result<(), Message>
         ensures bytes { self.new.bytes ≡ self.old.bytes }
         ensures read { OnOk result (IsUtf8 self.old.bytes.now → IsCut self.old.bytes.now (sketch_of self.old) → is_between self.old.bytes.now event.now.point.index ≡ true →
-            sketch_of self.new ≡ sketch_by self.old.bytes.now event.now.kind (shown_as (spelled.role event.now.name)) event.now.point.index (sketch_of self.old)) }
+            sketch_of self.new ≡ sketch_by self.old.bytes.now event.now.kind (shown_as (spelled.role event.now.name)) event.now.point (sketch_of self.old)) }
     {
         let role = role_of(event.name);
         match event.kind {
-            Kind::Enter => {
-                self.enter(role, event.point.index);
-                Ok(())
-            }
-            Kind::Exit => self.exit(role, event.point.index),
+            Kind::Enter => self.enter(role, event.point.index),
+            Kind::Exit => self.exit(role, event.point),
         }
     }
 }
@@ -317,6 +456,7 @@ pub fn outline<'a>(
 {
     let mut reading = Reading {
         bytes: state.bytes,
+        depth: 0,
         leaf: None,
         text: None,
         lines: Vec::new(alloc),

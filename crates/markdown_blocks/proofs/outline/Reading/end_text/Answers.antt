@@ -7,6 +7,6 @@ pub returns-in-Paragraph-clause-read : goal.returns-in-Paragraph-clause-read
 returns-in-Paragraph-clause-read c =
     on_ok-map c.push_paragraph.result
     (λ reads u begins between.
-    paragraph-end c.args.self.now.bytes.now c.part-text.result.now c.in-Some.first c.args.end c.args.self.now.text c.args.purpose (sketch_of c.args.self.now) (entries_of c.push_paragraph.new.lines.items)
+    paragraph-end c.args.self.now.bytes.now c.part-text.result.now c.in-Some.span c.args.end c.args.self.now.text c.args.purpose (sketch_of c.args.self.now) (entries_of c.push_paragraph.new.lines.items)
     c.in-Some.is c.in-Paragraph.is u begins between c.part-text.ensures reads)
     c.push_paragraph.ensures

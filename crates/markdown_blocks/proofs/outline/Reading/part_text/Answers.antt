@@ -1,0 +1,12 @@
+use Rattle.md_seam.specs.Outline.{entries_of}
+use Rattle.markdown_blocks.specs.Sketched.{sketch_of}
+use Rattle.markdown_blocks.proofs.Sketches.{on_ok-map, piece-end}
+use Rattle.markdown_blocks.proofs.outline.Reading.part_text.Goals as goal
+
+pub returns-clause-read : goal.returns-clause-read
+returns-clause-read c =
+    on_ok-map c.push_piece.result
+    (λ reads u begins between.
+    piece-end c.args.self.now.bytes.now c.part-text.result.now c.in-Some.span c.args.end c.args.self.now.text (sketch_of c.args.self.now) (entries_of c.push_piece.new.lines.items)
+    c.in-Some.is u begins between c.part-text.ensures reads)
+    c.push_piece.ensures

@@ -1,0 +1,16 @@
+use Rattle.std.proofs.Common.{◌≡◌, ◌++◌, length}
+use Rattle.std.specs.Str.{IsUtf8}
+use Rattle.md_seam.specs.Outline.{entries_of}
+use Rattle.md_seam.specs.Places.{last_line}
+use Rattle.md_seam.specs.Texts.{split_lines}
+use Rattle.markdown_blocks.specs.Sketched.{full_entries}
+use Rattle.markdown_blocks.proofs.outline.push_full_lines.Given as goal
+
+abbrev pub invariant-rest : goal.invariant-rest
+invariant-rest l =
+    IsUtf8 l.text → IsUtf8 l.left ×
+    ((entries_of l.lines.items ++ full_entries l.depth l.left ≡ entries_of l.initial.lines.items ++ full_entries l.depth l.text) ×
+    (last_line (split_lines l.left) ≡ last_line (split_lines l.text)))
+
+abbrev pub decreases-rest : goal.decreases-rest
+decreases-rest l = length l.left
