@@ -10,6 +10,7 @@ use Rattle.md_leaves.specs.BreakRule.{Apart, Marks, Run, White, at_break, before
 use Rattle.md_seam.specs.Ahead.{line_bytes, white_end, white_rest}
 use Rattle.md_seam.specs.Nested.{enter, exit}
 use Rattle.md_seam.specs.Rest.{is_white}
+use Rattle.md_seam.proofs.AheadLemmas.{white-no_ending}
 
 pub marks-none : (m : ℕ) → marks m [] ≡ 0
 unfolding marks
@@ -62,10 +63,6 @@ white-apart c m s k = go (nat_eq c m) refl
     go : (x : Bool) → nat_eq c m ≡ x → x ≡ false
     go false e = refl
     go true e = let same : is_white m ≡ true = rw (eq-of c m e) at s in let bad : true ≡ false = sym same ∙ k in cc
-
--- whitespace ends no line
-pub white-no_ending : (c : ℕ) → is_white c ≡ true → nat_eq c 10 ≡ false
-white-no_ending c s = white-apart c 10 s refl
 
 -- where whitespace ends, the rest is what is left behind it
 white-ends : (c : Cell) (cs : List Cell) (h : Here) → is_white c.byte ≡ false →

@@ -7,10 +7,11 @@ use Rattle.md_engine.specs.declared.tokenizer.Scratch.{Scratch}
 use Rattle.md_engine.specs.Meaning.{Cell, Here, Refuses}
 use Rattle.md_leaves.specs.Heading.{without_size}
 use Rattle.md_leaves.specs.HeadingRule.{Apart, Hashes, Run, White, at_break, before_opening, begun, closes, goes_on, in_heading, in_opening, is_heading, is_opening, opens}
-use Rattle.md_leaves.proofs.BreakLemmas.{eq-of, here_after, white-no_ending}
+use Rattle.md_leaves.proofs.BreakLemmas.{eq-of, here_after}
 use Rattle.md_seam.specs.Ahead.{begins_white, line_bytes, white_rest}
 use Rattle.md_seam.specs.Nested.{enter, exit}
 use Rattle.md_seam.specs.Rest.{is_white, run_len}
+use Rattle.md_seam.proofs.AheadLemmas.{white-no_ending}
 
 -- a run goes on
 pub run-more : (run : Run) (c : Cell) (cs : List Cell) (h : Here) → goes_on run c.byte ≡ true → nat_eq c.byte 10 ≡ false → in_heading run (c ∷ cs) h ≡ in_heading run cs (record h { point = c.after })

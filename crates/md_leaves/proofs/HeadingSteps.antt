@@ -19,12 +19,13 @@ use Rattle.md_engine.specs.World.{World, after}
 use Rattle.md_engine.proofs.StepOf.{Sees, ahead, begins, cell_here, moves, passes}
 use Rattle.md_leaves.specs.Heading.{at_break_code, before_code, behind_part, data_code, heading_link, sees_text, sequence_further_code, sequence_open_code, start_code, without_size}
 use Rattle.md_leaves.specs.HeadingRule.{Apart, HasHeading, Hashes, Run, Text, White, at_break, before_opening, begun, closes, goes_on, heading_at, in_heading, in_opening, opens}
-use Rattle.md_leaves.proofs.BreakLemmas.{eq-of, here_after}
+use Rattle.md_leaves.proofs.BreakLemmas.{eq-of, here_after, behind-joined}
 use Rattle.md_leaves.proofs.HeadingLemmas.{apart-none, apart-white, before-hash, before-other, opening-ends, opening-full, opening-more, opening-none, opening-text, opening-white, run-begins, run-ends, run-ends_line, run-ends_none, run-more, white-no_hash, white-run}
 use Rattle.md_seam.specs.Ahead.{begins_white, white_end, white_rest}
 use Rattle.md_seam.specs.Nested.{enter, exit}
 use Rattle.md_seam.specs.Rest.{is_white}
 use Rattle.md_seam.specs.Spaces.{IsRest, any_size, calmed, ends_line, is_current, sees_white, small_indent}
+use Rattle.md_seam.proofs.AheadLemmas.{small-some}
 use Rattle.md_seam.specs.Went.{Went}
 use Rattle.md_seam.proofs.WhiteSteps.{begins-seen, behind_white, white-tried}
 
@@ -47,20 +48,7 @@ or-left true b e k = refl
 or-left false true e k = cc
 or-left false false e k = cc
 
-not-true : (a : Bool) → a ≡ true → not a ≡ false
-not-true a e = rw e refl
-
-not-false : (a : Bool) → a ≡ false → not a ≡ true
-not-false a e = rw e refl
-
 -- The start.
-
-small-some : (options : ParseOptions) → 1 ≤ small_indent options
-small-some options = go options.constructs.code_indented
-  where
-    go : (b : Bool) → 1 ≤ cond b 3 any_size
-    go true = omega arith
-    go false = omega arith
 
 abbrev entered_here : Here → Here
 entered_here h = record h { events = h.events ++ enter parts.HeadingAtx h.point ∷ [] }
@@ -139,13 +127,6 @@ white-here feed w h s e =
     ap (λ (x : List Cell). in_heading Apart x h) saw.1 ∙ apart-white (cell_here feed w saw.0) (feed (after w.setting w.point)) h saw.2
     ∙ ap (λ (x : List Cell). in_heading White x (record h { events = h.events ++ enter SpaceOrTab h.point ∷ [] })) (sym saw.1)
 
--- the same place, its events written in another way
-joined : (room : ℕ) (cells : List Cell) (h : Here) → calmed h.scratch ≡ h.scratch →
-    here_after room cells (record h { events = h.events ++ enter SpaceOrTab h.point ∷ [] }) ≡ behind_white room cells h
-unfolding here_after
-joined room cells h same =
-    ap₂ (λ (es : List Event) (t : Scratch). let r : Here = record h { events = es; point = white_end room cells h.point; scratch = t } in r) (append_assoc h.events (enter SpaceOrTab h.point ∷ []) _) (sym same)
-
 -- what is left behind a run that has ended, in a step that ends it
 behind_steps : (B : Behaviour) (options : ParseOptions) (feed : Feed) (from : State) (w : World) (name : Name) (t : Scratch) (x : Bool) → HasHeading B options → Sees feed w → IsRest t → sees_white w.current ≡ x →
     goes B from (feed w.point) (here w) ≡ in_heading Apart (feed w.point) (record (here w) { events = w.events ++ exit name w.point ∷ []; scratch = t }) →
@@ -156,7 +137,7 @@ behind_steps B options feed from w name t true has s r e same =
     begins B feed from _ w (behind_part (record w { events = h.events; scratch = t }) true).world (exit name w.point ∷ []) frame refl refl
     (same ∙ white-here feed w h s e
     ∙ white-run any_size (feed w.point) (record h { events = h.events ++ enter SpaceOrTab h.point ∷ [] }) (omega (arith, s.short))
-    ∙ ap (at_break (white_rest any_size (feed w.point))) (joined any_size (feed w.point) h (ap calmed r ∙ sym r))
+    ∙ ap (at_break (white_rest any_size (feed w.point))) (behind-joined any_size (feed w.point) h (ap calmed r ∙ sym r))
     ∙ sym (has.at_break _ _)
     ∙ white-tried B feed frame h.events (feed w.point) h 1 any_size has.white (begins-seen feed w s ∙ e) (omega arith) (omega arith) refl)
 behind_steps B options feed from w name t false has s r e same =
@@ -188,18 +169,6 @@ opening-stops feed w h (Some b) e le = go (nat_eq b 10) refl
 
 white-of : (o : Option ℕ) (b : ℕ) → sees_text o ≡ false → o ≡ Some b → nat_eq b 10 ≡ false → is_white b ≡ true
 white-of o b e is k = or-left (is_white b) (nat_eq b 10) (sym (ap sees_text is) ∙ e) k
-
-and-left : (a b : Bool) → a && b ≡ true → a ≡ true
-and-left true b e = refl
-and-left false b e = cc
-
-and-right : (a b : Bool) → a && b ≡ true → b ≡ true
-and-right true b e = e
-and-right false b e = cc
-
-not-of : (a : Bool) → not a ≡ true → a ≡ false
-not-of true e = cc
-not-of false e = refl
 
 pub sequence_open_steps : (B : Behaviour) (options : ParseOptions) (feed : Feed) (w : World) (x y z : Bool) → HasHeading B options → Sees feed w → IsRest (without_size w.scratch) → w.scratch.size ≤ 6 →
     is_current 35 w.current && nat_lt w.scratch.size 6 ≡ x → sees_text w.current ≡ y → sees_white w.current ≡ z → Steps B feed (Next n.HeadingAtxSequenceOpen) w (sequence_open_code w x y z).to (sequence_open_code w x y z).world
