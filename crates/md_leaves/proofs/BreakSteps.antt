@@ -1,6 +1,7 @@
 -- Each state of a thematic break takes one step of its rule.
 use Rattle.std.proofs.Common.{◌≡◌, ℕ, ◌≤◌, Bool, true, false, cond, ◌&&◌, nat_eq, List, [], ◌∷◌, ◌++◌, length, Option, Some, None, refl, sym, ◌∙◌, ap, ap₂, arith, append_assoc, append-nil, add-zero}
 use Rattle.std.specs.Prelude.{nat_le}
+use Rattle.std.proofs.lemmas.Bool.{eqb-true}
 use Rattle.md_engine.specs.declared.configuration.ParseOptions.{ParseOptions}
 use Rattle.md_engine.specs.declared.event.Event.{Event}
 use Rattle.md_engine.specs.declared.event.Name.TheVariants.{SpaceOrTab, ThematicBreak}
@@ -15,7 +16,7 @@ use Rattle.md_engine.specs.World.{World, after}
 use Rattle.md_engine.proofs.StepOf.{Sees, ahead, begins, cell_here, moves, passes}
 use Rattle.md_leaves.specs.Break.{at_break_code, before_code, is_marker, sequence_code, start_code, without_marker}
 use Rattle.md_leaves.specs.BreakRule.{Apart, HasBreak, Marks, White, at_break, before_marker, break_at, in_break}
-use Rattle.md_leaves.proofs.BreakLemmas.{apart-mark, before-mark, before-other, eq-of, here_after, in_break-mark, in_break-other, marker-no_ending, marker-no_white, marks-at_none, marks-end, marks-none, marks-white, white-run, behind-joined}
+use Rattle.md_leaves.proofs.BreakLemmas.{apart-mark, before-mark, before-other, here_after, in_break-mark, in_break-other, marker-no_ending, marker-no_white, marks-at_none, marks-end, marks-none, marks-white, white-run, behind-joined}
 use Rattle.md_leaves.proofs.Goods.{marked-calm}
 use Rattle.md_seam.specs.Ahead.{begins_white, white_end, white_rest}
 use Rattle.md_seam.specs.Nested.{enter, exit}
@@ -62,7 +63,7 @@ pub sequence_steps : (B : Behaviour) (options : ParseOptions) (feed : Feed) (w :
     is_current w.scratch.marker w.current ≡ x → sees_white w.current ≡ y → Steps B feed (Next n.ThematicBreakSequence) w (sequence_code w x y).to (sequence_code w x y).world
 sequence_steps B options feed w true y has s r mark e f =
     let saw = sees-byte feed w w.scratch.marker s e in
-    let ending : nat_eq saw.0 10 ≡ false = rw (eq-of saw.0 w.scratch.marker saw.2) (marker-no_ending w.scratch.marker mark) in
+    let ending : nat_eq saw.0 10 ≡ false = rw (eqb-true saw.0 w.scratch.marker saw.2) (marker-no_ending w.scratch.marker mark) in
     passes B feed _ _ w (sequence_code w true y).world refl refl
     (has.sequence _ _ ∙ ap (λ (x : List Cell). in_break Marks x (here w)) saw.1
     ∙ in_break-mark (cell_here feed w saw.0) (feed (after w.setting w.point)) (here w) saw.2 ending ∙ sym (has.sequence _ _))
@@ -87,8 +88,8 @@ at_break-mark : (c : Cell) (cs : List Cell) (h : Here) → nat_eq c.byte h.scrat
     at_break (c ∷ cs) h ≡ in_break Marks (c ∷ cs) (record h { events = h.events ++ enter parts.ThematicBreakSequence h.point ∷ [] })
 unfolding at_break
 at_break-mark c cs h is mark =
-    let white : is_white c.byte ≡ false = rw (eq-of c.byte h.scratch.marker is) (marker-no_white h.scratch.marker mark) in
-    let ending : nat_eq c.byte 10 ≡ false = rw (eq-of c.byte h.scratch.marker is) (marker-no_ending h.scratch.marker mark) in
+    let white : is_white c.byte ≡ false = rw (eqb-true c.byte h.scratch.marker is) (marker-no_white h.scratch.marker mark) in
+    let ending : nat_eq c.byte 10 ≡ false = rw (eqb-true c.byte h.scratch.marker is) (marker-no_ending h.scratch.marker mark) in
     rw white (apart-mark c cs h is ending)
 
 at_break-end : (feed : Feed) (w : World) (h : Here) (o : Option ℕ) → ends_line o && nat_le 3 h.scratch.size ≡ true →
@@ -99,7 +100,7 @@ at_break-end feed w h (Some b) e = go (nat_eq b 10) refl e
   where
     go : (x : Bool) → nat_eq b 10 ≡ x → x && nat_le 3 h.scratch.size ≡ true →
         at_break (ahead feed w (Some b)) h ≡ Accepts (record h { events = h.events ++ exit ThematicBreak h.point ∷ []; scratch = without_marker h.scratch; flags = record h.flags { interrupt = false } }) (ahead feed w (Some b))
-    go true is e = let ten : b ≡ 10 = eq-of b 10 is in rw (ten, marks-none, add-zero, e, append-nil) refl
+    go true is e = let ten : b ≡ 10 = eqb-true b 10 is in rw (ten, marks-none, add-zero, e, append-nil) refl
     go false is e = cc
 
 at_break-no : (feed : Feed) (w : World) (h : Here) (o : Option ℕ) → is_current h.scratch.marker o ≡ false → ends_line o && nat_le 3 h.scratch.size ≡ false →
@@ -110,7 +111,7 @@ at_break-no feed w h (Some b) k e = go (is_white b) (nat_eq b 10) refl refl e
   where
     go : (x y : Bool) → is_white b ≡ x → nat_eq b 10 ≡ y → y && nat_le 3 h.scratch.size ≡ false → at_break (ahead feed w (Some b)) h ≡ Refuses (without_marker h.scratch) h.flags
     go true y s t e = rw s refl
-    go false true s t e = let ten : b ≡ 10 = eq-of b 10 t in rw (ten, marks-none, add-zero, e) refl
+    go false true s t e = let ten : b ≡ 10 = eqb-true b 10 t in rw (ten, marks-none, add-zero, e) refl
     go false false s t e = rw s (in_break-other Apart (cell_here feed w b) (feed (after w.setting w.point)) h k s t)
 
 pub at_break_steps : (B : Behaviour) (options : ParseOptions) (feed : Feed) (w : World) (x y : Bool) → HasBreak B options → Sees feed w → is_marker w.scratch.marker ≡ true →
