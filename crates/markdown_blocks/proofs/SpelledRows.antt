@@ -20,8 +20,9 @@ use Rattle.markdown_blocks.specs.Rows.{BlankRow, BreakRow, Group, HeadingRow, Li
 use Rattle.markdown_blocks.specs.Sections.{heading_block, sections, with_open}
 use Rattle.markdown_blocks.proofs.PlainRoles.{plain-roles}
 use Rattle.markdown_blocks.proofs.RowFacts as f
-use Rattle.markdown_blocks.proofs.SectionsLemmas.{heading-kind, sections_by, then_block-blocks, then_blocks, then_blocks-end}
+use Rattle.markdown_blocks.proofs.SectionsLemmas.{sections_by, then_block-blocks, then_blocks, then_blocks-end}
 use Rattle.markdown_blocks.proofs.SpelledHeadings.{read-heading}
+use Rattle.markdown_blocks.proofs.LineKinds.{heading-kind}
 
 -- Endings.
 
