@@ -14,14 +14,8 @@ use Rattle.md_containers.specs.QuoteRule.{HasQuote, at_marker, behind_marker, pr
 use Rattle.md_seam.specs.Ahead.{begins_white, white_rest}
 use Rattle.md_seam.specs.Nested.{enter, exit}
 use Rattle.md_seam.specs.Spaces.{any_size, is_current, sees_white, small_indent}
+use Rattle.md_seam.proofs.AheadLemmas.{small-some}
 use Rattle.md_seam.proofs.WhiteSteps.{begins-seen, behind_white, white-tried}
-
-small-some : (options : ParseOptions) → 1 ≤ small_indent options
-small-some options = go options.constructs.code_indented
-  where
-    go : (b : Bool) → 1 ≤ cond b 3 any_size
-    go true = omega arith
-    go false = omega arith
 
 -- The start.
 
