@@ -20,6 +20,7 @@ use Rattle.md_leaves.specs.Heading.{heading_link}
 use Rattle.md_leaves.specs.HeadingRule as heading
 use Rattle.md_leaves.specs.HeadingText.{Before, Outside, begins, headings_resolved, is_heading, linked_text, resolved}
 use Rattle.md_leaves.specs.HeadingTitle.{Title, front_len, line_runs, text_of, title_of, unread_title}
+use Rattle.md_leaves.proofs.TitleLemmas.{title-fits, title-text}
 use Rattle.md_seam.specs.declared.inline.Chunk.{Chunk}
 use Rattle.md_seam.specs.declared.inline.PartKind.TheVariants.{Text}
 use Rattle.md_seam.specs.Inline.{are_lines, is_none, is_one_line, plain_events}
@@ -41,7 +42,7 @@ use Rattle.markdown_blocks.proofs.JoinedLemmas.{EachEnds, EachNoContent, HasNoCo
 use Rattle.markdown_blocks.proofs.LineKinds.{heading-kind, no_ending-parts, no_ending-drop}
 use Rattle.markdown_blocks.proofs.RowFacts.{AreRows, IsEnding, IsRow, first-is, line-text}
 use Rattle.markdown_blocks.proofs.SubstitutedLemmas.{Becomes, Rest, Unwanted, becomes-append, becomes-around, becomes-same, no_links-unwanted, part-becomes, passes, places}
-use Rattle.markdown_blocks.proofs.TitleFacts.{back-unlinked, front-unlinked, heading-resolved, text-fits, text-place}
+use Rattle.markdown_blocks.proofs.TitleFacts.{back-unlinked, front-unlinked, heading-resolved}
 
 -- The groups of a text.
 
@@ -373,34 +374,34 @@ pub record IsTitle (bytes line : List ℕ) (p : Point) : Type 0 where
   pub slice : slice_range bytes (past_text (take (front_len line) line) p).index (past_text (take (front_len line + length (text_of line)) line) p).index ≡ text_of line
   pub no_ending : NoEnding (text_of line)
 
-pub title-is : (options : ParseOptions) (bytes line : List ℕ) (row : Row) → IsRow options bytes line row → heading.is_heading (trim_start line) ≡ true → IsTitle bytes line row.first
-title-is options bytes line row is h =
+pub title-is : (options : ParseOptions) (bytes line : List ℕ) (row : Row) → IsRow options bytes line row → IsTitle bytes line row.first
+title-is options bytes line row is =
     let p : Point = row.first in
     let first : ℕ = front_len line in
     let text : List ℕ = text_of line in
     let size : ℕ = length text in
-    let fits = text-fits line h in
+    let fits = title-fits line in
     let from : (past_text (take first line) p).index ≡ p.index + first = past-index (take first line) p ∙ ap (λ (k : ℕ). p.index + k) (length-take-le first line (omega (arith, fits))) in
     let to : (past_text (take (first + size) line) p).index ≡ p.index + (first + size) = past-index (take (first + size) line) p ∙ ap (λ (k : ℕ). p.index + k) (length-take-le (first + size) line fits) in
     let sum : p.index + (first + size) ≡ p.index + first + size = omega arith in
-    let parts : drop first line ≡ text ++ drop size (drop first line) = sym (take-append-drop size (drop first line)) ∙ ap (λ (l : List ℕ). l ++ drop size (drop first line)) (text-place line h) in
+    let parts : drop first line ≡ text ++ drop size (drop first line) = sym (take-append-drop size (drop first line)) ∙ ap (λ (l : List ℕ). l ++ drop size (drop first line)) (title-text line) in
     let behind : NoEnding (drop first line) = no_ending-drop first line is.no_ending in
     record {
       slice =
           ap (λ (k : ℕ). slice_range bytes k (past_text (take (first + size) line) p).index) from
           ∙ ap (slice_range bytes (p.index + first)) (to ∙ sum)
           ∙ slice-inside bytes line p.index row.end.index first size is.text is.size fits
-          ∙ text-place line h;
+          ∙ title-text line;
       no_ending = (no_ending-parts text (drop size (drop first line)) (subst NoEnding parts behind)).0;
     }
 
 -- the text of a heading is a line
-pub title-lines : (options : ParseOptions) (bytes line : List ℕ) (row : Row) → IsRow options bytes line row → heading.is_heading (trim_start line) ≡ true → 0 < length (text_of line) →
+pub title-lines : (options : ParseOptions) (bytes line : List ℕ) (row : Row) → IsRow options bytes line row → 0 < length (text_of line) →
     are_lines bytes (past_text (take (front_len line + length (text_of line)) line) row.first)
     (record { first = past_text (take (front_len line) line) row.first; after = past_text (take (front_len line + length (text_of line)) line) row.first } ∷ []) ≡ true
-title-lines options bytes line row is h some =
+title-lines options bytes line row is some =
     let end : Point = past_text (take (front_len line + length (text_of line)) line) row.first in
-    let title : IsTitle bytes line row.first = title-is options bytes line row is h in
+    let title : IsTitle bytes line row.first = title-is options bytes line row is in
     and_from _ _
     (ap (λ (l : List ℕ). is_one_line (split_lines l) (same_place end end)) title.slice
     ∙ one-last (text_of line) some title.no_ending (same_place end end) (and_from _ _ (eq-eqb end.index end.index refl) (eq-eqb end.vs end.vs refl)))
@@ -408,8 +409,8 @@ title-lines options bytes line row is h some =
 
 -- the text of a heading is read
 text-becomes : (options : ParseOptions) (bytes line : List ℕ) (row : Row) (wants : Content → Bool) (reads : Readings) → wants content.Text ≡ true → ReadsText bytes reads →
-    IsRow options bytes line row → heading.is_heading (trim_start line) ≡ true → Becomes wants reads (linked_text (title_of line row.first).text) (read_text bytes (title_of line row.first).text)
-text-becomes options bytes line row wants reads w rt is h = go (length (text_of line) == 0) refl
+    IsRow options bytes line row → Becomes wants reads (linked_text (title_of line row.first).text) (read_text bytes (title_of line row.first).text)
+text-becomes options bytes line row wants reads w rt is = go (length (text_of line) == 0) refl
   where
     begin : Point
     begin = past_text (take (front_len line) line) row.first
@@ -427,16 +428,16 @@ text-becomes options bytes line row wants reads w rt is h = go (length (text_of 
     go true e = becomes-same wants reads [] tt
     go false e =
         part-becomes wants reads n.HeadingAtxText n.Data heading_link begin end chunk [] (plain_events bytes (record { kind = Text; chunks = chunk ∷ [] })) w refl
-        (λ answer r. rt (chunk ∷ []) answer r end (title-lines options bytes line row is h (grind (arith, nat_tests))) whole)
+        (λ answer r. rt (chunk ∷ []) answer r end (title-lines options bytes line row is (grind (arith, nat_tests))) whole)
 
 title-becomes : (options : ParseOptions) (bytes line : List ℕ) (row : Row) (wants : Content → Bool) (reads : Readings) → wants content.Text ≡ true → ReadsText bytes reads →
-    IsRow options bytes line row → heading.is_heading (trim_start line) ≡ true → Becomes wants reads (unread_title (title_of line row.first)) (read_title bytes (title_of line row.first))
-title-becomes options bytes line row wants reads w rt is h =
+    IsRow options bytes line row → Becomes wants reads (unread_title (title_of line row.first)) (read_title bytes (title_of line row.first))
+title-becomes options bytes line row wants reads w rt is =
     let title : Title = title_of line row.first in
     becomes-append wants reads (title.front ++ linked_text title.text) (title.front ++ read_text bytes title.text) title.back title.back
-    (becomes-append wants reads title.front title.front (linked_text title.text) (read_text bytes title.text) (becomes-same wants reads title.front (no_links-unwanted wants title.front (front-unlinked line row.first h)))
-    (text-becomes options bytes line row wants reads w rt is h))
-    (becomes-same wants reads title.back (no_links-unwanted wants title.back (back-unlinked line row.first h)))
+    (becomes-append wants reads title.front title.front (linked_text title.text) (read_text bytes title.text) (becomes-same wants reads title.front (no_links-unwanted wants title.front (front-unlinked line row.first)))
+    (text-becomes options bytes line row wants reads w rt is))
+    (becomes-same wants reads title.back (no_links-unwanted wants title.back (back-unlinked line row.first)))
 
 single-becomes : (options : ParseOptions) (bytes : List ℕ) (row : Row) (wants : Content → Bool) (reads : Readings) → wants content.Text ≡ true → ReadsText bytes reads → IsSingle options bytes row →
     (kind : RowKind) → row.kind ≡ kind → Becomes wants reads (titled_row_by bytes kind row) (single_events_by bytes kind row)
@@ -446,7 +447,7 @@ single-becomes options bytes row wants reads w rt is HeadingRow e =
     becomes-append wants reads (around n.HeadingAtx row.first row.end (unread_title (row_title bytes row))) (around n.HeadingAtx row.first row.end (read_title bytes (row_title bytes row))) ending ending
     (becomes-around wants reads n.HeadingAtx row.first row.end (unread_title (row_title bytes row)) (read_title bytes (row_title bytes row))
     (subst (λ (line : List ℕ). Becomes wants reads (unread_title (title_of line row.first)) (read_title bytes (title_of line row.first))) (sym is.is.text)
-    (title-becomes options bytes is.line row wants reads w rt is.is (heading-kind options is.line (sym is.is.kind ∙ e)))))
+    (title-becomes options bytes is.line row wants reads w rt is.is)))
     (becomes-same wants reads ending (ending-unwanted wants row))
 single-becomes options bytes row wants reads w rt is BreakRow e = becomes-same wants reads (row_events_by BreakRow row) (subst (λ (kind : RowKind). Unwanted wants (row_events_by kind row)) e (single-unwanted options bytes wants row is (λ k. cc)))
 single-becomes options bytes row wants reads w rt is TextRow e = absurd (is.other e)

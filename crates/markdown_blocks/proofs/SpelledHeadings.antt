@@ -13,6 +13,7 @@ use Rattle.md_engine.specs.declared.event.Point.{Point}
 use Rattle.md_leaves.specs.HeadingRule as rule
 use Rattle.md_leaves.specs.HeadingRule.{Apart, Hashes, Run, White, closes, goes_on, is_heading, opens}
 use Rattle.md_leaves.specs.HeadingTitle.{Title, chunk_unless_empty, front_len, line_runs, text_of, title_of}
+use Rattle.md_leaves.proofs.TitleLemmas.{title-fits}
 use Rattle.md_leaves.proofs.TitleRuns.{begun-hash, begun-white}
 use Rattle.md_seam.specs.declared.inline.Chunk.{Chunk}
 use Rattle.md_seam.specs.Inline.{plain_chunks, together}
@@ -34,7 +35,6 @@ use Rattle.markdown_blocks.proofs.GroupLemmas.{IsTitle, title-is}
 use Rattle.markdown_blocks.proofs.LineKinds.{count-none, count-one}
 use Rattle.markdown_blocks.proofs.PlainRoles.{plain-roles}
 use Rattle.markdown_blocks.proofs.RowFacts.{IsRow}
-use Rattle.markdown_blocks.proofs.TitleFacts.{text-fits}
 
 -- how many bytes a run of `#` has, and the whitespace behind it
 abbrev opening_by : ℕ → List ℕ → ℕ
@@ -380,4 +380,4 @@ pub read-heading : (options : ParseOptions) (bytes line : List ℕ) (row : Row) 
     read bytes r (around n.HeadingAtx row.first row.end (read_title bytes (row_title bytes row))) ≡ add_block (heading_block line) r
 read-heading options bytes line row r is h t l =
     ap (λ (x : List ℕ). read bytes r (around n.HeadingAtx row.first row.end (read_title bytes (title_of x row.first)))) is.text
-    ∙ read-at bytes line row.first row.end row.end.index r (record { text = is.text; size = is.size; whole = is.first_whole; no_ending = is.no_ending; heading = h; title = title-is options bytes line row is h; fits = text-fits line h }) t l
+    ∙ read-at bytes line row.first row.end row.end.index r (record { text = is.text; size = is.size; whole = is.first_whole; no_ending = is.no_ending; heading = h; title = title-is options bytes line row is; fits = title-fits line }) t l

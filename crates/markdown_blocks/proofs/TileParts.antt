@@ -38,7 +38,6 @@ use Rattle.markdown_blocks.specs.Rows.{BlankRow, BreakRow, Group, HeadingRow, Li
 use Rattle.markdown_blocks.specs.Unread.{linked, titled_group, titled_groups, titled_row_by, unread_paragraph}
 use Rattle.markdown_blocks.proofs.GroupLemmas.{AreGroups, IsParagraph, IsSingle, groups-are, paragraph-lines, title-lines}
 use Rattle.markdown_blocks.proofs.JoinedLemmas.{EachNoContent}
-use Rattle.markdown_blocks.proofs.LineKinds.{heading-kind}
 use Rattle.markdown_blocks.proofs.MarkLemmas.{mark-nested}
 use Rattle.markdown_blocks.proofs.NestedRows.{ByLines, Nested_in, Onward, Ordered, around-nested, behind-order, blank-nested, block-nested, break-nested, heading-nested, line-order, onward-before, onward-next, rows-hold}
 use Rattle.markdown_blocks.proofs.PartFacts.{AreUnlinked, EachUnlinked, IsUnlinked, NoParts, groups-unlinked, linked-chunks, linked-no_parts, part-inside, pieces-behind, quiet-no_parts, runs-no_parts}
@@ -141,13 +140,13 @@ stands-part bytes name kind link p q cs named lines = record {
 -- Headings.
 
 -- what stands in a heading
-stands-title : (options : ParseOptions) (bytes line : List ℕ) (row : Row) → IsRow options bytes line row → heading.is_heading (trim_start line) ≡ true → Stands bytes (unread_title (title_of line row.first))
-stands-title options bytes line row is h =
+stands-title : (options : ParseOptions) (bytes line : List ℕ) (row : Row) → IsRow options bytes line row → Stands bytes (unread_title (title_of line row.first))
+stands-title options bytes line row is =
     let title : Title = title_of line row.first in
     stands-append bytes (title.front ++ linked_text title.text) title.back
     (stands-append bytes title.front (linked_text title.text)
-    (stands-outside bytes title.front (runs-no_parts heading.Apart (take (front_len line) line) row.first) (front-unlinked line row.first h)) (text (length (text_of line) == 0) refl))
-    (stands-outside bytes title.back (runs-no_parts heading.Apart (drop (front_len line + length (text_of line)) line) end) (back-unlinked line row.first h))
+    (stands-outside bytes title.front (runs-no_parts heading.Apart (take (front_len line) line) row.first) (front-unlinked line row.first)) (text (length (text_of line) == 0) refl))
+    (stands-outside bytes title.back (runs-no_parts heading.Apart (drop (front_len line + length (text_of line)) line) end) (back-unlinked line row.first))
   where
     begin : Point
     begin = text_begin line row.first
@@ -160,7 +159,7 @@ stands-title options bytes line row is h =
 
     text : (x : Bool) → (length (text_of line) == 0) ≡ x → Stands bytes (linked_text (cond x None (Some chunk)))
     text true e = stands-outside bytes [] tt tt
-    text false e = stands-part bytes n.HeadingAtxText Text heading_link begin end (chunk ∷ []) refl (title-lines options bytes line row is h (grind (arith, nat_tests)))
+    text false e = stands-part bytes n.HeadingAtxText Text heading_link begin end (chunk ∷ []) refl (title-lines options bytes line row is (grind (arith, nat_tests)))
 
 -- Groups.
 
@@ -171,7 +170,7 @@ stands-single options bytes row is unlinked BlankRow e =
     stands-append bytes row.inside (ending_events n.BlankLineEnding row) (stands-outside bytes row.inside (quiet-no_parts row.inside inside.quiet) (unlinked (λ k. cc))) (stands-ending bytes n.BlankLineEnding row refl)
 stands-single options bytes row is unlinked HeadingRow e =
     let inside : List Event = unread_title (row_title bytes row) in
-    let stands : Stands bytes inside = subst (λ (line : List ℕ). Stands bytes (unread_title (title_of line row.first))) (sym is.is.text) (stands-title options bytes is.line row is.is (heading-kind options is.line (sym is.is.kind ∙ e))) in
+    let stands : Stands bytes inside = subst (λ (line : List ℕ). Stands bytes (unread_title (title_of line row.first))) (sym is.is.text) (stands-title options bytes is.line row is.is) in
     stands-append bytes (around n.HeadingAtx row.first row.end inside) (ending_events n.LineEnding row) (stands-around bytes n.HeadingAtx row.first row.end inside refl stands) (stands-ending bytes n.LineEnding row refl)
 stands-single options bytes row is unlinked BreakRow e =
     let inside : IsInside row = is.is.inside (λ k. cc) in

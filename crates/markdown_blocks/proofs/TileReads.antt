@@ -41,7 +41,6 @@ use Rattle.markdown_blocks.specs.Rows.{BlankRow, BreakRow, Group, HeadingRow, Li
 use Rattle.markdown_blocks.specs.Unread.{linked, titled_group, titled_groups, titled_row_by, unread_paragraph}
 use Rattle.markdown_blocks.proofs.GroupLemmas.{AreGroups, IsParagraph, IsSingle, groups-are}
 use Rattle.markdown_blocks.proofs.JoinedLemmas.{EachNoContent, behind-is, rows_at-no_content}
-use Rattle.markdown_blocks.proofs.LineKinds.{heading-kind}
 use Rattle.markdown_blocks.proofs.NestedRows.{ending-order}
 use Rattle.markdown_blocks.proofs.PartFacts.{AreUnlinked, EachUnlinked, IsUnlinked, NoParts, groups-unlinked, kind-no_part, linked-chunks, linked-no_parts, part-inside, quiet-no_parts, rows_at-unlinked, runs-no_parts}
 use Rattle.markdown_blocks.proofs.RowFacts.{AreRows, IsInside, IsRow}
@@ -176,13 +175,13 @@ fill-text bytes size p q h = go (size == 0)
     go true = fill-same bytes [] tt tt
     go false = fill-part bytes n.HeadingAtxText Text p q heading_link (chunk ∷ []) refl (plain-fills bytes p (chunk ∷ []) order)
 
-fill-title : (bytes line : List ℕ) (p : Point) → is_heading (trim_start line) ≡ true → Fill bytes (unread_title (title_of line p)) (read_title bytes (title_of line p))
-fill-title bytes line p h =
+fill-title : (bytes line : List ℕ) (p : Point) → Fill bytes (unread_title (title_of line p)) (read_title bytes (title_of line p))
+fill-title bytes line p =
     let title : Title = title_of line p in
     fill-append bytes (title.front ++ linked_text title.text) (title.front ++ read_text bytes title.text) title.back title.back
-    (fill-append bytes title.front title.front (linked_text title.text) (read_text bytes title.text) (fill-same bytes title.front (front-unlinked line p h) (runs-no_parts Apart (take (front_len line) line) p))
+    (fill-append bytes title.front title.front (linked_text title.text) (read_text bytes title.text) (fill-same bytes title.front (front-unlinked line p) (runs-no_parts Apart (take (front_len line) line) p))
     (fill-text bytes (length (text_of line)) (text_begin line p) (text_end line p) (text-order line p)))
-    (fill-same bytes title.back (back-unlinked line p h) (runs-no_parts Apart (drop (front_len line + length (text_of line)) line) (text_end line p)))
+    (fill-same bytes title.back (back-unlinked line p) (runs-no_parts Apart (drop (front_len line + length (text_of line)) line) (text_end line p)))
 
 -- Lines.
 
@@ -207,7 +206,7 @@ fill-single options bytes row is h HeadingRow e =
     fill-append bytes (around n.HeadingAtx row.first row.end (unread_title (row_title bytes row))) (around n.HeadingAtx row.first row.end (read_title bytes (row_title bytes row))) ending ending
     (fill-around bytes n.HeadingAtx row.first row.end (unread_title (row_title bytes row)) (read_title bytes (row_title bytes row)) refl
     (subst (λ (line : List ℕ). Fill bytes (unread_title (title_of line row.first)) (read_title bytes (title_of line row.first))) (sym is.is.text)
-    (fill-title bytes is.line row.first (heading-kind options is.line (sym is.is.kind ∙ e)))))
+    (fill-title bytes is.line row.first)))
     (fill-ending bytes n.LineEnding row refl)
 fill-single options bytes row is h BreakRow e =
     let ending : List Event = ending_events n.LineEnding row in
