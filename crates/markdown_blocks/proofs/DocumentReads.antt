@@ -9,7 +9,6 @@ use Rattle.std.proofs.lemmas.List.{length-drop}
 use Rattle.md_engine.specs.declared.configuration.ParseOptions.{ParseOptions}
 use Rattle.md_engine.specs.declared.event.Name.TheVariants.{ByteOrderMark}
 use Rattle.md_engine.specs.declared.event.Point.{Point}
-use Rattle.md_engine.specs.declared.resolve.Name.{Name as ResolveName}
 use Rattle.md_engine.specs.declared.state.Name.{Name as StateName}
 use Rattle.md_engine.specs.declared.state.Name.TheVariants as s
 use Rattle.md_engine.specs.declared.state.State.{State}
@@ -18,8 +17,7 @@ use Rattle.md_engine.specs.declared.tokenizer.Frame.{Frame}
 use Rattle.md_engine.specs.Found.{Found}
 use Rattle.md_engine.specs.Meaning.{Accepts, Cell, Follows, Here, Outcome, Refuses, comes_to, goes, here}
 use Rattle.md_engine.specs.Place.{first_point, seen_at}
-use Rattle.md_engine.specs.Run.{Flushes, IsEnd, Resolution, Resolved, Runs, goes_back, left, plain, reading}
-use Rattle.md_engine.specs.Run.Resolved.{More, NoneYet}
+use Rattle.md_engine.specs.Run.{Flushes, IsEnd, Resolution, Runs, goes_back, left, plain, reading}
 use Rattle.md_engine.specs.Run.Runs.{Stays, ThenCalls, ThenLeaves}
 use Rattle.md_engine.specs.Scheme.{stands}
 use Rattle.md_engine.specs.TextFeed.{text_feed}

@@ -4,7 +4,7 @@ use Rattle.std.specs.Prelude.{◌==◌, IsTrue, Option, Some, None}
 use Rattle.std.specs.List.{list_all}
 use Rattle.std.proofs.lemmas.Bool.{and_from, eq-eqb, and_right}
 use Rattle.std.proofs.lemmas.Bool.Decides.{nat_tests}
-use Rattle.std.proofs.lemmas.List.{drop-append-le, length-take-le, take-append-drop}
+use Rattle.std.proofs.lemmas.List.{length-take-le, take-append-drop}
 use Rattle.md_engine.specs.declared.configuration.ParseOptions.{ParseOptions}
 use Rattle.md_engine.specs.declared.event.Content.{Content}
 use Rattle.md_engine.specs.declared.event.Content.TheVariants as content
@@ -24,10 +24,8 @@ use Rattle.md_leaves.proofs.TitleLemmas.{title-fits, title-text}
 use Rattle.md_seam.specs.declared.inline.Chunk.{Chunk}
 use Rattle.md_seam.specs.declared.inline.PartKind.TheVariants.{Text}
 use Rattle.md_seam.specs.Inline.{are_lines, is_none, is_one_line, plain_events}
-use Rattle.md_seam.specs.Leaves.{is_rule}
 use Rattle.md_seam.specs.Nested.{around, exit, pair, is_enter}
 use Rattle.md_seam.specs.Places.{past_text, same_place}
-use Rattle.md_seam.specs.Rest.{is_blank, trim_start}
 use Rattle.md_seam.specs.Spelled.{role}
 use Rattle.md_seam.specs.Substituted.{Readings, Substituted, chunks_behind}
 use Rattle.md_seam.specs.Texts.{split_lines}
@@ -37,7 +35,7 @@ use Rattle.md_seam.proofs.TextsLemmas.{Ending, EndsBefore, LineFeed, NoEnding, R
 use Rattle.markdown_blocks.specs.FlowReads.{NoHeading, NoText}
 use Rattle.markdown_blocks.specs.Rows.{BlankRow, BreakRow, Group, HeadingRow, Lines, Row, RowKind, Single, TextRow, behind_row, chunks_of, ending_events, group_events, groups, groups_events, last_row, line_kind, onto_groups, paragraph_events, read_text, read_title, row_events, row_events_by, row_title, rows_events, single_events_by}
 use Rattle.markdown_blocks.specs.Unread.{joined_groups, linked, titled_group, titled_groups, titled_row_by, unread_group, unread_groups, unread_paragraph}
-use Rattle.markdown_blocks.proofs.FeedLines.{past_text-whole, slice-front, slice-inside}
+use Rattle.markdown_blocks.proofs.FeedLines.{past_text-whole, slice-inside}
 use Rattle.markdown_blocks.proofs.JoinedLemmas.{EachEnds, EachNoContent, HasNoContent, behind-is, ending-is, ending-no_content, events-no_content, joined-rows, no_content-unwanted}
 use Rattle.markdown_blocks.proofs.LineKinds.{heading-kind, no_ending-parts, no_ending-drop}
 use Rattle.markdown_blocks.proofs.RowFacts.{AreRows, IsEnding, IsRow, first-is, line-text}

@@ -10,8 +10,8 @@ use Rattle.md_engine.specs.declared.event.Point.{Point}
 use Rattle.md_leaves.specs.HeadingTitle.{Title, text_of, title_of}
 use Rattle.md_seam.specs.declared.inline.Chunk.{Chunk}
 use Rattle.md_seam.specs.Inline.{line_end, pair_unless_empty, plain_chunk, plain_chunks, together}
-use Rattle.md_seam.specs.Nested.{Balanced, Forward, Nested, around, enter, exit, last_point, pair}
-use Rattle.md_seam.specs.Places.{at_or_before, first_point, past_text, same_place}
+use Rattle.md_seam.specs.Nested.{Balanced, Forward, around, enter, exit, last_point, pair}
+use Rattle.md_seam.specs.Places.{at_or_before, past_text, same_place}
 use Rattle.md_seam.proofs.InlineLemmas.{balanced-pair, end-before, end-behind, before-text}
 use Rattle.md_seam.proofs.NestedLemmas.{at_or_before-refl, at_or_before-trans, balanced-append, balanced-around, balanced-insert, balanced-none, forward-append, forward-from}
 use Rattle.md_seam.proofs.TextsLemmas.{Both, Ending, LineFeed, Return, ending_bytes}

@@ -27,7 +27,7 @@ use Rattle.md_seam.specs.Spaces.{small_indent}
 use Rattle.md_seam.specs.Texts.{split_lines}
 use Rattle.md_seam.proofs.AheadLemmas.{none-end, white-line_end}
 use Rattle.md_seam.proofs.InlineLemmas.{past-index, same-refl, before-text, past_text-append}
-use Rattle.md_seam.proofs.NestedLemmas.{at_or_before-refl, at_or_before-trans, balanced-append, balanced-none, forward-append, forward-from, last_point-append}
+use Rattle.md_seam.proofs.NestedLemmas.{at_or_before-refl, at_or_before-trans, balanced-append, balanced-none}
 use Rattle.md_seam.proofs.SpelledLemmas.{Quiet, Roles, roles-append}
 use Rattle.md_seam.proofs.TextsLemmas.{Both, Ending, EndsBefore, LineFeed, NoEnding, Return, ending_bytes, split-line, split-next}
 use Rattle.markdown_blocks.specs.FlowReads.{text_cells, text_rows, text_setting}

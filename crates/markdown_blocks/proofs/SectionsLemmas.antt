@@ -1,11 +1,10 @@
 -- What the blocks of lines are made of.
-use Rattle.std.proofs.Common.{◌≡◌, ℕ, ◌+◌, Bool, true, false, cond, ◌&&◌, List, [], ◌∷◌, ◌++◌, drop, refl, ap, ◌∙◌, arith}
+use Rattle.std.proofs.Common.{◌≡◌, ℕ, ◌+◌, true, ◌&&◌, List, [], ◌∷◌, ◌++◌, drop, refl, ap, ◌∙◌, arith}
 use Rattle.std.specs.Prelude.{nat_le}
 use Rattle.std.proofs.lemmas.Bool.{and_from, and_parts}
 use Rattle.md_engine.specs.declared.configuration.ParseOptions.{ParseOptions}
 use Rattle.md_leaves.specs.HeadingRule.{is_heading}
-use Rattle.md_seam.specs.Rest.{is_blank, is_parted, run_len, trim_start}
-use Rattle.md_seam.specs.Leaves.{is_rule}
+use Rattle.md_seam.specs.Rest.{is_parted, run_len, trim_start}
 use Rattle.md_seam.specs.State.{then_block}
 use Rattle.md_seam.specs.Tree.{Block, Blocks, Break, End, More}
 use Rattle.markdown_blocks.specs.Outlined.{are_shallow, is_shallow}

@@ -1,10 +1,9 @@
 -- What the events of a heading are read as: its markers, and its text.
-use Rattle.std.proofs.Common.{◌≡◌, ℕ, zero, suc, ◌+◌, ◌-◌, ◌≤◌, Bool, true, false, cond, ◌&&◌, List, [], ◌∷◌, ◌++◌, length, take, drop, reverse, slice_range, refl, ap, sym, ◌∙◌, subst, drop-drop, arith}
+use Rattle.std.proofs.Common.{◌≡◌, ℕ, zero, suc, ◌+◌, ◌≤◌, Bool, true, false, cond, ◌&&◌, List, [], ◌∷◌, ◌++◌, length, take, drop, reverse, slice_range, refl, ap, sym, ◌∙◌, subst, drop-drop, arith}
 use Rattle.std.specs.Prelude.{◌==◌, nat_le, Option, Some, None, option_map}
 use Rattle.std.specs.List.{prefix_len}
 use Rattle.std.proofs.lemmas.Bool.{and_parts}
 use Rattle.std.proofs.lemmas.Bool.Decides.{nat_tests}
-use Rattle.std.proofs.lemmas.List.{drop-take, length-take-le}
 use Rattle.std.proofs.lemmas.List.Folds.{length-prefix_len}
 use Rattle.md_engine.specs.declared.configuration.ParseOptions.{ParseOptions}
 use Rattle.md_engine.specs.declared.event.Event.{Event}
@@ -25,7 +24,7 @@ use Rattle.md_seam.specs.Spelled.{AsHeading, AsMarkers, OfHeadingAtx, OpenLeaf, 
 use Rattle.md_seam.specs.Texts.{split_lines, trim_each}
 use Rattle.md_seam.specs.Tree.{Heading}
 use Rattle.md_seam.proofs.BlocksLemmas.{read-leaf, read-told}
-use Rattle.md_seam.proofs.InlineLemmas.{past-index, past-vs}
+use Rattle.md_seam.proofs.InlineLemmas.{past-index}
 use Rattle.md_seam.proofs.SpelledLemmas.{Between, Quiet, QuietOrEnding, Roles, read-from, read-quiet, text-inline, text_after}
 use Rattle.md_seam.proofs.TextsLemmas.{NoEnding, split-line}
 use Rattle.markdown_blocks.specs.Rows.{Row, read_text, read_title, row_title}

@@ -10,7 +10,7 @@ use Rattle.md_seam.specs.declared.inline.PartKind.TheVariants.{Text}
 use Rattle.md_seam.specs.Inline.{plain_chunks, plain_events, together}
 use Rattle.md_seam.specs.Nested.{around}
 use Rattle.md_seam.specs.Rest.{trim_start}
-use Rattle.md_seam.specs.Spelled.{IsEnding, IsQuiet, Reading, Role, add_block, begun, read, role, spelled, text_to, unread}
+use Rattle.md_seam.specs.Spelled.{IsQuiet, Reading, Role, add_block, begun, read, role, spelled, text_to, unread}
 use Rattle.md_seam.specs.Texts.{trim_each}
 use Rattle.md_seam.specs.Tree.{Block, Blocks, Break, End, More, Paragraph}
 use Rattle.md_seam.proofs.BlocksLemmas.{read-break, read-paragraph}

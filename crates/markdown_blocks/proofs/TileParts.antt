@@ -1,5 +1,5 @@
 -- The text parts of a text, before they are read, stand as its tiling asks: one chunk a line, and no chunk elsewhere.
-use Rattle.std.proofs.Common.{◌≡◌, ◌≢◌, ℕ, zero, suc, ◌+◌, Bool, true, false, cond, nat_eq, not, ◌&&◌, List, [], ◌∷◌, ◌++◌, length, drop, take, refl, ap, sym, ◌∙◌, subst, append_assoc, append-nil, arith}
+use Rattle.std.proofs.Common.{◌≡◌, ◌≢◌, ℕ, ◌+◌, Bool, true, false, cond, not, ◌&&◌, List, [], ◌∷◌, ◌++◌, length, drop, take, refl, ap, sym, ◌∙◌, subst, append_assoc, append-nil, arith}
 use Rattle.std.specs.Prelude.{◌==◌, IsTrue, Option, Some, None}
 use Rattle.std.specs.List.{list_all}
 use Rattle.std.proofs.lemmas.Bool.{and_from}
@@ -12,29 +12,22 @@ use Rattle.md_engine.specs.declared.event.Link.{Link}
 use Rattle.md_engine.specs.declared.event.Name.{Name}
 use Rattle.md_engine.specs.declared.event.Name.TheVariants as n
 use Rattle.md_engine.specs.declared.event.Point.{Point}
-use Rattle.md_engine.specs.Meaning.{Cell}
 use Rattle.md_content.specs.Paragraph.{text_link}
-use Rattle.md_leaves.specs.BreakRule.{Apart, Marks, Run, White, runs}
 use Rattle.md_leaves.specs.Heading.{heading_link}
 use Rattle.md_leaves.specs.HeadingRule as heading
 use Rattle.md_leaves.specs.HeadingText.{linked_text}
-use Rattle.md_leaves.specs.HeadingTitle.{Title, front_len, line_runs, text_of, title_of, unread_title}
+use Rattle.md_leaves.specs.HeadingTitle.{Title, front_len, text_of, title_of, unread_title}
 use Rattle.md_seam.specs.declared.inline.Chunk.{Chunk}
 use Rattle.md_seam.specs.declared.inline.PartKind.{PartKind}
 use Rattle.md_seam.specs.declared.inline.PartKind.TheVariants.{Text}
-use Rattle.md_seam.specs.Ahead.{begins_white, from_ending, line_cells, line_end, white_end, white_rest}
-use Rattle.md_seam.specs.Inline.{Piece, are_lines, pieces, pieces_from}
+use Rattle.md_seam.specs.Inline.{Piece, are_lines, pieces}
 use Rattle.md_seam.specs.Nested.{Balanced, Forward, Nested, around, enter, enter_link, exit, pair, is_exit}
-use Rattle.md_seam.specs.Places.{at_or_before, first_point, past_byte}
+use Rattle.md_seam.specs.Places.{at_or_before, first_point}
 use Rattle.md_seam.specs.Preamble.{has_mark}
-use Rattle.md_seam.specs.Rest.{trim_start}
-use Rattle.md_seam.specs.Spaces.{small_indent}
-use Rattle.md_seam.specs.Spelled.{role}
 use Rattle.md_seam.specs.Tiles.{chunks, chunks_stand, inside_part, is_part, is_white_piece, part_end, part_kind, part_stands, parts_stand, stands_in_part}
 use Rattle.md_seam.proofs.NestedLemmas.{at_or_before-refl, balanced-none}
-use Rattle.md_seam.proofs.SpelledLemmas.{Quiet, Roles}
 use Rattle.markdown_blocks.specs.Document.{body_point, mark_end, mark_events}
-use Rattle.markdown_blocks.specs.Rows.{BlankRow, BreakRow, Group, HeadingRow, Lines, Row, RowKind, Single, TextRow, behind_row, chunks_of, ending_events, first_cell, groups, inside_of, last_row, onto_groups, row_kind, row_line, row_title, rows_at}
+use Rattle.markdown_blocks.specs.Rows.{BlankRow, BreakRow, Group, HeadingRow, Lines, Row, RowKind, Single, TextRow, behind_row, chunks_of, ending_events, groups, last_row, row_line, row_title}
 use Rattle.markdown_blocks.specs.Unread.{linked, titled_group, titled_groups, titled_row_by, unread_paragraph}
 use Rattle.markdown_blocks.proofs.GroupLemmas.{AreGroups, IsParagraph, IsSingle, groups-are, paragraph-lines, title-lines}
 use Rattle.markdown_blocks.proofs.JoinedLemmas.{EachNoContent}
@@ -43,7 +36,7 @@ use Rattle.markdown_blocks.proofs.NestedRows.{ByLines, Nested_in, Onward, Ordere
 use Rattle.markdown_blocks.proofs.PartFacts.{AreUnlinked, EachUnlinked, IsUnlinked, NoParts, groups-unlinked, linked-chunks, linked-no_parts, part-inside, pieces-behind, quiet-no_parts, runs-no_parts}
 use Rattle.markdown_blocks.proofs.RowFacts.{AreRows, IsInside, IsRow}
 use Rattle.markdown_blocks.proofs.TitleFacts.{NoLinks, back-unlinked, front-unlinked}
-use Rattle.markdown_blocks.proofs.TitleNests.{either, text-order, text_begin, text_end}
+use Rattle.markdown_blocks.proofs.TitleNests.{text-order, text_begin, text_end}
 
 -- Events outside of text parts.
 

@@ -1,5 +1,5 @@
 -- The events of a text are its block list, with what the plain layer reads in the place of each chunk.
-use Rattle.std.proofs.Common.{◌≡◌, ◌≢◌, ℕ, zero, suc, ◌+◌, Bool, true, false, cond, ◌&&◌, ◌==◌, List, [], ◌∷◌, ◌++◌, length, take, drop, refl, ap, sym, ◌∙◌, subst, append_assoc, append-nil}
+use Rattle.std.proofs.Common.{◌≡◌, ◌≢◌, ℕ, suc, ◌+◌, Bool, true, false, cond, ◌&&◌, ◌==◌, List, [], ◌∷◌, ◌++◌, length, take, drop, refl, ap, sym, ◌∙◌, subst, append_assoc, append-nil}
 use Rattle.std.specs.Prelude.{IsTrue, Option, Some, None}
 use Rattle.std.proofs.lemmas.Bool.{and_from}
 use Rattle.md_engine.specs.declared.configuration.ParseOptions.{ParseOptions}
@@ -12,32 +12,25 @@ use Rattle.md_engine.specs.Meaning.{Cell}
 use Rattle.md_engine.specs.Place.{first_point}
 use Rattle.md_engine.specs.TextFeed.{text_feed}
 use Rattle.md_content.specs.Paragraph.{text_link}
-use Rattle.md_leaves.specs.BreakRule as break
 use Rattle.md_leaves.specs.Heading.{heading_link}
-use Rattle.md_leaves.specs.HeadingRule.{Apart, Hashes, Run, Text as TextRun, White, begun, closes, goes_on, is_heading, opens}
+use Rattle.md_leaves.specs.HeadingRule.{Apart}
 use Rattle.md_leaves.specs.HeadingText.{linked_text}
-use Rattle.md_leaves.specs.HeadingTitle.{Title, chunk_unless_empty, front_len, line_runs, text_of, title_of, unread_title}
+use Rattle.md_leaves.specs.HeadingTitle.{Title, chunk_unless_empty, front_len, text_of, title_of, unread_title}
 use Rattle.md_seam.specs.declared.inline.Chunk.{Chunk}
 use Rattle.md_seam.specs.declared.inline.PartKind.{PartKind}
 use Rattle.md_seam.specs.declared.inline.PartKind.TheVariants.{Text}
-use Rattle.md_seam.specs.Ahead.{begins_white, from_ending, line_cells, line_end, white_end, white_rest}
-use Rattle.md_seam.specs.Inline.{Fills, Part, in_order, pieces, plain_chunk, plain_chunks, plain_events, together}
-use Rattle.md_seam.specs.Nested.{around, enter, enter_link, exit, pair}
-use Rattle.md_seam.specs.Places.{at_or_before, past_byte}
+use Rattle.md_seam.specs.Inline.{Fills, Part, in_order, pieces, plain_chunk, plain_chunks, together}
+use Rattle.md_seam.specs.Nested.{around, enter, exit, pair}
+use Rattle.md_seam.specs.Places.{at_or_before}
 use Rattle.md_seam.specs.Preamble.{has_mark}
-use Rattle.md_seam.specs.Rest.{trim_start}
-use Rattle.md_seam.specs.Spaces.{small_indent}
-use Rattle.md_seam.specs.Spelled.{Purpose, Tells, role}
-use Rattle.md_seam.specs.Tiles.{EachRead, chunks, filled, filled_from, first_list, further_lists, inside_part, is_part, part_at, part_kind, part_of, parts}
-use Rattle.md_seam.proofs.FilledLemmas.{part-tells}
+use Rattle.md_seam.specs.Tiles.{EachRead, chunks, filled, filled_from, first_list, further_lists, part_at, part_kind, part_of, parts}
 use Rattle.md_seam.proofs.InlineLemmas.{plain-fills, before-text}
 use Rattle.md_seam.proofs.NestedLemmas.{at_or_before-refl, at_or_before-trans}
 use Rattle.md_seam.proofs.NestsLemmas.{part-none, together-append}
-use Rattle.md_seam.proofs.SpelledLemmas.{Quiet, Roles}
 use Rattle.markdown_blocks.specs.Document.{body_point, mark_end, mark_events}
 use Rattle.markdown_blocks.specs.FlowReads.{text_cells, text_rows}
 use Rattle.markdown_blocks.specs.Parsed.{reads_plain}
-use Rattle.markdown_blocks.specs.Rows.{BlankRow, BreakRow, Group, HeadingRow, Lines, Row, RowKind, Single, TextRow, behind_row, chunks_of, ending_events, first_cell, group_events, groups, groups_events, inside_of, last_row, onto_groups, read_text, read_title, row_kind, row_title, rows_at, single_events_by}
+use Rattle.markdown_blocks.specs.Rows.{BlankRow, BreakRow, Group, HeadingRow, Lines, Row, RowKind, Single, TextRow, behind_row, chunks_of, ending_events, group_events, groups, groups_events, last_row, read_text, read_title, row_title, single_events_by}
 use Rattle.markdown_blocks.specs.Unread.{linked, titled_group, titled_groups, titled_row_by, unread_paragraph}
 use Rattle.markdown_blocks.proofs.GroupLemmas.{AreGroups, IsParagraph, IsSingle, groups-are}
 use Rattle.markdown_blocks.proofs.JoinedLemmas.{EachNoContent, behind-is, rows_at-no_content}
@@ -45,7 +38,7 @@ use Rattle.markdown_blocks.proofs.NestedRows.{ending-order}
 use Rattle.markdown_blocks.proofs.PartFacts.{AreUnlinked, EachUnlinked, IsUnlinked, NoParts, groups-unlinked, kind-no_part, linked-chunks, linked-no_parts, part-inside, quiet-no_parts, rows_at-unlinked, runs-no_parts}
 use Rattle.markdown_blocks.proofs.RowFacts.{AreRows, IsInside, IsRow}
 use Rattle.markdown_blocks.proofs.TitleFacts.{NoLinks, back-unlinked, front-unlinked}
-use Rattle.markdown_blocks.proofs.TitleNests.{blank-no_heading, break-no_heading, either, text-order, text_begin, text_end}
+use Rattle.markdown_blocks.proofs.TitleNests.{blank-no_heading, break-no_heading, text-order, text_begin, text_end}
 
 -- events that are those of a block list, with what is read in the place of each chunk
 pub record IsFilled (bytes : List ℕ) (blocks events : List Event) : Type 0 where

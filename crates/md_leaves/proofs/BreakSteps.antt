@@ -1,5 +1,5 @@
 -- Each state of a thematic break takes one step of its rule.
-use Rattle.std.proofs.Common.{◌≡◌, ℕ, ◌≤◌, Bool, true, false, cond, ◌&&◌, nat_eq, List, [], ◌∷◌, ◌++◌, length, Option, Some, None, refl, sym, ◌∙◌, ap, ap₂, arith, append_assoc, append-nil, add-zero}
+use Rattle.std.proofs.Common.{◌≡◌, ℕ, Bool, true, false, ◌&&◌, nat_eq, List, [], ◌∷◌, ◌++◌, length, Option, Some, None, refl, sym, ◌∙◌, ap, arith, append-nil, add-zero}
 use Rattle.std.specs.Prelude.{nat_le}
 use Rattle.std.proofs.lemmas.Bool.{eqb-true}
 use Rattle.md_engine.specs.declared.configuration.ParseOptions.{ParseOptions}
@@ -16,12 +16,12 @@ use Rattle.md_engine.specs.World.{World, after}
 use Rattle.md_engine.proofs.StepOf.{Sees, ahead, begins, cell_here, moves, passes}
 use Rattle.md_leaves.specs.Break.{at_break_code, before_code, is_marker, sequence_code, start_code, without_marker}
 use Rattle.md_leaves.specs.BreakRule.{Apart, HasBreak, Marks, White, at_break, before_marker, break_at, in_break}
-use Rattle.md_leaves.proofs.BreakLemmas.{apart-mark, before-mark, before-other, here_after, in_break-mark, in_break-other, marker-no_ending, marker-no_white, marks-at_none, marks-end, marks-none, marks-white, white-run, behind-joined}
+use Rattle.md_leaves.proofs.BreakLemmas.{apart-mark, before-mark, before-other, in_break-mark, in_break-other, marker-no_ending, marker-no_white, marks-at_none, marks-end, marks-none, marks-white, white-run, behind-joined}
 use Rattle.md_leaves.proofs.Goods.{marked-calm}
-use Rattle.md_seam.specs.Ahead.{begins_white, white_end, white_rest}
+use Rattle.md_seam.specs.Ahead.{begins_white, white_rest}
 use Rattle.md_seam.specs.Nested.{enter, exit}
 use Rattle.md_seam.specs.Rest.{is_white}
-use Rattle.md_seam.specs.Spaces.{IsRest, any_size, calmed, ends_line, is_current, sees_white, small_indent}
+use Rattle.md_seam.specs.Spaces.{IsRest, any_size, ends_line, is_current, sees_white, small_indent}
 use Rattle.md_seam.proofs.AheadLemmas.{small-some}
 use Rattle.md_seam.proofs.WhiteSteps.{begins-seen, behind_white, white-tried}
 

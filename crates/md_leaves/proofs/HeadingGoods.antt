@@ -7,14 +7,12 @@ use Rattle.md_engine.specs.declared.event.Name.TheVariants as parts
 use Rattle.md_engine.specs.declared.resolve.Name.{Name as ResolveName}
 use Rattle.md_engine.specs.declared.state.Name.{Name as StateName}
 use Rattle.md_engine.specs.declared.state.Name.TheVariants as n
-use Rattle.md_engine.specs.declared.state.State.TheVariants.{Next, Ok}
 use Rattle.md_engine.specs.declared.tokenizer.Scratch.{Scratch}
-use Rattle.md_engine.specs.Scheme.{Ends, Fits, Good, Grown, Scheme, Spot, after_all, seen, spot, spot_at, state_number}
-use Rattle.md_engine.specs.World.{Setting, World, after}
+use Rattle.md_engine.specs.Scheme.{Ends, Fits, Grown, Scheme, Spot, after_all, seen, spot, spot_at}
+use Rattle.md_engine.specs.World.{Setting, World}
 use Rattle.md_engine.proofs.Falls.{later, later_at, seen_grows}
 use Rattle.md_engine.proofs.Local.{accepts, consumes, refuses, turns}
-use Rattle.md_engine.proofs.Points.{grown-same, stays, takes}
-use Rattle.md_engine.proofs.Powers.{weighs}
+use Rattle.md_engine.proofs.Points.{stays, takes}
 use Rattle.md_leaves.specs.Bom as bom
 use Rattle.md_leaves.specs.Bom.{bom_ready, bom_scheme, mark_at}
 use Rattle.md_leaves.specs.Heading.{at_break_code, before_code, behind_part, data_code, heading_link, heading_ready, heading_scheme, sees_text, sequence_further_code, sequence_open_code, start_code, without_size}

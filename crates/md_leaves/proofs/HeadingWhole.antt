@@ -1,6 +1,6 @@
 -- A heading takes a whole line, or refuses it.
-use Rattle.std.proofs.Common.{◌≡◌, ℕ, zero, suc, ◌+◌, Bool, true, false, cond, ◌&&◌, ◌||◌, List, [], ◌∷◌, ◌++◌, drop, Option, Some, None, refl, sym, ◌∙◌, ap, ap₂, arith, append_assoc}
-use Rattle.std.specs.Prelude.{not, nat_le}
+use Rattle.std.proofs.Common.{◌≡◌, ℕ, ◌+◌, Bool, true, false, cond, ◌&&◌, List, [], ◌∷◌, ◌++◌, drop, Some, None, refl, sym, ◌∙◌, ap, ap₂, arith, append_assoc}
+use Rattle.std.specs.Prelude.{nat_le}
 use Rattle.std.specs.Option.{is_some}
 use Rattle.std.proofs.lemmas.Bool.{and_parts}
 use Rattle.md_engine.specs.declared.configuration.ParseOptions.{ParseOptions}
@@ -9,13 +9,13 @@ use Rattle.md_engine.specs.declared.event.Name.TheVariants.{HeadingAtx, SpaceOrT
 use Rattle.md_engine.specs.declared.event.Point.{Point}
 use Rattle.md_engine.specs.declared.tokenizer.Scratch.{Scratch}
 use Rattle.md_engine.specs.Meaning.{Accepts, Cell, Here, Outcome, Refuses}
-use Rattle.md_leaves.specs.HeadingRule.{Apart, before_opening, heading_at, heading_inside, in_heading, is_heading, is_heading_line, is_opening, runs}
+use Rattle.md_leaves.specs.HeadingRule.{Apart, heading_at, heading_inside, in_heading, is_heading, is_heading_line, runs}
 use Rattle.md_leaves.proofs.HeadingLemmas.{before-is, before-no}
 use Rattle.md_leaves.proofs.HeadingSteps.{at-none, at-off, at-white}
 use Rattle.md_seam.specs.Ahead.{begins_white, from_ending, line_bytes, line_cells, line_end, white_end, white_rest}
 use Rattle.md_seam.specs.Leaves as leaves
-use Rattle.md_seam.specs.Nested.{around, enter, exit, pair}
-use Rattle.md_seam.specs.Rest.{Rest, has_small_indent, is_white, run_len, is_parted, trim_start}
+use Rattle.md_seam.specs.Nested.{around, enter, pair}
+use Rattle.md_seam.specs.Rest.{Rest, has_small_indent, run_len, is_parted, trim_start}
 use Rattle.md_seam.specs.Spaces.{calmed, small_indent}
 use Rattle.md_seam.proofs.AheadLemmas.{none-end, none-rest, white-ending, white-line_end}
 use Rattle.md_seam.proofs.WhiteSteps.{behind_white}
