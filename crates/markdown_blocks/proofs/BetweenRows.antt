@@ -1,11 +1,12 @@
 -- The events of a text stand between its characters, where only headings and breaks are on.
-use Rattle.std.proofs.Common.{◌≡◌, ◌≢◌, ℕ, zero, suc, ◌+◌, ◌-◌, ◌<◌, ◌≤◌, Bool, true, false, cond, ◌&&◌, ◌||◌, List, [], ◌∷◌, ◌++◌, length, get_or, take, drop, slice_range, refl, ap, sym, ◌∙◌, subst, append_assoc, drop-drop, arith}
+use Rattle.std.proofs.Common.{◌≡◌, ◌≢◌, ℕ, suc, ◌+◌, ◌-◌, ◌<◌, ◌≤◌, Bool, true, false, cond, ◌&&◌, ◌||◌, List, [], ◌∷◌, ◌++◌, length, get_or, take, drop, slice_range, refl, ap, sym, ◌∙◌, subst, append_assoc, drop-drop, arith}
 use Rattle.std.specs.Prelude.{◌==◌, IsTrue, not, nat_lt, nat_le, slice_index, Option, Some, None}
-use Rattle.std.specs.List.{count_by, list_all, prefix_len}
+use Rattle.std.specs.List.{count_by, list_all, prefix_len, AllPass}
 use Rattle.std.proofs.lemmas.Bool.{and_parts, and_from, eqb-true}
 use Rattle.std.proofs.lemmas.Bool.Decides.{nat_tests}
 use Rattle.std.proofs.lemmas.List.{get_or-drop, get_or-take, take-append-drop}
-use Rattle.std.proofs.lemmas.List.Sums.{take_while-cons}
+use Rattle.std.proofs.lemmas.List.Sums.{take_while-cons, AllPass-from_list_all}
+use Rattle.std.proofs.lemmas.List.Elements.{All-get_or}
 use Rattle.md_engine.specs.declared.configuration.ParseOptions.{ParseOptions}
 use Rattle.md_engine.specs.declared.event.Event.{Event}
 use Rattle.md_engine.specs.declared.event.Name.{Name}
@@ -14,12 +15,14 @@ use Rattle.md_engine.specs.declared.event.Point.{Point}
 use Rattle.md_leaves.specs.Heading.{heading_link}
 use Rattle.md_leaves.specs.HeadingRule.{Apart, Hashes, Run, Text, White, begun, closes, goes_on, is_heading, opens}
 use Rattle.md_leaves.specs.HeadingTitle.{Title, chunk_unless_empty, front_len, line_runs, text_of, title_of}
+use Rattle.md_leaves.proofs.TitleLemmas.{behind-marks, front-marks, is_mark}
+use Rattle.md_leaves.proofs.TitleRuns.{pass-first, pass-rest}
 use Rattle.md_seam.specs.declared.inline.Chunk.{Chunk}
 use Rattle.md_seam.specs.Inline.{line_end, pair_unless_empty, plain_chunk, plain_chunks, together}
 use Rattle.md_seam.specs.Leaves.{is_rule, is_rule_marker}
 use Rattle.md_seam.specs.Lines.{is_ending, without_ending}
 use Rattle.md_seam.specs.Nested.{Forward, around, enter, enter_link, exit, last_point, pair}
-use Rattle.md_seam.specs.Places.{at_or_before, first_point, past_byte, past_text, same_place}
+use Rattle.md_seam.specs.Places.{at_or_before, past_byte, past_text, same_place}
 use Rattle.md_seam.specs.Rest.{is_blank, is_white, trim_start}
 use Rattle.md_seam.proofs.InlineLemmas.{past-index}
 use Rattle.md_seam.proofs.NestedLemmas.{at_or_before-trans, forward-last}
@@ -29,19 +32,14 @@ use Rattle.markdown_blocks.specs.Between.{is_between}
 use Rattle.markdown_blocks.specs.Rows.{BlankRow, BreakRow, Group, HeadingRow, Lines, Row, RowKind, Single, TextRow, behind_row, chunks_of, ending_events, groups, groups_events, last_row, line_kind, onto_groups, read_text, read_title, row_title, single_events_by}
 use Rattle.md_seam.proofs.FeedLines.{at-next, drop-past, past-next, slice-front}
 use Rattle.markdown_blocks.proofs.JoinedLemmas.{behind-is, behind-none}
+use Rattle.markdown_blocks.proofs.LineKinds.{no_ending-parts}
 use Rattle.markdown_blocks.proofs.RowFacts.{AreRows, IsEnding, IsInside, IsRow, line-text}
 use Rattle.markdown_blocks.proofs.TitleNests.{back_bytes, blank-no_heading, break-no_heading, line-end-is, text-end-is, text_begin, text_bytes, text_end}
-use Rattle.markdown_blocks.proofs.TitlePlaces.{AreEdges, back-edges, front-edges, is_edge}
 
 -- Bytes of ASCII.
 
 abbrev is_low : ℕ → Bool
 is_low b = nat_lt b 128
-
-all-at : (test : ℕ → Bool) (xs : List ℕ) (k d : ℕ) → list_all test xs ≡ true → k < length xs → test (get_or xs k d) ≡ true
-all-at test [] k d h l = absurd (omega arith)
-all-at test (x ∷ xs) zero d h l = let parts : (test x ≡ true) × (list_all test xs ≡ true) = and_parts (test x) (list_all test xs) h in parts.0
-all-at test (x ∷ xs) (suc k) d h l = let parts : (test x ≡ true) × (list_all test xs ≡ true) = and_parts (test x) (list_all test xs) h in all-at test xs k d parts.1 (omega arith)
 
 all-more : (test next : ℕ → Bool) (xs : List ℕ) → ((x : ℕ) → test x ≡ true → next x ≡ true) → list_all test xs ≡ true → list_all next xs ≡ true
 all-more test next [] more h = refl
@@ -52,8 +50,8 @@ all-more test next (x ∷ xs) more h =
 white-low : (b : ℕ) → is_white b ≡ true → is_low b ≡ true
 white-low b h = grind (arith, nat_tests)
 
-edge-low : (b : ℕ) → is_edge b ≡ true → is_low b ≡ true
-edge-low b h = grind (arith, nat_tests)
+mark-low : (b : ℕ) → is_mark b ≡ true → is_low b ≡ true
+mark-low b h = grind (arith, nat_tests)
 
 hash-low : (b : ℕ) → (b == 35) ≡ true → is_low b ≡ true
 hash-low b h = grind (arith, nat_tests)
@@ -120,7 +118,7 @@ low-at bytes line a e i text size low h k =
     ∙ sym (get_or-drop a bytes (i - a) 0)
     ∙ sym (get_or-take (e - a) (drop a bytes) (i - a) 0 (omega arith))
     ∙ ap (λ (l : List ℕ). get_or l (i - a) 0) text in
-    subst (λ (b : ℕ). is_low b ≡ true) (sym reads) (all-at is_low line (i - a) 0 low (omega arith))
+    subst (λ (b : ℕ). is_low b ≡ true) (sym reads) (All-get_or (λ (b : ℕ). is_low b ≡ true) line (i - a) 0 (omega arith) (AllPass-from_list_all is_low line low))
 
 -- an end of the text is such a place
 between-end : (bytes : List ℕ) (i : ℕ) → i ≡ length bytes → is_between bytes i ≡ true
@@ -344,29 +342,22 @@ runs-between bytes run (b ∷ xs) rest p text behind end =
         (between-append bytes (closes run p) (opens (begun b) p) (closes-between bytes run p at) (opens-between bytes (begun b) p at)) next
 
 -- behind and in front of a piece of spaces, tabs and `#`
-behind-edges : (bytes xs rest : List ℕ) (p : Point) → drop p.index bytes ≡ xs ++ rest → AreEdges xs → is_between bytes p.index ≡ true → is_between bytes (past_text xs p).index ≡ true
-behind-edges bytes [] rest p text edges h = h
-behind-edges bytes (b ∷ xs) rest p text edges h =
-    let parts : (is_edge b ≡ true) × AreEdges xs = and_parts (is_edge b) (list_all is_edge xs) edges in
+between-past_marks : (bytes xs rest : List ℕ) (p : Point) → drop p.index bytes ≡ xs ++ rest → AllPass is_mark xs → is_between bytes p.index ≡ true → is_between bytes (past_text xs p).index ≡ true
+between-past_marks bytes [] rest p text marks h = h
+between-past_marks bytes (b ∷ xs) rest p text marks h =
     let here : slice_index bytes p.index ≡ b = at-next p.index bytes b (xs ++ rest) text in
-    behind-edges bytes xs rest (past_byte b p) (past-next p.index bytes b (xs ++ rest) text) parts.1
-    (between-behind bytes (p.index + 1) (low-behind bytes p.index b here (edge-low b parts.0)))
+    between-past_marks bytes xs rest (past_byte b p) (past-next p.index bytes b (xs ++ rest) text) (pass-rest is_mark b xs marks)
+    (between-behind bytes (p.index + 1) (low-behind bytes p.index b here (mark-low b (pass-first is_mark b xs marks))))
 
-before-edges : (bytes xs rest : List ℕ) (p : Point) → drop p.index bytes ≡ xs ++ rest → AreEdges xs → is_between bytes (past_text xs p).index ≡ true → is_between bytes p.index ≡ true
-before-edges bytes [] rest p text edges h = h
-before-edges bytes (b ∷ xs) rest p text edges h =
-    let parts : (is_edge b ≡ true) × AreEdges xs = and_parts (is_edge b) (list_all is_edge xs) edges in
+between-at_marks : (bytes xs rest : List ℕ) (p : Point) → drop p.index bytes ≡ xs ++ rest → AllPass is_mark xs → is_between bytes (past_text xs p).index ≡ true → is_between bytes p.index ≡ true
+between-at_marks bytes [] rest p text marks h = h
+between-at_marks bytes (b ∷ xs) rest p text marks h =
     let here : slice_index bytes p.index ≡ b = at-next p.index bytes b (xs ++ rest) text in
-    between-before bytes p.index (subst (λ (c : ℕ). is_low c ≡ true) (sym here) (edge-low b parts.0))
+    between-before bytes p.index (subst (λ (c : ℕ). is_low c ≡ true) (sym here) (mark-low b (pass-first is_mark b xs marks)))
 
 -- what stands behind a piece of a text
 behind-piece : (bytes xs rest : List ℕ) (p : Point) → drop p.index bytes ≡ xs ++ rest → drop (past_text xs p).index bytes ≡ rest
 behind-piece bytes xs rest p text = ap (λ (i : ℕ). drop i bytes) (past-index xs p) ∙ drop-past bytes p.index xs rest text
-
--- the parts of a line without endings have none
-no_ending-parts : (xs ys : List ℕ) → NoEnding (xs ++ ys) → NoEnding xs × NoEnding ys
-no_ending-parts [] ys h = (tt, h)
-no_ending-parts (b ∷ xs) ys h = let parts : NoEnding xs × NoEnding ys = no_ending-parts xs ys h.1 in ((h.0, parts.0), parts.1)
 
 -- the text of a heading
 text-between : (bytes text rest : List ℕ) (size : ℕ) (p q : Point) → drop p.index bytes ≡ text ++ rest → NoEnding text → q ≡ past_text text p → is_between bytes p.index ≡ true → is_between bytes q.index ≡ true →
@@ -406,8 +397,8 @@ title-between bytes line rest p stands none first last =
     let at_back : drop end.index bytes ≡ back ++ rest =
     ap (λ (q : Point). drop q.index bytes) (text-end-is line p) ∙ behind-piece bytes text (back ++ rest) begin at_text in
     let after : is_between bytes (past_text back end).index ≡ true = subst (λ (q : Point). is_between bytes q.index ≡ true) (line-end-is line p) last in
-    let starts : is_between bytes begin.index ≡ true = behind-edges bytes front ((text ++ back) ++ rest) p at_front (front-edges line) first in
-    let ends : is_between bytes end.index ≡ true = before-edges bytes back rest end at_back (back-edges line) after in
+    let starts : is_between bytes begin.index ≡ true = between-past_marks bytes front ((text ++ back) ++ rest) p at_front (front-marks line) first in
+    let ends : is_between bytes end.index ≡ true = between-at_marks bytes back rest end at_back (behind-marks line) after in
     let inner : NoEnding (text ++ back) = (no_ending-parts front (text ++ back) (subst NoEnding whole none)).1 in
     between-append bytes (title.front ++ read_text bytes title.text) title.back
     (between-append bytes title.front (read_text bytes title.text) (runs-between bytes Apart front ((text ++ back) ++ rest) p at_front first starts)
@@ -498,8 +489,3 @@ rows-between options bytes p (line ∷ next ∷ lines) (row ∷ below ∷ rows) 
       ended = subst (λ (q : Point). line_end bytes (record { first = row.first; after = q }) ≡ row.end) (sym behind) (line_end-ended options bytes line row are.2 is are.4);
     }) (rows-between options bytes are.2 (next ∷ lines) (below ∷ rows) after are.5) row.kind refl
 rows-between options bytes p lines rows from are = absurd are
-
--- The events of a text stand between its characters.
-pub between-rows : (options : ParseOptions) (bytes : List ℕ) (lines : List (List ℕ)) (rows : List Row) → AreRows options bytes first_point lines rows →
-    list_all (λ (e : Event). is_between bytes e.point.index) (groups_events bytes (groups rows)) ≡ true
-between-rows options bytes lines rows are = rows-between options bytes first_point lines rows refl are

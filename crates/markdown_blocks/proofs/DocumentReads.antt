@@ -9,7 +9,6 @@ use Rattle.std.proofs.lemmas.List.{length-drop}
 use Rattle.md_engine.specs.declared.configuration.ParseOptions.{ParseOptions}
 use Rattle.md_engine.specs.declared.event.Name.TheVariants.{ByteOrderMark}
 use Rattle.md_engine.specs.declared.event.Point.{Point}
-use Rattle.md_engine.specs.declared.resolve.Name.{Name as ResolveName}
 use Rattle.md_engine.specs.declared.state.Name.{Name as StateName}
 use Rattle.md_engine.specs.declared.state.Name.TheVariants as s
 use Rattle.md_engine.specs.declared.state.State.{State}
@@ -18,8 +17,7 @@ use Rattle.md_engine.specs.declared.tokenizer.Frame.{Frame}
 use Rattle.md_engine.specs.Found.{Found}
 use Rattle.md_engine.specs.Meaning.{Accepts, Cell, Follows, Here, Outcome, Refuses, comes_to, goes, here}
 use Rattle.md_engine.specs.Place.{first_point, seen_at}
-use Rattle.md_engine.specs.Run.{Flushes, IsEnd, Resolution, Resolved, Runs, goes_back, left, plain, reading}
-use Rattle.md_engine.specs.Run.Resolved.{More, NoneYet}
+use Rattle.md_engine.specs.Run.{Flushes, IsEnd, Resolution, Runs, goes_back, left, plain, reading}
 use Rattle.md_engine.specs.Run.Runs.{Stays, ThenCalls, ThenLeaves}
 use Rattle.md_engine.specs.Scheme.{stands}
 use Rattle.md_engine.specs.TextFeed.{text_feed}
@@ -41,6 +39,7 @@ use Rattle.markdown_blocks.specs.FlowRule.{tried}
 use Rattle.markdown_blocks.proofs.DocumentMeans.{document_means, document_stands}
 use Rattle.md_seam.proofs.FeedLines.{at-next, feed-next, feed-none, line-feed, past-next}
 use Rattle.markdown_blocks.proofs.MarkLemmas.{mark-bytes, mark-length}
+use Rattle.markdown_blocks.proofs.FlowReads.{resolved-none}
 
 -- The mark among the cells.
 
@@ -184,15 +183,6 @@ runs-resolvers is_end s w s' w' (ThenLeaves t v t' v' run l) =
 runs-resolvers is_end s w s' w' (ThenCalls t v t' v' run c) =
     ap (λ (x : World). x.resolvers) c.step.new_is ∙ went-resolvers c.name (reading v) ∙ runs-resolvers is_end s w t v run
 
--- so none runs
-snoc-none : (names : List ResolveName) (name : ResolveName) → names ++ name ∷ [] ≡ [] → ⊥
-snoc-none [] name e = cc
-snoc-none (x ∷ names) name e = cc
-
-none-ran : (R : Resolution) (w : World) (names : List ResolveName) (found : Found) (new : World) → Resolved R w names found new → names ≡ [] → new ≡ w
-none-ran R w names found new NoneYet e = refl
-none-ran R w names found new (More ns name f more v v' h step) e = absurd (snoc-none ns name e)
-
 -- What was read.
 
 -- a whole run that accepts ends in what is accepted
@@ -245,7 +235,7 @@ document-reads R bytes options end at found new small run f =
     none = runs-resolvers true end at f.end f.at f.runs ∙ runs-resolvers false (Next s.DocumentStart) w0 end at run
 
     same : new ≡ record f.at { resolvers = [] }
-    same = none-ran R (record f.at { resolvers = [] }) f.at.resolvers found new f.resolved none
+    same = (resolved-none R (record f.at { resolvers = [] }) f.at.resolvers found new f.resolved none).1
 
 -- the same for a tokenizer that is known to be fresh
 pub document-reads-from : (R : Resolution) (bytes : List ℕ) (options : ParseOptions) (start : World) (to : ℕ) (end : State) (at : World) (found : Found) (new : World) → start ≡ fresh bytes options first_point → to ≡ length bytes → length bytes < 2 ^ 61 →

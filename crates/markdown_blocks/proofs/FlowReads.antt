@@ -1,5 +1,5 @@
 -- What flow has read of a text, by what pushing and flushing it do.
-use Rattle.std.proofs.Common.{◌≡◌, ◌≢◌, ◌⊎◌, inl, inr, ◌^◌, ◌<◌, ℕ, zero, suc, ◌&&◌, Bool, true, false, nat_eq, nat_lt, nat_le, List, [], ◌∷◌, ◌++◌, length, take, Option, Some, None, refl, sym, ◌∙◌, ap, ap₂, subst, arith}
+use Rattle.std.proofs.Common.{◌≡◌, ◌≢◌, ◌⊎◌, inl, inr, ◌^◌, ◌<◌, ℕ, zero, suc, ◌&&◌, Bool, true, false, nat_eq, nat_lt, nat_le, List, [], ◌∷◌, ◌++◌, length, take, Option, Some, None, refl, sym, ◌∙◌, ap, ap₂, subst, arith, map}
 use Rattle.md_engine.specs.declared.configuration.ParseOptions.{ParseOptions}
 use Rattle.md_engine.specs.declared.event.Event.{Event}
 use Rattle.md_engine.specs.declared.event.Kind.{Kind}
@@ -39,7 +39,6 @@ use Rattle.markdown_blocks.specs.Rows.{HeadingRow, Row, RowKind, TextRow, ending
 use Rattle.markdown_blocks.specs.States.{FlowStep, flow_table_scheme, flow_went}
 use Rattle.markdown_blocks.proofs.FlowRows.{flow_at-rows}
 use Rattle.markdown_blocks.proofs.FlowRuns.{flow_outcome, flow_push}
-use Rattle.markdown_blocks.proofs.Settings.{NoLabels}
 
 -- Events without the end of a part.
 
@@ -295,7 +294,7 @@ snoc-same (m ∷ a) (n ∷ b) x y e =
     let same : m ≡ n = cc in
     (ap₂ (λ (p : ResolveName) (q : List ResolveName). p ∷ q) same rest.0, rest.1)
 
-resolved-none : (R : Resolution) (w : World) (names : List ResolveName) (found : Found) (new : World) → Resolved R w names found new → names ≡ [] → (found ≡ nothing) × (new ≡ w)
+pub resolved-none : (R : Resolution) (w : World) (names : List ResolveName) (found : Found) (new : World) → Resolved R w names found new → names ≡ [] → (found ≡ nothing) × (new ≡ w)
 resolved-none R w names found new NoneYet e = (refl, refl)
 resolved-none R w names found new (More ns name f more v v' h step) e = absurd (snoc-some ns name e)
 
@@ -466,7 +465,17 @@ reads-setting bytes options p found new h = onto h.sets ∙ go h.reads ∙ h.set
     go (inl none) = ap (λ (w : World). w.setting) none.same
     go (inr some) = ap (λ (w : World). w.setting) some.resolved.rest
 
--- and find no label
+-- nothing that is found is a label
+pub record NoLabels (found : Found) : Type 0 where
+  pub definitions : found.definitions ≡ []
+  pub footnotes : found.footnotes ≡ []
+
+-- a list is empty that is mapped to the empty one
+pub map-nil : {A B : Type 0} (f : A → B) (xs : List A) → map f xs ≡ [] → xs ≡ []
+map-nil f [] e = refl
+map-nil f (x ∷ xs) e = cc
+
+-- what flow finds is no label
 pub reads-labels : (bytes : List ℕ) (options : ParseOptions) (p : Point) (found : Found) (new : World) → FlowReads resolved_as bytes options p found new → NoLabels found
 reads-labels bytes options p found new h = onto h.sets (go h.reads)
   where

@@ -1,5 +1,6 @@
 -- What flow adds to the events: line by line, what the rows of the text say.
-use Rattle.std.proofs.Common.{◌≡◌, ℕ, zero, suc, ◌&&◌, Bool, true, false, cond, nat_eq, List, [], ◌∷◌, ◌++◌, length, refl, sym, ◌∙◌, ap, ap₂, append_assoc, append-nil}
+use Rattle.std.proofs.Common.{◌≡◌, ℕ, zero, suc, Bool, true, false, cond, nat_eq, List, [], ◌∷◌, ◌++◌, length, refl, sym, ◌∙◌, ap, ap₂, append_assoc, append-nil}
+use Rattle.std.proofs.lemmas.Bool.{and_parts}
 use Rattle.md_engine.specs.declared.configuration.ParseOptions.{ParseOptions}
 use Rattle.md_engine.specs.declared.event.Event.{Event}
 use Rattle.md_engine.specs.declared.event.Name.{Name}
@@ -14,7 +15,6 @@ use Rattle.md_leaves.specs.Break.{without_marker}
 use Rattle.md_leaves.specs.BlankRule.{blank_at, blank_events}
 use Rattle.md_leaves.specs.BreakRule.{Apart, before_marker, break_at, broken, runs}
 use Rattle.md_leaves.specs.HeadingRule.{heading_at, heading_inside, in_heading, is_heading, is_heading_line}
-use Rattle.md_leaves.proofs.BreakLemmas.{white-no_ending}
 use Rattle.md_leaves.proofs.BreakSteps.{at-none, at-off, at-white, entered_here}
 use Rattle.md_leaves.proofs.HeadingLemmas.{before-is, before-no}
 use Rattle.md_leaves.proofs.HeadingSteps as heading
@@ -22,43 +22,12 @@ use Rattle.md_leaves.proofs.HeadingWhole as heading_line
 use Rattle.md_seam.specs.Ahead.{begins_white, from_ending, line_bytes, line_cells, line_end, white_end, white_rest}
 use Rattle.md_seam.specs.Leaves.{is_rule}
 use Rattle.md_seam.specs.Nested.{around, enter, enter_link, exit, pair}
-use Rattle.md_seam.specs.Rest.{is_blank, is_white}
+use Rattle.md_seam.specs.Rest.{is_blank}
 use Rattle.md_seam.specs.Spaces.{calmed, small_indent}
+use Rattle.md_seam.proofs.AheadLemmas.{none-end, none-rest, white-ending, white-line_end}
 use Rattle.md_seam.proofs.WhiteSteps.{behind_white}
 use Rattle.markdown_blocks.specs.FlowRule.{Rule, blank_ended, break_of, calmed_at, content_of, ended, flow_at, flow_lines, line_then, nonblank_of, tried}
 use Rattle.markdown_blocks.specs.Rows.{BlankRow, BreakRow, HeadingRow, RowKind, TextRow, after_ending, break_inside, first_cell, inside_of, is_break, row_events_by, row_kind, rows_at, rows_events}
-
--- Whitespace in front of a line.
-
-pub white-ending : (room : ℕ) (cells : List Cell) → from_ending (white_rest room cells) ≡ from_ending cells
-white-ending room [] = refl
-white-ending zero (c ∷ cs) = refl
-white-ending (suc room) (c ∷ cs) = go (is_white c.byte) refl (white-ending room cs)
-  where
-    go : (x : Bool) → is_white c.byte ≡ x → from_ending (white_rest room cs) ≡ from_ending cs → from_ending (white_rest (suc room) (c ∷ cs)) ≡ from_ending (c ∷ cs)
-    go true e same = rw (white-no_ending c.byte e, e) same
-    go false e same = rw e refl
-
-pub white-line_end : (room : ℕ) (cells : List Cell) (p : Point) → line_end (white_rest room cells) (white_end room cells p) ≡ line_end cells p
-white-line_end room [] p = refl
-white-line_end zero (c ∷ cs) p = refl
-white-line_end (suc room) (c ∷ cs) p = go (is_white c.byte) refl (white-line_end room cs c.after)
-  where
-    go : (x : Bool) → is_white c.byte ≡ x → line_end (white_rest room cs) (white_end room cs c.after) ≡ line_end cs c.after →
-        line_end (white_rest (suc room) (c ∷ cs)) (white_end (suc room) (c ∷ cs) p) ≡ line_end (c ∷ cs) p
-    go true e same = rw (white-no_ending c.byte e, e) same
-    go false e same = rw e refl
-
--- a line that begins with none
-pub none-rest : (room : ℕ) (cells : List Cell) → begins_white cells ≡ false → white_rest room cells ≡ cells
-none-rest room [] e = refl
-none-rest zero (c ∷ cs) e = refl
-none-rest (suc room) (c ∷ cs) e = ap (λ (x : Bool). cond x (white_rest room cs) (c ∷ cs)) e
-
-pub none-end : (room : ℕ) (cells : List Cell) (p : Point) → begins_white cells ≡ false → white_end room cells p ≡ p
-none-end room [] p e = refl
-none-end zero (c ∷ cs) p e = refl
-none-end (suc room) (c ∷ cs) p e = ap (λ (x : Bool). cond x (white_end room cs c.after) p) e
 
 inside-none : (options : ParseOptions) (cells : List Cell) (p : Point) → begins_white cells ≡ false → break_inside options cells p ≡ runs Apart (first_cell cells) (line_cells cells) p
 inside-none options cells p e =
@@ -88,14 +57,6 @@ record Refused (o : Outcome) : Type 0 where
 
 accepts-same : (h new : Here) (left rest : List Cell) → Accepts h left ≡ Accepts new rest → new.events ≡ h.events
 accepts-same h new left rest e = let same : new ≡ h = cc in ap (λ (x : Here). x.events) same
-
-both : (a b : Bool) → a && b ≡ true → (a ≡ true) × (b ≡ true)
-both true b e = (refl, e)
-both false b e = cc
-
-second : (a b : Bool) → a && b ≡ false → a ≡ true → b ≡ false
-second true b e k = e
-second false b e k = cc
 
 blank-took : (cells : List Cell) (h : Here) → is_blank (line_bytes cells) ≡ true → Took h (blank_events cells h.point) (line_end cells h.point) (from_ending cells) (blank_at cells h)
 unfolding blank_at
@@ -141,10 +102,10 @@ break-took options cells h e = go (begins_white cells) refl
     left = white_rest (small_indent options) cells
 
     on : options.constructs.thematic_break ≡ true
-    on = (both options.constructs.thematic_break (is_rule (line_bytes (white_rest (small_indent options) cells))) e).0
+    on = (and_parts options.constructs.thematic_break (is_rule (line_bytes (white_rest (small_indent options) cells))) e).0
 
     rule : is_rule (line_bytes (white_rest (small_indent options) cells)) ≡ true
-    rule = (both options.constructs.thematic_break (is_rule (line_bytes (white_rest (small_indent options) cells))) e).1
+    rule = (and_parts options.constructs.thematic_break (is_rule (line_bytes (white_rest (small_indent options) cells))) e).1
 
     go : (x : Bool) → begins_white cells ≡ x → Took h (around n.ThematicBreak h.point (line_end cells h.point) (break_inside options cells h.point)) (line_end cells h.point) (from_ending cells) (break_at options cells h)
     go true s =
@@ -198,7 +159,7 @@ break-refused options cells h e = by options.constructs.thematic_break refl
         record { scratch = _; flags = _; is = at-none options cells h on s ∙ unmarked cells (entered_here h) here' }
 
     by : (x : Bool) → options.constructs.thematic_break ≡ x → Refused (break_at options cells h)
-    by true on = go on (second options.constructs.thematic_break (is_rule (line_bytes left)) e on) (begins_white cells) refl
+    by true on = go on (rw on at e) (begins_white cells) refl
     by false off = record { scratch = h.scratch; flags = h.flags; is = at-off options cells h off }
 
 -- A heading takes a line or refuses it, whatever whitespace was asked for before.
@@ -219,7 +180,7 @@ unfolding in_heading
 heading-took options cells h e = go (begins_white cells) refl
   where
     parts : (options.constructs.heading_atx ≡ true) × (is_heading (line_bytes (white_rest (small_indent options) cells)) ≡ true)
-    parts = both options.constructs.heading_atx (is_heading (line_bytes (white_rest (small_indent options) cells))) e
+    parts = and_parts options.constructs.heading_atx (is_heading (line_bytes (white_rest (small_indent options) cells))) e
 
     go : (x : Bool) → begins_white cells ≡ x → Took h (around n.HeadingAtx h.point (line_end cells h.point) (heading_inside options cells h.point)) (line_end cells h.point) (from_ending cells) (heading_at options cells h)
     go true s = record { new = _; is = calm-white options cells h parts.0 s ∙ heading_line.heading-taken options cells (calm_here h) refl e; events = refl; point = refl }
@@ -243,7 +204,7 @@ heading-refused options cells h e = by options.constructs.heading_atx refl
         record { scratch = _; flags = _; is = heading.at-none options cells h on s ∙ before-no cells (begun_here h) here' }
 
     by : (x : Bool) → options.constructs.heading_atx ≡ x → Refused (heading_at options cells h)
-    by true on = go on (second options.constructs.heading_atx (is_heading (line_bytes (white_rest (small_indent options) cells))) e on) (begins_white cells) refl
+    by true on = go on (rw on at e) (begins_white cells) refl
     by false off = record { scratch = h.scratch; flags = h.flags; is = heading.at-off options cells h off }
 
 chunk-took : (cells : List Cell) (h : Here) (s : Scratch) (g : Flags) →

@@ -2,9 +2,9 @@
 use Rattle.std.proofs.Common.{◌≡◌, ◌≢◌, ℕ, ◌+◌, ◌-◌, ◌<◌, ◌≤◌, Bool, true, false, cond, ◌&&◌, List, [], ◌∷◌, ◌++◌, length, take, drop, slice_range, refl, ap, sym, ◌∙◌, subst, append_assoc, append-nil, drop-drop, arith}
 use Rattle.std.specs.Prelude.{◌==◌, IsTrue, Option, Some, None}
 use Rattle.std.specs.List.{list_all}
-use Rattle.std.proofs.lemmas.Bool.{and_from, eq-eqb}
+use Rattle.std.proofs.lemmas.Bool.{and_from, eq-eqb, and_right}
 use Rattle.std.proofs.lemmas.Bool.Decides.{nat_tests}
-use Rattle.std.proofs.lemmas.List.{drop-append-le, length-take-le, take-append-drop}
+use Rattle.std.proofs.lemmas.List.{length-take-le, take-append-drop}
 use Rattle.md_engine.specs.declared.configuration.ParseOptions.{ParseOptions}
 use Rattle.md_engine.specs.declared.event.Content.{Content}
 use Rattle.md_engine.specs.declared.event.Content.TheVariants as content
@@ -18,30 +18,29 @@ use Rattle.md_content.specs.Joined.{joined}
 use Rattle.md_content.specs.Paragraph.{text_link}
 use Rattle.md_leaves.specs.Heading.{heading_link}
 use Rattle.md_leaves.specs.HeadingRule as heading
-use Rattle.md_leaves.specs.HeadingText.{Before, Outside, begins, headings_resolved, is_enter, is_heading, linked_text, resolved}
+use Rattle.md_leaves.specs.HeadingText.{Before, Outside, begins, headings_resolved, is_heading, linked_text, resolved}
 use Rattle.md_leaves.specs.HeadingTitle.{Title, front_len, line_runs, text_of, title_of, unread_title}
+use Rattle.md_leaves.proofs.TitleLemmas.{title-fits, title-text}
 use Rattle.md_seam.specs.declared.inline.Chunk.{Chunk}
 use Rattle.md_seam.specs.declared.inline.PartKind.TheVariants.{Text}
 use Rattle.md_seam.specs.Inline.{are_lines, is_none, is_one_line, plain_events}
-use Rattle.md_seam.specs.Leaves.{is_rule}
-use Rattle.md_seam.specs.Nested.{around, exit, pair}
+use Rattle.md_seam.specs.Nested.{around, exit, pair, is_enter}
 use Rattle.md_seam.specs.Places.{past_text, same_place}
-use Rattle.md_seam.specs.Rest.{is_blank, trim_start}
 use Rattle.md_seam.specs.Spelled.{role}
 use Rattle.md_seam.specs.Substituted.{Readings, Substituted, chunks_behind}
 use Rattle.md_seam.specs.Texts.{split_lines}
 use Rattle.md_seam.proofs.InlineLemmas.{past-index}
-use Rattle.md_seam.proofs.ReachedLemmas.{and_false}
 use Rattle.md_seam.proofs.SpelledLemmas.{Quiet, Roles}
-use Rattle.md_seam.proofs.TextsLemmas.{Ending, EndsBefore, LineFeed, NoEnding, Return, Both, ending_bytes, split-line, split-next}
+use Rattle.md_seam.proofs.TextsLemmas.{Ending, EndsBefore, LineFeed, NoEnding, Return, Both, ending_bytes, split-line, split-next, no_ending-drop}
 use Rattle.markdown_blocks.specs.FlowReads.{NoHeading, NoText}
 use Rattle.markdown_blocks.specs.Rows.{BlankRow, BreakRow, Group, HeadingRow, Lines, Row, RowKind, Single, TextRow, behind_row, chunks_of, ending_events, group_events, groups, groups_events, last_row, line_kind, onto_groups, paragraph_events, read_text, read_title, row_events, row_events_by, row_title, rows_events, single_events_by}
 use Rattle.markdown_blocks.specs.Unread.{joined_groups, linked, titled_group, titled_groups, titled_row_by, unread_group, unread_groups, unread_paragraph}
-use Rattle.md_seam.proofs.FeedLines.{past_text-whole, slice-front}
+use Rattle.md_seam.proofs.FeedLines.{past_text-whole, slice-inside}
 use Rattle.markdown_blocks.proofs.JoinedLemmas.{EachEnds, EachNoContent, HasNoContent, behind-is, ending-is, ending-no_content, events-no_content, joined-rows, no_content-unwanted}
+use Rattle.markdown_blocks.proofs.LineKinds.{heading-kind, no_ending-parts}
 use Rattle.markdown_blocks.proofs.RowFacts.{AreRows, IsEnding, IsRow, first-is, line-text}
 use Rattle.markdown_blocks.proofs.SubstitutedLemmas.{Becomes, Rest, Unwanted, becomes-append, becomes-around, becomes-same, no_links-unwanted, part-becomes, passes, places}
-use Rattle.markdown_blocks.proofs.TitleFacts.{back-unlinked, front-unlinked, heading-resolved, text-fits, text-place}
+use Rattle.markdown_blocks.proofs.TitleFacts.{back-unlinked, front-unlinked, heading-resolved}
 
 -- The groups of a text.
 
@@ -273,7 +272,7 @@ quiet-name _ h = refl
 
 quiet-outside : (es : List Event) → Roles Quiet es → AreOutside es
 quiet-outside [] h = tt
-quiet-outside (e ∷ es) h = (and_false (is_enter e.kind) (is_heading e.name) (quiet-name e.name h.0), quiet-outside es h.1)
+quiet-outside (e ∷ es) h = (and_right (is_enter e.kind) (is_heading e.name) (quiet-name e.name h.0), quiet-outside es h.1)
 
 linked-outside : (link : Link) (chunks : List Chunk) → AreOutside (linked n.Data link chunks)
 linked-outside link [] = tt
@@ -289,18 +288,6 @@ ending-outside name row h = go row.after
 around-outside : (name : Name) (p q : Point) (inside : List Event) → is_heading name ≡ false → AreOutside inside → AreOutside (around name p q inside)
 around-outside name p q inside other h = (other, outside-append inside (exit name q ∷ []) h (refl, tt))
 
--- a line of a heading
-pub heading-line : (options : ParseOptions) (line : List ℕ) → line_kind options line ≡ HeadingRow → heading.is_heading (trim_start line) ≡ true
-heading-line options line h = go (is_blank line) options.constructs.heading_atx (heading.is_heading (trim_start line)) (options.constructs.thematic_break && is_rule (trim_start line)) h
-  where
-    go : (x y z t : Bool) → cond x BlankRow (cond (y && z) HeadingRow (cond t BreakRow TextRow)) ≡ HeadingRow → z ≡ true
-    go true y z t h = cc
-    go false true true t h = refl
-    go false true false true h = cc
-    go false true false false h = cc
-    go false false z true h = cc
-    go false false z false h = cc
-
 -- the text of a line is set if it is a heading
 single-set : (options : ParseOptions) (bytes : List ℕ) (row : Row) (es : List Event) → IsSingle options bytes row → (kind : RowKind) → row.kind ≡ kind →
     headings_resolved (row_events_by kind row ++ es) ≡ titled_row_by bytes kind row ++ headings_resolved es
@@ -313,7 +300,7 @@ single-set options bytes row es is HeadingRow e =
     let title : Title = title_of is.line row.first in
     ap (λ (l : List Event). headings_resolved ((around n.HeadingAtx row.first row.end l ++ ending) ++ es)) (is.is.heading e)
     ∙ ap headings_resolved (append_assoc (around n.HeadingAtx row.first row.end (line_runs heading.Apart is.line row.first)) ending es)
-    ∙ heading-resolved is.line row.first row.end (ending ++ es) (heading-line options is.line (sym is.is.kind ∙ e))
+    ∙ heading-resolved is.line row.first row.end (ending ++ es) (heading-kind options is.line (sym is.is.kind ∙ e))
     ∙ ap (λ (l : List Event). titled title ++ l) (outside-passes ending es (ending-outside n.LineEnding row refl))
     ∙ sym (append_assoc (titled title) ending (headings_resolved es))
     ∙ ap (λ (line : List ℕ). (titled (title_of line row.first) ++ ending) ++ headings_resolved es) (sym is.is.text)
@@ -380,50 +367,39 @@ ReadsText bytes reads =
     (chunks : List Chunk) (answer : List Event) → reads content.Text chunks answer → (end : Point) → IsTrue (are_lines bytes end chunks) → IsTrue (list_all (λ (chunk : Chunk). chunk.after.vs == 0) chunks) →
     answer ≡ plain_events bytes (record { kind = Text; chunks = chunks })
 
-no_ending-front : (xs ys : List ℕ) → NoEnding (xs ++ ys) → NoEnding xs
-no_ending-front [] ys h = tt
-no_ending-front (b ∷ xs) ys h = (h.0, no_ending-front xs ys h.1)
-
-no_ending-back : (xs ys : List ℕ) → NoEnding (xs ++ ys) → NoEnding ys
-no_ending-back [] ys h = h
-no_ending-back (b ∷ xs) ys h = no_ending-back xs ys h.1
-
 -- where the text of a heading stands on its line, and in the text
-record IsTitle (bytes line : List ℕ) (p : Point) : Type 0 where
-  slice : slice_range bytes (past_text (take (front_len line) line) p).index (past_text (take (front_len line + length (text_of line)) line) p).index ≡ text_of line
-  no_ending : NoEnding (text_of line)
+pub record IsTitle (bytes line : List ℕ) (p : Point) : Type 0 where
+  pub slice : slice_range bytes (past_text (take (front_len line) line) p).index (past_text (take (front_len line + length (text_of line)) line) p).index ≡ text_of line
+  pub no_ending : NoEnding (text_of line)
 
-title-is : (options : ParseOptions) (bytes line : List ℕ) (row : Row) → IsRow options bytes line row → heading.is_heading (trim_start line) ≡ true → IsTitle bytes line row.first
-title-is options bytes line row is h =
+pub title-is : (options : ParseOptions) (bytes line : List ℕ) (row : Row) → IsRow options bytes line row → IsTitle bytes line row.first
+title-is options bytes line row is =
+    let p : Point = row.first in
     let first : ℕ = front_len line in
     let text : List ℕ = text_of line in
     let size : ℕ = length text in
-    let fits = text-fits line h in
-    let behind : List ℕ = drop size (drop first line) ++ drop row.end.index bytes in
-    let parts : drop first line ≡ text ++ drop size (drop first line) = sym (take-append-drop size (drop first line)) ∙ ap (λ (l : List ℕ). l ++ drop size (drop first line)) (text-place line h) in
-    let begin : (past_text (take first line) row.first).index ≡ row.first.index + first = past-index (take first line) row.first ∙ ap (λ (i : ℕ). row.first.index + i) (length-take-le first line (omega arith)) in
-    let end : (past_text (take (first + size) line) row.first).index ≡ row.first.index + (first + size) =
-    past-index (take (first + size) line) row.first ∙ ap (λ (i : ℕ). row.first.index + i) (length-take-le (first + size) line fits) in
-    let stands : drop (row.first.index + first) bytes ≡ text ++ behind =
-    sym (drop-drop first row.first.index bytes)
-    ∙ ap (drop first) (row-line options bytes line row is)
-    ∙ drop-append-le first line (drop row.end.index bytes) (omega arith)
-    ∙ ap (λ (l : List ℕ). l ++ drop row.end.index bytes) parts
-    ∙ append_assoc text (drop size (drop first line)) (drop row.end.index bytes) in
-    let front : NoEnding (drop first line) = no_ending-back (take first line) (drop first line) (subst NoEnding (sym (take-append-drop first line)) is.no_ending) in
+    let fits = title-fits line in
+    let from : (past_text (take first line) p).index ≡ p.index + first = past-index (take first line) p ∙ ap (λ (k : ℕ). p.index + k) (length-take-le first line (omega (arith, fits))) in
+    let to : (past_text (take (first + size) line) p).index ≡ p.index + (first + size) = past-index (take (first + size) line) p ∙ ap (λ (k : ℕ). p.index + k) (length-take-le (first + size) line fits) in
+    let sum : p.index + (first + size) ≡ p.index + first + size = omega arith in
+    let parts : drop first line ≡ text ++ drop size (drop first line) = sym (take-append-drop size (drop first line)) ∙ ap (λ (l : List ℕ). l ++ drop size (drop first line)) (title-text line) in
+    let behind : NoEnding (drop first line) = no_ending-drop first line is.no_ending in
     record {
       slice =
-          slice-front bytes (past_text (take first line) row.first).index (past_text (take (first + size) line) row.first).index text behind (ap (λ (i : ℕ). drop i bytes) begin ∙ stands) (omega arith);
-      no_ending = no_ending-front text (drop size (drop first line)) (subst NoEnding parts front);
+          ap (λ (k : ℕ). slice_range bytes k (past_text (take (first + size) line) p).index) from
+          ∙ ap (slice_range bytes (p.index + first)) (to ∙ sum)
+          ∙ slice-inside bytes line p.index row.end.index first size is.text is.size fits
+          ∙ title-text line;
+      no_ending = (no_ending-parts text (drop size (drop first line)) (subst NoEnding parts behind)).0;
     }
 
 -- the text of a heading is a line
-pub title-lines : (options : ParseOptions) (bytes line : List ℕ) (row : Row) → IsRow options bytes line row → heading.is_heading (trim_start line) ≡ true → 0 < length (text_of line) →
+pub title-lines : (options : ParseOptions) (bytes line : List ℕ) (row : Row) → IsRow options bytes line row → 0 < length (text_of line) →
     are_lines bytes (past_text (take (front_len line + length (text_of line)) line) row.first)
     (record { first = past_text (take (front_len line) line) row.first; after = past_text (take (front_len line + length (text_of line)) line) row.first } ∷ []) ≡ true
-title-lines options bytes line row is h some =
+title-lines options bytes line row is some =
     let end : Point = past_text (take (front_len line + length (text_of line)) line) row.first in
-    let title : IsTitle bytes line row.first = title-is options bytes line row is h in
+    let title : IsTitle bytes line row.first = title-is options bytes line row is in
     and_from _ _
     (ap (λ (l : List ℕ). is_one_line (split_lines l) (same_place end end)) title.slice
     ∙ one-last (text_of line) some title.no_ending (same_place end end) (and_from _ _ (eq-eqb end.index end.index refl) (eq-eqb end.vs end.vs refl)))
@@ -431,8 +407,8 @@ title-lines options bytes line row is h some =
 
 -- the text of a heading is read
 text-becomes : (options : ParseOptions) (bytes line : List ℕ) (row : Row) (wants : Content → Bool) (reads : Readings) → wants content.Text ≡ true → ReadsText bytes reads →
-    IsRow options bytes line row → heading.is_heading (trim_start line) ≡ true → Becomes wants reads (linked_text (title_of line row.first).text) (read_text bytes (title_of line row.first).text)
-text-becomes options bytes line row wants reads w rt is h = go (length (text_of line) == 0) refl
+    IsRow options bytes line row → Becomes wants reads (linked_text (title_of line row.first).text) (read_text bytes (title_of line row.first).text)
+text-becomes options bytes line row wants reads w rt is = go (length (text_of line) == 0) refl
   where
     begin : Point
     begin = past_text (take (front_len line) line) row.first
@@ -450,16 +426,16 @@ text-becomes options bytes line row wants reads w rt is h = go (length (text_of 
     go true e = becomes-same wants reads [] tt
     go false e =
         part-becomes wants reads n.HeadingAtxText n.Data heading_link begin end chunk [] (plain_events bytes (record { kind = Text; chunks = chunk ∷ [] })) w refl
-        (λ answer r. rt (chunk ∷ []) answer r end (title-lines options bytes line row is h (grind (arith, nat_tests))) whole)
+        (λ answer r. rt (chunk ∷ []) answer r end (title-lines options bytes line row is (grind (arith, nat_tests))) whole)
 
 title-becomes : (options : ParseOptions) (bytes line : List ℕ) (row : Row) (wants : Content → Bool) (reads : Readings) → wants content.Text ≡ true → ReadsText bytes reads →
-    IsRow options bytes line row → heading.is_heading (trim_start line) ≡ true → Becomes wants reads (unread_title (title_of line row.first)) (read_title bytes (title_of line row.first))
-title-becomes options bytes line row wants reads w rt is h =
+    IsRow options bytes line row → Becomes wants reads (unread_title (title_of line row.first)) (read_title bytes (title_of line row.first))
+title-becomes options bytes line row wants reads w rt is =
     let title : Title = title_of line row.first in
     becomes-append wants reads (title.front ++ linked_text title.text) (title.front ++ read_text bytes title.text) title.back title.back
-    (becomes-append wants reads title.front title.front (linked_text title.text) (read_text bytes title.text) (becomes-same wants reads title.front (no_links-unwanted wants title.front (front-unlinked line row.first h)))
-    (text-becomes options bytes line row wants reads w rt is h))
-    (becomes-same wants reads title.back (no_links-unwanted wants title.back (back-unlinked line row.first h)))
+    (becomes-append wants reads title.front title.front (linked_text title.text) (read_text bytes title.text) (becomes-same wants reads title.front (no_links-unwanted wants title.front (front-unlinked line row.first)))
+    (text-becomes options bytes line row wants reads w rt is))
+    (becomes-same wants reads title.back (no_links-unwanted wants title.back (back-unlinked line row.first)))
 
 single-becomes : (options : ParseOptions) (bytes : List ℕ) (row : Row) (wants : Content → Bool) (reads : Readings) → wants content.Text ≡ true → ReadsText bytes reads → IsSingle options bytes row →
     (kind : RowKind) → row.kind ≡ kind → Becomes wants reads (titled_row_by bytes kind row) (single_events_by bytes kind row)
@@ -469,7 +445,7 @@ single-becomes options bytes row wants reads w rt is HeadingRow e =
     becomes-append wants reads (around n.HeadingAtx row.first row.end (unread_title (row_title bytes row))) (around n.HeadingAtx row.first row.end (read_title bytes (row_title bytes row))) ending ending
     (becomes-around wants reads n.HeadingAtx row.first row.end (unread_title (row_title bytes row)) (read_title bytes (row_title bytes row))
     (subst (λ (line : List ℕ). Becomes wants reads (unread_title (title_of line row.first)) (read_title bytes (title_of line row.first))) (sym is.is.text)
-    (title-becomes options bytes is.line row wants reads w rt is.is (heading-line options is.line (sym is.is.kind ∙ e)))))
+    (title-becomes options bytes is.line row wants reads w rt is.is)))
     (becomes-same wants reads ending (ending-unwanted wants row))
 single-becomes options bytes row wants reads w rt is BreakRow e = becomes-same wants reads (row_events_by BreakRow row) (subst (λ (kind : RowKind). Unwanted wants (row_events_by kind row)) e (single-unwanted options bytes wants row is (λ k. cc)))
 single-becomes options bytes row wants reads w rt is TextRow e = absurd (is.other e)

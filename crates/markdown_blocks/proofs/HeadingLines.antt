@@ -9,7 +9,6 @@ use Rattle.md_engine.specs.declared.event.Point.{Point}
 use Rattle.md_engine.specs.declared.tokenizer.Line.{Line}
 use Rattle.md_engine.specs.Meaning.{Cell}
 use Rattle.md_leaves.specs.HeadingRule.{is_heading, is_heading_line}
-use Rattle.md_leaves.proofs.BreakLemmas.{white-no_ending}
 use Rattle.md_leaves.proofs.HeadingLemmas.{white-no_hash}
 use Rattle.md_leaves.proofs.HeadingWhole.{defined-heading}
 use Rattle.md_seam.specs.Ahead.{begins_white, line_bytes, white_rest}
@@ -19,6 +18,7 @@ use Rattle.md_seam.specs.Rest.{Rest, has_small_indent, indent, is_white, tab_col
 use Rattle.md_seam.specs.Spaces.{any_size, small_indent}
 use Rattle.md_seam.proofs.FeedLines.{Stops, columns_more, next_column, spread, tab_cells}
 use Rattle.md_seam.proofs.TextsLemmas.{NoEnding}
+use Rattle.md_seam.proofs.AheadLemmas.{white-no_ending}
 use Rattle.markdown_blocks.proofs.HeadingSpread.{heading-other, heading-spread}
 use Rattle.markdown_blocks.proofs.LineKinds.{no_ending-trim, small-rest, spread-bytes, white_front}
 

@@ -10,7 +10,6 @@ use Rattle.md_engine.specs.declared.tokenizer.Line.{Line}
 use Rattle.md_engine.specs.Meaning.{Cell}
 use Rattle.md_leaves.specs.HeadingRule.{Apart, Hashes, Run, Text, White, begun, closes, goes_on, heading_inside, opens, runs}
 use Rattle.md_leaves.specs.HeadingTitle.{line_runs}
-use Rattle.md_leaves.proofs.BreakLemmas.{white-no_ending}
 use Rattle.md_seam.specs.Ahead.{begins_white, line_cells, white_end, white_rest}
 use Rattle.md_seam.specs.Nested.{enter, pair}
 use Rattle.md_seam.specs.Places.{past_byte}
@@ -18,6 +17,7 @@ use Rattle.md_seam.specs.Rest.{is_white}
 use Rattle.md_seam.specs.Spaces.{small_indent}
 use Rattle.md_seam.proofs.FeedLines.{Stops, byte_cells, cell, columns_more, next_column, spread, tab_cells, tab_end, tab_end-last, tab_end-next, tab_end-stop}
 use Rattle.md_seam.proofs.TextsLemmas.{NoEnding}
+use Rattle.md_seam.proofs.AheadLemmas.{white-no_ending}
 use Rattle.markdown_blocks.proofs.LineKinds.{no_limit, spread-line}
 
 -- The indent is the first run of a line.

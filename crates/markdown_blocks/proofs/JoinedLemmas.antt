@@ -1,6 +1,7 @@
 -- Lines of text that follow one another, joined.
 use Rattle.std.proofs.Common.{◌≡◌, ℕ, zero, suc, Bool, true, false, cond, ◌&&◌, nat_eq, List, [], ◌∷◌, ◌++◌, refl, ap, sym, ◌∙◌, append_assoc}
 use Rattle.std.specs.Prelude.{Option, Some, None}
+use Rattle.std.proofs.lemmas.Bool.{and_right}
 use Rattle.md_engine.specs.declared.configuration.ParseOptions.{ParseOptions}
 use Rattle.md_engine.specs.declared.event.Content.{Content}
 use Rattle.md_engine.specs.declared.event.Content.TheVariants as content
@@ -10,14 +11,13 @@ use Rattle.md_engine.specs.declared.event.Name.TheVariants as n
 use Rattle.md_engine.specs.declared.event.Point.{Point}
 use Rattle.md_engine.specs.Meaning.{Cell}
 use Rattle.md_content.specs.Chunks.{content_link}
-use Rattle.md_content.specs.Joined.{content_behind, goes_on, is_content, is_enter, is_exit, joined}
+use Rattle.md_content.specs.Joined.{content_behind, goes_on, is_content, joined}
 use Rattle.md_leaves.specs.BreakRule.{Apart, Marks, Run, White, runs}
 use Rattle.md_leaves.specs.HeadingRule as heading
 use Rattle.md_seam.specs.Ahead.{begins_white, from_ending, line_cells, line_end, white_end, white_rest}
-use Rattle.md_seam.specs.Nested.{around, enter, enter_link, exit, pair}
+use Rattle.md_seam.specs.Nested.{around, enter, enter_link, exit, pair, is_enter, is_exit}
 use Rattle.md_seam.specs.Spaces.{small_indent}
 use Rattle.md_seam.specs.Substituted.{is_prefix, wanted}
-use Rattle.md_seam.proofs.ReachedLemmas.{and_false}
 use Rattle.markdown_blocks.specs.Rows.{BlankRow, BreakRow, Group, HeadingRow, Lines, Row, RowKind, Single, TextRow, behind_row, ending_events, first_cell, groups, inside_of, onto_groups, row_events, row_events_by, row_kind, rows_at, rows_events}
 use Rattle.markdown_blocks.specs.Unread.{joined_groups}
 use Rattle.markdown_blocks.proofs.SubstitutedLemmas.{Unwanted}
@@ -157,7 +157,7 @@ joined-one e (f ∷ g ∷ es) h = ap (λ (x : Bool). cond (x && goes_on (f ∷ g
 -- what is not content stays as it is
 joined-passes : (xs ys : List Event) → NoContent nothing xs → joined (xs ++ ys) ≡ xs ++ joined ys
 joined-passes [] ys h = refl
-joined-passes (e ∷ xs) ys h = joined-one e (xs ++ ys) (and_false (is_exit e.kind) (is_content e.name) h.1) ∙ ap (λ (l : List Event). e ∷ l) (joined-passes xs ys h.2)
+joined-passes (e ∷ xs) ys h = joined-one e (xs ++ ys) (and_right (is_exit e.kind) (is_content e.name) h.1) ∙ ap (λ (l : List Event). e ∷ l) (joined-passes xs ys h.2)
 
 -- and no line of content goes on over it
 behind-passes : (xs ys : List Event) → NoContent nothing xs → content_behind ys ≡ false → content_behind (xs ++ ys) ≡ false
@@ -166,7 +166,7 @@ behind-passes (e ∷ xs) ys h k = go (is_prefix e.name) (behind-passes xs ys h.2
   where
     go : (x : Bool) → content_behind (xs ++ ys) ≡ false → cond x (content_behind (xs ++ ys)) (is_enter e.kind && is_content e.name) ≡ false
     go true k = k
-    go false k = and_false (is_enter e.kind) (is_content e.name) h.1
+    go false k = and_right (is_enter e.kind) (is_content e.name) h.1
 
 -- each line but the last has an ending
 abbrev pub EachEnds : List Row → Type 0

@@ -1,6 +1,5 @@
 pub mod Goods
 pub mod States
-pub mod Settings
 pub mod FlowLemmas
 pub mod FlowMeans
 pub mod FlowRuns
@@ -31,7 +30,7 @@ pub mod PlainEvents
 pub mod ParagraphReads
 pub mod TitleFacts
 pub mod TitleNests
-pub mod TitlePlaces
+pub mod PartFacts
 pub mod TileParts
 pub mod MarkLemmas
 pub mod DocumentStates

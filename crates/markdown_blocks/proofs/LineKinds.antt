@@ -97,23 +97,24 @@ byte-white line b p e = go (b == 9)
 abbrev pub white_front : List ℕ → List ℕ
 white_front bytes = take (prefix_len is_white bytes) bytes
 
-white-count : (b : ℕ) (bs : List ℕ) → is_white b ≡ true → prefix_len is_white (b ∷ bs) ≡ suc (prefix_len is_white bs)
-white-count b bs e = ap (λ (t : Bool). cond t (1 + prefix_len is_white bs) 0) e ∙ (omega arith)
+-- how many bytes pass a test at the front: one more, and none
+pub count-one : (test : ℕ → Bool) (b : ℕ) (bs : List ℕ) → test b ≡ true → prefix_len test (b ∷ bs) ≡ suc (prefix_len test bs)
+count-one test b bs e = ap (λ (t : Bool). cond t (1 + prefix_len test bs) 0) e ∙ omega arith
 
-none-count : (b : ℕ) (bs : List ℕ) → is_white b ≡ false → prefix_len is_white (b ∷ bs) ≡ 0
-none-count b bs e = ap (λ (t : Bool). cond t (1 + prefix_len is_white bs) 0) e
+pub count-none : (test : ℕ → Bool) (b : ℕ) (bs : List ℕ) → test b ≡ false → prefix_len test (b ∷ bs) ≡ 0
+count-none test b bs e = ap (λ (t : Bool). cond t (1 + prefix_len test bs) 0) e
 
-pub trim-white : (b : ℕ) (bs : List ℕ) → is_white b ≡ true → trim_start (b ∷ bs) ≡ trim_start bs
-trim-white b bs e = ap (λ (n : ℕ). drop n (b ∷ bs)) (white-count b bs e)
+trim-white : (b : ℕ) (bs : List ℕ) → is_white b ≡ true → trim_start (b ∷ bs) ≡ trim_start bs
+trim-white b bs e = ap (λ (n : ℕ). drop n (b ∷ bs)) (count-one is_white b bs e)
 
-pub trim-none : (b : ℕ) (bs : List ℕ) → is_white b ≡ false → trim_start (b ∷ bs) ≡ b ∷ bs
-trim-none b bs e = ap (λ (n : ℕ). drop n (b ∷ bs)) (none-count b bs e)
+trim-none : (b : ℕ) (bs : List ℕ) → is_white b ≡ false → trim_start (b ∷ bs) ≡ b ∷ bs
+trim-none b bs e = ap (λ (n : ℕ). drop n (b ∷ bs)) (count-none is_white b bs e)
 
 front-white : (b : ℕ) (bs : List ℕ) → is_white b ≡ true → white_front (b ∷ bs) ≡ b ∷ white_front bs
-front-white b bs e = ap (λ (n : ℕ). take n (b ∷ bs)) (white-count b bs e)
+front-white b bs e = ap (λ (n : ℕ). take n (b ∷ bs)) (count-one is_white b bs e)
 
 front-none : (b : ℕ) (bs : List ℕ) → is_white b ≡ false → white_front (b ∷ bs) ≡ []
-front-none b bs e = ap (λ (n : ℕ). take n (b ∷ bs)) (none-count b bs e)
+front-none b bs e = ap (λ (n : ℕ). take n (b ∷ bs)) (count-none is_white b bs e)
 
 -- where no whitespace stands, all is left
 left-none : (cells : List Cell) → begins_white cells ≡ false → white_left cells ≡ cells
@@ -208,6 +209,11 @@ rule-spread line (b ∷ bs) p = go (b == 9) refl (is_rule_marker b) refl
         ∙ ap (λ (t : Bool). is_rule_marker b && t && nat_le 2 (count_by (λ c. c == b) (bytes_of (spread line bs (past_byte b p))))) (all-spread (λ c. (c == b) || is_white c) (or_true (32 == b) (9 == b)) line bs (past_byte b p))
         ∙ ap (λ (n : ℕ). is_rule_marker b && list_all (λ c. (c == b) || is_white c) bs && nat_le 2 n) (count-spread (λ c. c == b) (marker-apart b k) line bs (past_byte b p))
 
+-- the parts of a line without endings have none
+pub no_ending-parts : (xs ys : List ℕ) → NoEnding (xs ++ ys) → NoEnding xs × NoEnding ys
+no_ending-parts [] ys h = (tt, h)
+no_ending-parts (b ∷ xs) ys h = let parts : NoEnding xs × NoEnding ys = no_ending-parts xs ys h.1 in ((h.0, parts.0), parts.1)
+
 pub no_ending-trim : (bytes : List ℕ) → NoEnding bytes → NoEnding (trim_start bytes)
 no_ending-trim bytes h = no_ending-drop (prefix_len is_white bytes) bytes h
 
@@ -224,3 +230,15 @@ kind-spread options line bytes p rest off short h k one =
     ap (λ (t : Bool). cond t BlankRow (cond (is_heading_line options cells) HeadingRow (cond (is_break options cells) BreakRow TextRow))) (spread-blank line bytes p rest h k)
     ∙ ap (λ (t : Bool). cond (is_blank bytes) BlankRow (cond (options.constructs.heading_atx && t) HeadingRow (cond (is_break options cells) BreakRow TextRow))) heading
     ∙ ap (λ (t : Bool). cond (is_blank bytes) BlankRow (cond (options.constructs.heading_atx && is_heading (trim_start bytes)) HeadingRow (cond (options.constructs.thematic_break && t) BreakRow TextRow))) rule
+
+-- what a heading is by its kind, it is by its bytes
+pub heading-kind : (options : ParseOptions) (line : List ℕ) → line_kind options line ≡ HeadingRow → is_heading (trim_start line) ≡ true
+heading-kind options line e = go (is_blank line) options.constructs.heading_atx (is_heading (trim_start line)) (options.constructs.thematic_break && is_rule (trim_start line)) e
+  where
+    go : (w x y z : Bool) → cond w BlankRow (cond (x && y) HeadingRow (cond z BreakRow TextRow)) ≡ HeadingRow → y ≡ true
+    go true x y z e = cc
+    go false true true z e = refl
+    go false true false true e = cc
+    go false true false false e = cc
+    go false false y true e = cc
+    go false false y false e = cc

@@ -17,7 +17,6 @@ use Rattle.md_seam.proofs.SpelledLemmas.{read-from, read-quiet}
 use Rattle.markdown_blocks.specs.Between.{is_between}
 use Rattle.markdown_blocks.specs.Document.{body_point, mark_end, mark_events}
 use Rattle.markdown_blocks.specs.Outlined.{IsOutlined, are_parted, are_shallow, has_plain_name, is_whole}
-use Rattle.markdown_blocks.proofs.Settings.{placed-first}
 
 -- The text.
 
@@ -59,7 +58,22 @@ body-column bytes = go (has_mark bytes)
     go true = omega arith
     go false = omega arith
 
--- it is a point of the text
+-- the first point is a point of a small text
+first-reached : (bytes : List ℕ) → IsReached bytes first_point
+unfolding walked
+first-reached bytes = (0, refl)
+
+pub placed-first : (bytes : List ℕ) → length bytes ≤ (2 ^ 64 - 1) / 8 → IsPlaced bytes first_point
+placed-first bytes small = record {
+  sized = omega arith;
+  index = omega arith;
+  line = omega arith;
+  column = omega arith;
+  vs = omega arith;
+  reached = ∣ first-reached bytes ∣₁;
+}
+
+-- and so is the point where the lines begin
 reached-end : (rest : List ℕ) → IsReached (239 ∷ 187 ∷ 191 ∷ rest) mark_end
 unfolding walked
 reached-end rest = (3, refl)

@@ -10,15 +10,15 @@ use Rattle.md_engine.specs.declared.event.Point.{Point}
 use Rattle.md_leaves.specs.HeadingTitle.{Title, text_of, title_of}
 use Rattle.md_seam.specs.declared.inline.Chunk.{Chunk}
 use Rattle.md_seam.specs.Inline.{line_end, pair_unless_empty, plain_chunk, plain_chunks, together}
-use Rattle.md_seam.specs.Nested.{Balanced, Forward, Nested, around, enter, exit, last_point, pair}
-use Rattle.md_seam.specs.Places.{at_or_before, first_point, past_text, same_place}
-use Rattle.md_seam.proofs.InlineLemmas.{balanced-pair, end-before, end-behind}
+use Rattle.md_seam.specs.Nested.{Balanced, Forward, around, enter, exit, last_point, pair}
+use Rattle.md_seam.specs.Places.{at_or_before, past_text, same_place}
+use Rattle.md_seam.proofs.InlineLemmas.{balanced-pair, end-before, end-behind, before-text}
 use Rattle.md_seam.proofs.NestedLemmas.{at_or_before-refl, at_or_before-trans, balanced-append, balanced-around, balanced-insert, balanced-none, forward-append, forward-from}
 use Rattle.md_seam.proofs.TextsLemmas.{Both, Ending, LineFeed, Return, ending_bytes}
 use Rattle.markdown_blocks.specs.Rows.{BlankRow, BreakRow, Group, HeadingRow, Lines, Row, RowKind, Single, TextRow, behind_row, chunks_of, ending_events, groups, groups_events, last_row, onto_groups, read_text, row_events_by, row_line, row_title, single_events_by}
 use Rattle.markdown_blocks.proofs.JoinedLemmas.{behind-is, behind-none}
 use Rattle.markdown_blocks.proofs.RowFacts.{AreRows, IsEnding, IsInside, IsRow}
-use Rattle.markdown_blocks.proofs.TitleNests.{Spans, back-balanced, back-span, before-piece, blank-no_heading, break-no_heading, front-balanced, front-span, spans-append, text-order, text_begin, text_end}
+use Rattle.markdown_blocks.proofs.TitleNests.{Spans, back-balanced, back-span, blank-no_heading, break-no_heading, front-balanced, front-span, spans-append, text-order, text_begin, text_end}
 
 -- Chunks.
 
@@ -92,7 +92,7 @@ ordered options bytes line row is ends = record { inside = is.inside; end = is.e
 
 -- the ends of a line, and of the line with its ending
 pub line-order : (bytes : List ℕ) (row : Row) → Ordered bytes row → IsTrue (at_or_before row.first row.end)
-line-order bytes row o = subst (λ (q : Point). IsTrue (at_or_before row.first q)) (sym o.end) (before-piece (row_line bytes row) row.first)
+line-order bytes row o = subst (λ (q : Point). IsTrue (at_or_before row.first q)) (sym o.end) (before-text (row_line bytes row) row.first)
 
 pub behind-order : (bytes : List ℕ) (row : Row) → Ordered bytes row → IsTrue (at_or_before row.first (behind_row row))
 behind-order bytes row o = at_or_before-trans row.first row.end (behind_row row) (line-order bytes row o) o.ends
@@ -229,9 +229,3 @@ nests-by_lines bytes = record {
 -- The groups of the lines of a text nest.
 pub rows-nest : (options : ParseOptions) (bytes : List ℕ) (p : Point) (lines : List (List ℕ)) (rows : List Row) → AreRows options bytes p lines rows → Nests bytes p (groups rows)
 rows-nest options bytes p lines rows are = rows-hold bytes (Nests bytes) (nests-by_lines bytes) options p lines rows are
-
--- The events of a text nest.
-pub nested-rows : (options : ParseOptions) (bytes : List ℕ) (lines : List (List ℕ)) (rows : List Row) → AreRows options bytes first_point lines rows → Nested (groups_events bytes (groups rows))
-nested-rows options bytes lines rows are =
-    let nests : Nests bytes first_point (groups rows) = rows-nest options bytes first_point lines rows are in
-    record { balanced = nests.balanced; forward = nests.forward }

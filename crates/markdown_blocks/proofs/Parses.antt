@@ -1,5 +1,5 @@
 -- What a text is read as, where only headings and breaks are on: its events nest, spell its tree and tile it.
-use Rattle.std.proofs.Common.{◌≡◌, ◌^◌, ◌-◌, ◌<◌, ◌⊎◌, inl, inr, arith, ℕ, Bool, true, suc, List, [], ◌++◌, length, drop, refl, ap, sym, ◌∙◌, subst}
+use Rattle.std.proofs.Common.{◌≡◌, ◌^◌, ◌<◌, ◌⊎◌, inl, inr, arith, ℕ, Bool, true, suc, List, [], ◌++◌, length, drop, refl, ap, sym, ◌∙◌, subst}
 use Rattle.std.specs.Prelude.{IsTrue}
 use Rattle.std.specs.Str.{IsUtf8}
 use Rattle.md_engine.specs.declared.configuration.ParseOptions.{ParseOptions}
@@ -34,6 +34,7 @@ use Rattle.markdown_blocks.proofs.JoinedLemmas.{EachNoContent, rows_at-no_conten
 use Rattle.markdown_blocks.proofs.MarkLemmas.{body-between, body-column, body-index, body-vs, mark-nested, mark-outlined, mark-spelled, without-mark}
 use Rattle.markdown_blocks.proofs.NestedRows.{Nests, rows-nest}
 use Rattle.markdown_blocks.proofs.ParagraphReads.{content-reads}
+use Rattle.markdown_blocks.proofs.PartFacts.{EachUnlinked, rows_at-unlinked}
 use Rattle.markdown_blocks.proofs.PlainEvents.{groups-outlined}
 use Rattle.markdown_blocks.proofs.RowFacts.{AreRows}
 use Rattle.markdown_blocks.proofs.RowLemmas.{fresh-rows}
@@ -41,7 +42,7 @@ use Rattle.markdown_blocks.proofs.SectionsLemmas.{sections-shallow}
 use Rattle.markdown_blocks.proofs.SpelledRows.{spelled-rows}
 use Rattle.markdown_blocks.proofs.TileCovers.{blocks-cover}
 use Rattle.markdown_blocks.proofs.TileParts.{blocks-chunks, blocks-nested, blocks-stand}
-use Rattle.markdown_blocks.proofs.TileReads.{EachUnlinked, groups-empty, rows_at-unlinked, text-filled}
+use Rattle.markdown_blocks.proofs.TileReads.{groups-empty, text-filled}
 use Rattle.markdown_blocks.proofs.TreeSections.{tree-sections}
 
 -- the lines of a text, behind its mark

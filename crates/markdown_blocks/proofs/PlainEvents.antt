@@ -9,6 +9,7 @@ use Rattle.md_engine.specs.declared.configuration.ParseOptions.{ParseOptions}
 use Rattle.md_engine.specs.declared.event.Event.{Event}
 use Rattle.md_engine.specs.declared.event.Kind.{Kind}
 use Rattle.md_engine.specs.declared.event.Kind.TheVariants.{Enter, Exit}
+use Rattle.md_engine.specs.declared.event.Name.{Name}
 use Rattle.md_engine.specs.declared.event.Name.TheVariants as n
 use Rattle.md_engine.specs.declared.event.Point.{Point}
 use Rattle.md_leaves.specs.HeadingRule.{Apart, Hashes, Run, Text as TextRun, White, begun, closes, goes_on, opens}
@@ -76,38 +77,19 @@ pub plain-quiet : (es : List Event) → Roles Quiet es → ArePlain es
 plain-quiet [] h = plain-nil
 plain-quiet (e ∷ es) h = plain-cons e es (quiet-plain (role e.name) h.0) (quiet-whole (role e.name) (e.point.vs == 0) h.0) (plain-quiet es h.1)
 
--- what stands between these events does
-plain-around-paragraph : (p q : Point) (inside : List Event) → p.vs ≡ 0 → q.vs ≡ 0 → ArePlain inside → ArePlain (around n.Paragraph p q inside)
-plain-around-paragraph p q inside hp hq h =
-    plain-cons _ (inside ++ exit n.Paragraph q ∷ []) refl (ap (λ v. v == 0) hp)
-    (plain-append inside (exit n.Paragraph q ∷ []) h (plain-cons (exit n.Paragraph q) [] refl (ap (λ v. v == 0) hq) plain-nil))
+-- a part of such a name around such events, which cuts no tab if the tree shows its text
+plain-around : (name : Name) (p q : Point) (inside : List Event) → is_plain (role name) ≡ true → (not (is_told (role name)) || (p.vs == 0)) ≡ true → (not (is_told (role name)) || (q.vs == 0)) ≡ true → ArePlain inside →
+    ArePlain (around name p q inside)
+plain-around name p q inside plain begin end h = plain-cons (enter name p) (inside ++ exit name q ∷ []) plain begin (plain-append inside (exit name q ∷ []) h (plain-cons (exit name q) [] plain end plain-nil))
 
-plain-around-text : (p q : Point) (inside : List Event) → p.vs ≡ 0 → q.vs ≡ 0 → ArePlain inside → ArePlain (around n.HeadingAtxText p q inside)
-plain-around-text p q inside hp hq h =
-    plain-cons _ (inside ++ exit n.HeadingAtxText q ∷ []) refl (ap (λ v. v == 0) hp)
-    (plain-append inside (exit n.HeadingAtxText q ∷ []) h (plain-cons (exit n.HeadingAtxText q) [] refl (ap (λ v. v == 0) hq) plain-nil))
-
-plain-around-heading : (p q : Point) (inside : List Event) → ArePlain inside → ArePlain (around n.HeadingAtx p q inside)
-plain-around-heading p q inside h =
-    plain-cons _ (inside ++ exit n.HeadingAtx q ∷ []) refl refl (plain-append inside (exit n.HeadingAtx q ∷ []) h (record { names = refl; whole = refl }))
-
-plain-around-break : (p q : Point) (inside : List Event) → ArePlain inside → ArePlain (around n.ThematicBreak p q inside)
-plain-around-break p q inside h =
-    plain-cons _ (inside ++ exit n.ThematicBreak q ∷ []) refl refl (plain-append inside (exit n.ThematicBreak q ∷ []) h (record { names = refl; whole = refl }))
-
-plain-endings : (row : Row) → ArePlain (ending_events n.LineEnding row)
-plain-endings row = go row.after
+plain-ending : (name : Name) (row : Row) → is_plain (role name) ≡ true → not (is_told (role name)) ≡ true → ArePlain (ending_events name row)
+plain-ending name row plain untold = go row.after
   where
-    go : (o : Option Point) → ArePlain (elim o [ None ↦ [] | Some q ↦ pair n.LineEnding row.end q ])
-    go None = record { names = refl; whole = refl }
-    go (Some q) = record { names = refl; whole = refl }
-
-plain-blank_endings : (row : Row) → ArePlain (ending_events n.BlankLineEnding row)
-plain-blank_endings row = go row.after
-  where
-    go : (o : Option Point) → ArePlain (elim o [ None ↦ [] | Some q ↦ pair n.BlankLineEnding row.end q ])
-    go None = record { names = refl; whole = refl }
-    go (Some q) = record { names = refl; whole = refl }
+    go : (o : Option Point) → ArePlain (elim o [ None ↦ [] | Some q ↦ pair name row.end q ])
+    go None = plain-nil
+    go (Some q) =
+        plain-cons (enter name row.end) (exit name q ∷ []) plain (ap (λ (x : Bool). x || (row.end.vs == 0)) untold)
+        (plain-cons (exit name q) [] plain (ap (λ (x : Bool). x || (q.vs == 0)) untold) plain-nil)
 
 -- what the plain layer gives
 plain-chunk : (bytes : List ℕ) (chunk : Chunk) → ArePlain (plain_chunk bytes chunk)
@@ -158,7 +140,7 @@ plain-text bytes size p q hp hq = go (size == 0)
     go true = plain-nil
     go false =
         let chunk : Chunk = record { first = p; after = q } in
-        plain-around-text p q (plain_events bytes (record { kind = Text; chunks = chunk ∷ [] })) hp hq (plain-chunks bytes (chunk ∷ []))
+        plain-around n.HeadingAtxText p q (plain_events bytes (record { kind = Text; chunks = chunk ∷ [] })) refl (ap (λ v. v == 0) hp) (ap (λ v. v == 0) hq) (plain-chunks bytes (chunk ∷ []))
 
 plain-title : (bytes line : List ℕ) (p : Point) → p.vs ≡ 0 → ArePlain (read_title bytes (title_of line p))
 plain-title bytes line p h =
@@ -213,15 +195,15 @@ plain-row bytes row h = go row.kind refl
     quiet other = let inside : IsInside row = h.inside other in plain-quiet row.inside inside.quiet
 
     go : (kind : RowKind) → row.kind ≡ kind → ArePlain (single_events_by bytes kind row)
-    go BlankRow e = plain-append row.inside (ending_events n.BlankLineEnding row) (quiet (blank-no_heading row.kind e)) (plain-blank_endings row)
+    go BlankRow e = plain-append row.inside (ending_events n.BlankLineEnding row) (quiet (blank-no_heading row.kind e)) (plain-ending n.BlankLineEnding row refl refl)
     go HeadingRow e =
         let inside : List Event = read_title bytes (row_title bytes row) in
         plain-append (around n.HeadingAtx row.first row.end inside) (ending_events n.LineEnding row)
-        (plain-around-heading row.first row.end inside (plain-title bytes (row_line bytes row) row.first h.first)) (plain-endings row)
+        (plain-around n.HeadingAtx row.first row.end inside refl refl refl (plain-title bytes (row_line bytes row) row.first h.first)) (plain-ending n.LineEnding row refl refl)
     go BreakRow e =
         plain-append (around n.ThematicBreak row.first row.end row.inside) (ending_events n.LineEnding row)
-        (plain-around-break row.first row.end row.inside (quiet (break-no_heading row.kind e))) (plain-endings row)
-    go TextRow e = plain-cons _ (exit n.Content row.end ∷ ending_events n.LineEnding row) refl refl (plain-cons _ (ending_events n.LineEnding row) refl refl (plain-endings row))
+        (plain-around n.ThematicBreak row.first row.end row.inside refl refl refl (quiet (break-no_heading row.kind e))) (plain-ending n.LineEnding row refl refl)
+    go TextRow e = plain-cons _ (exit n.Content row.end ∷ ending_events n.LineEnding row) refl refl (plain-cons _ (ending_events n.LineEnding row) refl refl (plain-ending n.LineEnding row refl refl))
 
 plain-group : (bytes : List ℕ) (group : Group) → IsPlainGroup group → ArePlain (group_events bytes group)
 plain-group bytes (Single row) h = plain-row bytes row h
@@ -229,8 +211,8 @@ plain-group bytes (Lines row rows) h =
     let last : Row = last_row row rows in
     let inside : List Event = plain_events bytes (record { kind = Text; chunks = chunks_of row rows }) in
     plain-append (around n.Paragraph row.first last.end inside) (ending_events n.LineEnding last)
-    (plain-around-paragraph row.first last.end inside h.0.first (plain-last row rows h.0 h.1).end (plain-chunks bytes (chunks_of row rows)))
-    (plain-endings last)
+    (plain-around n.Paragraph row.first last.end inside refl (ap (λ v. v == 0) h.0.first) (ap (λ v. v == 0) (plain-last row rows h.0 h.1).end) (plain-chunks bytes (chunks_of row rows)))
+    (plain-ending n.LineEnding last refl refl)
 
 plain-all : (bytes : List ℕ) (gs : List Group) → PlainGroups gs → ArePlain (groups_events bytes gs)
 plain-all bytes [] h = plain-nil

@@ -26,8 +26,9 @@ use Rattle.md_seam.specs.Rest.{is_blank, is_white, trim_start}
 use Rattle.md_seam.specs.Spaces.{small_indent}
 use Rattle.md_seam.specs.Texts.{split_lines}
 use Rattle.md_seam.proofs.FeedLines.{HasEnding, HasLine, Stops, before-byte, before-column, behind_last, begun-none, byte-end, byte_cells, cell, columns_more, drop-past, ending-feed, ending-some, feed-none, front-within, is-ending, line-feed, next_column, past_ending, past_text-column, past_text-whole, slice-front, spread, spread-end, tab_cells}
-use Rattle.md_seam.proofs.InlineLemmas.{past-index, same-refl}
-use Rattle.md_seam.proofs.NestedLemmas.{at_or_before-refl, at_or_before-trans, balanced-append, balanced-none, forward-append, forward-from, last_point-append}
+use Rattle.md_seam.proofs.AheadLemmas.{none-end, white-line_end}
+use Rattle.md_seam.proofs.InlineLemmas.{past-index, same-refl, before-text, past_text-append}
+use Rattle.md_seam.proofs.NestedLemmas.{at_or_before-refl, at_or_before-trans, balanced-append, balanced-none}
 use Rattle.md_seam.proofs.SpelledLemmas.{Quiet, Roles, roles-append}
 use Rattle.md_seam.proofs.TextsLemmas.{Both, Ending, EndsBefore, LineFeed, NoEnding, Return, ending_bytes, split-line, split-next}
 use Rattle.markdown_blocks.specs.FlowReads.{text_cells, text_rows, text_setting}
@@ -36,7 +37,7 @@ use Rattle.markdown_blocks.proofs.HeadingRuns.{heading-runs}
 use Rattle.markdown_blocks.proofs.LineKinds.{kind-spread, no_ending-trim, small-end, small-rest, spread-line, spread-line_end, spread-rest, white_front}
 use Rattle.markdown_blocks.proofs.PiecesLemmas.{Shut, Tiled, shut-exit, tiled-append, tiled-enter, tiled-none, tiled-pair}
 use Rattle.markdown_blocks.proofs.RowFacts.{AreRows, IsEnding, IsInside, IsRow}
-use Rattle.markdown_blocks.proofs.TitleNests.{either}
+use Rattle.markdown_blocks.proofs.TitleNests.{either, Spans, spans-append}
 
 -- Points go forward.
 
@@ -66,14 +67,6 @@ climbs-spread line (b ∷ bs) p one =
     climbs-append (byte_cells line b p) (spread line bs (past_byte b p)) p (climbs-byte line b p)
     (subst (λ (q : Point). Climbs q (spread line bs (past_byte b p))) (sym (byte-end line b p one)) (climbs-spread line bs (past_byte b p) (omega arith)))
 
-before-text : (bytes : List ℕ) (p : Point) → IsTrue (at_or_before p (past_text bytes p))
-before-text [] p = at_or_before-refl p
-before-text (b ∷ bs) p = at_or_before-trans p (past_byte b p) (past_text bs (past_byte b p)) (before-byte p (past_byte b p) (omega arith)) (before-text bs (past_byte b p))
-
-past_text-append : (xs ys : List ℕ) (p : Point) → past_text (xs ++ ys) p ≡ past_text ys (past_text xs p)
-past_text-append [] ys p = refl
-past_text-append (b ∷ xs) ys p = past_text-append xs ys (past_byte b p)
-
 -- What stands inside.
 
 -- quiet events, nested, between two points
@@ -93,17 +86,10 @@ inside-maybe : (t : Bool) (p q : Point) → IsTrue (at_or_before p q) → Inside
 inside-maybe true p q h = inside-white p q h
 inside-maybe false p q h = inside-none p q h
 
-last-from : (p q r : Point) (es : List Event) → IsTrue (at_or_before p q) → IsTrue (at_or_before (last_point q es) r) → IsTrue (at_or_before (last_point p es) r)
-last-from p q r [] h k = at_or_before-trans p q r h k
-last-from p q r (e ∷ es) h k = k
-
 inside-append : (p q r : Point) (xs ys : List Event) → Inside p q xs → Inside q r ys → Inside p r (xs ++ ys)
-inside-append p q r xs ys a b = record {
-  quiet = roles-append Quiet xs ys a.quiet b.quiet;
-  balanced = balanced-append xs ys a.balanced b.balanced;
-  forward = forward-append p xs ys a.forward (forward-from (last_point p xs) q ys a.within b.forward);
-  within = subst (λ (s : Point). IsTrue (at_or_before s r)) (sym (last_point-append p xs ys)) (last-from (last_point p xs) q r ys a.within b.within);
-}
+inside-append p q r xs ys a b =
+    let spans : Spans p r (xs ++ ys) = spans-append p q r xs ys (a.forward, a.within) (b.forward, b.within) in
+    record { quiet = roles-append Quiet xs ys a.quiet b.quiet; balanced = balanced-append xs ys a.balanced b.balanced; forward = spans.0; within = spans.1 }
 
 -- The runs of a break.
 
@@ -139,10 +125,6 @@ closes-runs White m [] p = refl
 closes-runs Apart m (c ∷ cs) p = either (Closes []) (c.byte == m) _ _ (closes-runs Marks m cs c.after) (closes-runs White m cs c.after)
 closes-runs Marks m (c ∷ cs) p = either (Closes (n.ThematicBreakSequence ∷ [])) (c.byte == m) _ _ (closes-runs Marks m cs c.after) (closes-runs White m cs c.after)
 closes-runs White m (c ∷ cs) p = either (Closes (n.SpaceOrTab ∷ [])) (c.byte == m) _ _ (closes-runs Marks m cs c.after) (closes-runs White m cs c.after)
-
--- from a point on, and up to a point
-abbrev Spans : Point → Point → List Event → Type 0
-Spans p r es = Forward p es × IsTrue (at_or_before (last_point p es) r)
 
 spans-runs : (run : Run) (m : ℕ) (cells : List Cell) (p q : Point) → IsTrue (at_or_before p q) → Climbs q cells → Spans p (point_after cells q) (runs run m cells q)
 spans-runs Apart m [] p q h k = (tt, h)
@@ -218,26 +200,6 @@ blank-none (c ∷ cs) p h k = go (c.byte == 10) h
         let none : is_white c.byte ≡ false = k in
         absurd (cc)
 
--- whitespace is no ending
-white-no_ending : (b : ℕ) → is_white b ≡ true → (b == 10) ≡ false
-white-no_ending b h = grind (arith, nat_tests)
-
--- a line ends where it ends behind its whitespace
-white-line_end : (room : ℕ) (cells : List Cell) (p : Point) → line_end (white_rest room cells) (white_end room cells p) ≡ line_end cells p
-white-line_end room [] p = refl
-white-line_end zero (c ∷ cs) p = refl
-white-line_end (suc room) (c ∷ cs) p = go (is_white c.byte) refl (white-line_end room cs c.after)
-  where
-    go : (t : Bool) → is_white c.byte ≡ t → line_end (white_rest room cs) (white_end room cs c.after) ≡ line_end cs c.after →
-        line_end (cond t (white_rest room cs) (c ∷ cs)) (cond t (white_end room cs c.after) p) ≡ line_end (c ∷ cs) p
-    go false e h = refl
-    go true e h = h ∙ ap (λ (s : Bool). point_after (cond s [] (c ∷ line_cells cs)) p) (sym (white-no_ending c.byte e))
-
-white-none : (room : ℕ) (cells : List Cell) (p : Point) → begins_white cells ≡ false → p ≡ white_end room cells p
-white-none room [] p h = refl
-white-none zero (c ∷ cs) p h = refl
-white-none (suc room) (c ∷ cs) p h = ap (λ (t : Bool). cond t (white_end room cs c.after) p) (sym h)
-
 blank-tiled : (cells : List Cell) (p : Point) → is_blank (line_bytes cells) ≡ true → Tiled p (line_end cells p) (blank_events cells p)
 blank-tiled cells p h = white-tiled cells p (line_end cells p) (blank-none cells p h)
 
@@ -248,7 +210,7 @@ break-tiled options cells p =
     let q : Point = white_end room cells p in
     subst (λ (r : Point). Tiled p r (break_inside options cells p)) (white-line_end room cells p)
     (tiled-append p q (line_end rest q) (cond (begins_white cells) (pair n.SpaceOrTab p q) []) (runs Apart (first_cell rest) (line_cells rest) q)
-    (white-tiled cells p q (white-none room cells p)) (tiled-runs (first_cell rest) (line_cells rest) q))
+    (white-tiled cells p q (λ none. sym (none-end room cells p none))) (tiled-runs (first_cell rest) (line_cells rest) q))
 
 -- a blank line or a break is covered by what stands inside
 row-tiled : (options : ParseOptions) (cells : List Cell) (p : Point) (kind : RowKind) → row_kind options cells ≡ kind → kind ≢ HeadingRow → kind ≢ TextRow → Tiled p (line_end cells p) (inside_of options cells p kind)

@@ -1,16 +1,16 @@
 -- What the blocks of lines are made of.
-use Rattle.std.proofs.Common.{◌≡◌, ℕ, ◌+◌, Bool, true, false, cond, ◌&&◌, List, [], ◌∷◌, ◌++◌, drop, refl, ap, ◌∙◌, arith}
+use Rattle.std.proofs.Common.{◌≡◌, ℕ, ◌+◌, true, ◌&&◌, List, [], ◌∷◌, ◌++◌, drop, refl, ap, ◌∙◌, arith}
 use Rattle.std.specs.Prelude.{nat_le}
 use Rattle.std.proofs.lemmas.Bool.{and_from, and_parts}
 use Rattle.md_engine.specs.declared.configuration.ParseOptions.{ParseOptions}
 use Rattle.md_leaves.specs.HeadingRule.{is_heading}
-use Rattle.md_seam.specs.Rest.{is_blank, is_parted, run_len, trim_start}
-use Rattle.md_seam.specs.Leaves.{is_rule}
+use Rattle.md_seam.specs.Rest.{is_parted, run_len, trim_start}
 use Rattle.md_seam.specs.State.{then_block}
 use Rattle.md_seam.specs.Tree.{Block, Blocks, Break, End, More}
 use Rattle.markdown_blocks.specs.Outlined.{are_shallow, is_shallow}
 use Rattle.markdown_blocks.specs.Rows.{BlankRow, BreakRow, HeadingRow, RowKind, TextRow, line_kind}
 use Rattle.markdown_blocks.specs.Sections.{heading_block, sections, with_open}
+use Rattle.markdown_blocks.proofs.LineKinds.{heading-kind}
 
 -- blocks behind others
 abbrev pub then_blocks : Blocks → Blocks → Blocks
@@ -33,18 +33,6 @@ sections_by options held line lines BreakRow = with_open held (More Break (secti
 sections_by options held line lines TextRow = sections options (held ++ trim_start line ∷ []) lines
 
 -- Headings.
-
--- what a heading is by its kind, it is by its bytes
-pub heading-kind : (options : ParseOptions) (line : List ℕ) → line_kind options line ≡ HeadingRow → is_heading (trim_start line) ≡ true
-heading-kind options line e = go (is_blank line) options.constructs.heading_atx (is_heading (trim_start line)) (options.constructs.thematic_break && is_rule (trim_start line)) e
-  where
-    go : (w x y z : Bool) → cond w BlankRow (cond (x && y) HeadingRow (cond z BreakRow TextRow)) ≡ HeadingRow → y ≡ true
-    go true x y z e = cc
-    go false true true z e = refl
-    go false true false true e = cc
-    go false true false false e = cc
-    go false false y true e = cc
-    go false false y false e = cc
 
 heading-shallow : (line : List ℕ) → is_heading (trim_start line) ≡ true → is_shallow (heading_block line) ≡ true
 heading-shallow line h =

@@ -1,10 +1,9 @@
 -- What the events of a heading are read as: its markers, and its text.
-use Rattle.std.proofs.Common.{◌≡◌, ℕ, zero, suc, ◌+◌, ◌-◌, ◌≤◌, Bool, true, false, cond, ◌&&◌, List, [], ◌∷◌, ◌++◌, length, take, drop, reverse, slice_range, refl, ap, sym, ◌∙◌, subst, drop-drop, arith}
+use Rattle.std.proofs.Common.{◌≡◌, ℕ, zero, suc, ◌+◌, ◌≤◌, Bool, true, false, cond, ◌&&◌, List, [], ◌∷◌, ◌++◌, length, take, drop, reverse, slice_range, refl, ap, sym, ◌∙◌, subst, drop-drop, arith}
 use Rattle.std.specs.Prelude.{◌==◌, nat_le, Option, Some, None, option_map}
 use Rattle.std.specs.List.{prefix_len}
 use Rattle.std.proofs.lemmas.Bool.{and_parts}
 use Rattle.std.proofs.lemmas.Bool.Decides.{nat_tests}
-use Rattle.std.proofs.lemmas.List.{drop-take, length-take-le}
 use Rattle.std.proofs.lemmas.List.Folds.{length-prefix_len}
 use Rattle.md_engine.specs.declared.configuration.ParseOptions.{ParseOptions}
 use Rattle.md_engine.specs.declared.event.Event.{Event}
@@ -13,6 +12,8 @@ use Rattle.md_engine.specs.declared.event.Point.{Point}
 use Rattle.md_leaves.specs.HeadingRule as rule
 use Rattle.md_leaves.specs.HeadingRule.{Apart, Hashes, Run, White, closes, goes_on, is_heading, opens}
 use Rattle.md_leaves.specs.HeadingTitle.{Title, chunk_unless_empty, front_len, line_runs, text_of, title_of}
+use Rattle.md_leaves.proofs.TitleLemmas.{title-fits}
+use Rattle.md_leaves.proofs.TitleRuns.{begun-hash, begun-white}
 use Rattle.md_seam.specs.declared.inline.Chunk.{Chunk}
 use Rattle.md_seam.specs.Inline.{plain_chunks, together}
 use Rattle.md_seam.specs.Leaves.{heading_lines, heading_text, without_closing}
@@ -23,22 +24,16 @@ use Rattle.md_seam.specs.Spelled.{AsHeading, AsMarkers, OfHeadingAtx, OpenLeaf, 
 use Rattle.md_seam.specs.Texts.{split_lines, trim_each}
 use Rattle.md_seam.specs.Tree.{Heading}
 use Rattle.md_seam.proofs.BlocksLemmas.{read-leaf, read-told}
-use Rattle.md_seam.proofs.InlineLemmas.{past-index, past-vs}
+use Rattle.md_seam.proofs.InlineLemmas.{past-index}
 use Rattle.md_seam.proofs.SpelledLemmas.{Between, Quiet, QuietOrEnding, Roles, read-from, read-quiet, text-inline, text_after}
 use Rattle.md_seam.proofs.TextsLemmas.{NoEnding, no_ending-drop, split-line}
 use Rattle.markdown_blocks.specs.Rows.{Row, read_text, read_title, row_title}
 use Rattle.markdown_blocks.specs.Sections.{heading_block}
+use Rattle.md_seam.proofs.FeedLines.{past_text-whole, slice-inside}
+use Rattle.markdown_blocks.proofs.GroupLemmas.{IsTitle, title-is}
+use Rattle.markdown_blocks.proofs.LineKinds.{count-none, count-one}
 use Rattle.markdown_blocks.proofs.PlainRoles.{plain-roles}
 use Rattle.markdown_blocks.proofs.RowFacts.{IsRow}
-use Rattle.markdown_blocks.proofs.TitleFacts.{text-fits, text-place}
-
--- Counts. How many bytes pass a test at the front: one more, and none.
-
-count-one : (test : ℕ → Bool) (b : ℕ) (bs : List ℕ) → test b ≡ true → prefix_len test (b ∷ bs) ≡ suc (prefix_len test bs)
-count-one test b bs e = ap (λ (t : Bool). cond t (1 + prefix_len test bs) 0) e ∙ omega arith
-
-count-none : (test : ℕ → Bool) (b : ℕ) (bs : List ℕ) → test b ≡ false → prefix_len test (b ∷ bs) ≡ 0
-count-none test b bs e = ap (λ (t : Bool). cond t (1 + prefix_len test bs) 0) e
 
 -- how many bytes a run of `#` has, and the whitespace behind it
 abbrev opening_by : ℕ → List ℕ → ℕ
@@ -83,12 +78,6 @@ run-turns : (run into : Run) (b : ℕ) (bs : List ℕ) (p : Point) → goes_on r
 run-turns run into b bs p e f =
     ap (λ (t : Bool). cond t (line_runs run bs (past_byte b p)) (closes run p ++ opens (rule.begun b) p ++ line_runs (rule.begun b) bs (past_byte b p))) e
     ∙ ap (λ (x : Run). closes run p ++ opens x p ++ line_runs x bs (past_byte b p)) f
-
-begun-white : (b : ℕ) → is_white b ≡ true → rule.begun b ≡ White
-begun-white b e = ap (λ (t : Bool). cond t White (cond (b == 35) Hashes rule.Text)) e
-
-begun-hash : (b : ℕ) → is_white b ≡ false → (b == 35) ≡ true → rule.begun b ≡ Hashes
-begun-hash b e f = ap (λ (t : Bool). cond t White (cond (b == 35) Hashes rule.Text)) e ∙ ap (λ (t : Bool). cond t Hashes rule.Text) f
 
 -- The opening sequence.
 
@@ -153,8 +142,8 @@ gap-white bytes r run b bs p gap e = absurd gap
 
 gap-hash : (bytes : List ℕ) (r : Reading) (run : Run) (b : ℕ) (bs : List ℕ) (p : Point) → Gap run → is_white b ≡ false → (b == 35) ≡ true →
     read bytes r (line_runs run (b ∷ bs) p) ≡ read bytes (record r { text = Some (begun p) }) (line_runs Hashes bs (past_byte b p))
-gap-hash bytes r Apart b bs p gap e f = ap (read bytes r) (run-turns Apart Hashes b bs p refl (begun-hash b e f))
-gap-hash bytes r White b bs p gap e f = ap (read bytes r) (run-turns White Hashes b bs p e (begun-hash b e f))
+gap-hash bytes r Apart b bs p gap e f = ap (read bytes r) (run-turns Apart Hashes b bs p refl (begun-hash b f))
+gap-hash bytes r White b bs p gap e f = ap (read bytes r) (run-turns White Hashes b bs p e (begun-hash b f))
 gap-hash bytes r run b bs p gap e f = absurd gap
 
 -- the first byte of a heading
@@ -259,34 +248,6 @@ read-runs bytes r leaf m ms run (b ∷ bs) p l e t =
         (read-from bytes r (record r { text = None }) (closes run p) (opens into p) (read-closes bytes r leaf m ms run p l e t) ∙ read-opens bytes (record r { text = None }) into p refl)
         ∙ turned
 
--- Pieces.
-
-take-take : (n m : ℕ) (xs : List ℕ) → n ≤ m → take n (take m xs) ≡ take n xs
-take-take zero m xs h = refl
-take-take (suc n) zero xs h = absurd (omega arith)
-take-take (suc n) (suc m) [] h = refl
-take-take (suc n) (suc m) (x ∷ xs) h = ap (λ (l : List ℕ). x ∷ l) (take-take n m xs (omega arith))
-
--- a piece of a line is one of the text
-slice-inside : (bytes line : List ℕ) (from end i size : ℕ) → slice_range bytes from end ≡ line → end ≡ from + length line → i + size ≤ length line → slice_range bytes (from + i) (from + i + size) ≡ take size (drop i line)
-slice-inside bytes line from end i size is long le =
-    let left = end - (from + i) in
-    let one : from + i + size - (from + i) ≡ size = omega arith in
-    let all : i + left ≡ end - from = omega arith in
-    ap (λ (k : ℕ). take k (drop (from + i) bytes)) one
-    ∙ sym (take-take size left (drop (from + i) bytes) (omega arith))
-    ∙ ap (λ (l : List ℕ). take size (take left l)) (sym (drop-drop i from bytes))
-    ∙ ap (take size) (sym (drop-take i left (drop from bytes)) ∙ ap (λ (k : ℕ). drop i (take k (drop from bytes))) all ∙ ap (drop i) is)
-
-past-whole : (text : List ℕ) (p : Point) → p.vs ≡ 0 → (past_text text p).vs ≡ 0
-past-whole [] p e = e
-past-whole (b ∷ bs) p e = past-vs b bs p
-
-no_ending-take : (n : ℕ) (bytes : List ℕ) → NoEnding bytes → NoEnding (take n bytes)
-no_ending-take zero bytes h = tt
-no_ending-take (suc n) [] h = tt
-no_ending-take (suc n) (b ∷ bs) h = (h.0, no_ending-take n bs h.1)
-
 -- The text.
 
 -- whether no whitespace comes first
@@ -365,7 +326,7 @@ record IsAt (bytes line : List ℕ) (p : Point) (end : ℕ) : Type 0 where
   no_ending : NoEnding line
   heading : is_heading (trim_start line) ≡ true
   -- where the text of the heading stands in it
-  place : take (length (text_of line)) (drop (front_len line) line) ≡ text_of line
+  title : IsTitle bytes line p
   fits : front_len line + length (text_of line) ≤ length line
 
 abbrev markers_of : List ℕ → List ℕ → Point → List ℕ
@@ -378,28 +339,10 @@ markers-are bytes line p end is =
     let q = behind_white line p in
     let fits = is.fits in
     let place : q.index ≡ p.index + indent = past-index (take indent line) p ∙ ap (λ (k : ℕ). p.index + k) (length-prefix_len is_white line) in
-    ap (λ (vs : ℕ). length (slice_range bytes (cond (vs == 0) q.index (q.index + 1)) (q.index + depth))) (past-whole (take indent line) p is.whole)
+    ap (λ (vs : ℕ). length (slice_range bytes (cond (vs == 0) q.index (q.index + 1)) (q.index + depth))) (past_text-whole (take indent line) p is.whole)
     ∙ ap (λ (k : ℕ). length (slice_range bytes k (k + depth))) place
     ∙ ap length (slice-inside bytes line p.index end indent depth is.text is.size (omega (arith, fits)))
     ∙ length-prefix_len (λ (c : ℕ). c == 35) (trim_start line)
-
--- the text of a heading, where it stands
-text-is : (bytes line : List ℕ) (p : Point) (end : ℕ) → IsAt bytes line p end →
-    slice_range bytes (past_text (take (front_len line) line) p).index (past_text (take (front_len line + length (text_of line)) line) p).index ≡ text_of line
-text-is bytes line p end is =
-    let first = front_len line in
-    let size = length (text_of line) in
-    let fits = is.fits in
-    let from : (past_text (take first line) p).index ≡ p.index + first = past-index (take first line) p ∙ ap (λ (k : ℕ). p.index + k) (length-take-le first line (omega (arith, fits))) in
-    let to : (past_text (take (first + size) line) p).index ≡ p.index + (first + size) = past-index (take (first + size) line) p ∙ ap (λ (k : ℕ). p.index + k) (length-take-le (first + size) line fits) in
-    let sum : p.index + (first + size) ≡ p.index + first + size = omega arith in
-    ap (λ (k : ℕ). slice_range bytes k (past_text (take (first + size) line) p).index) from
-    ∙ ap (slice_range bytes (p.index + first)) (to ∙ sum)
-    ∙ slice-inside bytes line p.index end first size is.text is.size fits
-    ∙ is.place
-
-text-no_ending : (bytes line : List ℕ) (p : Point) (end : ℕ) → IsAt bytes line p end → NoEnding (text_of line)
-text-no_ending bytes line p end is = subst NoEnding is.place (no_ending-take (length (text_of line)) (drop (front_len line) line) (no_ending-drop (front_len line) line is.no_ending))
 
 -- what stands in a heading is read as its markers and its text
 read-inside : (bytes line : List ℕ) (p : Point) (end : ℕ) (r : Reading) → IsAt bytes line p end → r.text ≡ None →
@@ -418,7 +361,7 @@ read-inside bytes line p end r is t =
     let some = not-empty markers (omega (arith, depth, markers-are bytes line p end is)) in
     read-from bytes opened (titled r markers lines) (title.front ++ read_text bytes title.text) title.back
     (read-from bytes opened (marked r markers) title.front (read_text bytes title.text) (read-front bytes opened Apart line p tt is.heading refl)
-    ∙ read-part bytes r markers from to (text_of line) (past-whole (take first line) p is.whole) (text-is bytes line p end is) (text-no_ending bytes line p end is) (bare-text (drop (prefix_len is_white line + run_len 35 (trim_start line)) line)))
+    ∙ read-part bytes r markers from to (text_of line) (past_text-whole (take first line) p is.whole) is.title.slice is.title.no_ending (bare-text (drop (prefix_len is_white line + run_len 35 (trim_start line)) line)))
     ∙ read-runs bytes (titled r markers lines) leaf some.0 some.1 Apart (drop (first + size) line) to refl some.2 refl
     ∙ ap (λ (x : Option Text). record r { text = x; leaf = Some leaf }) (sym t)
 
@@ -436,4 +379,4 @@ pub read-heading : (options : ParseOptions) (bytes line : List ℕ) (row : Row) 
     read bytes r (around n.HeadingAtx row.first row.end (read_title bytes (row_title bytes row))) ≡ add_block (heading_block line) r
 read-heading options bytes line row r is h t l =
     ap (λ (x : List ℕ). read bytes r (around n.HeadingAtx row.first row.end (read_title bytes (title_of x row.first)))) is.text
-    ∙ read-at bytes line row.first row.end row.end.index r (record { text = is.text; size = is.size; whole = is.first_whole; no_ending = is.no_ending; heading = h; place = text-place line h; fits = text-fits line h }) t l
+    ∙ read-at bytes line row.first row.end row.end.index r (record { text = is.text; size = is.size; whole = is.first_whole; no_ending = is.no_ending; heading = h; title = title-is options bytes line row is; fits = title-fits line }) t l

@@ -10,7 +10,7 @@ use Rattle.md_seam.specs.declared.inline.PartKind.TheVariants.{Text}
 use Rattle.md_seam.specs.Inline.{plain_chunks, plain_events, together}
 use Rattle.md_seam.specs.Nested.{around}
 use Rattle.md_seam.specs.Rest.{trim_start}
-use Rattle.md_seam.specs.Spelled.{IsEnding, IsQuiet, Reading, Role, add_block, begun, read, role, spelled, text_to, unread}
+use Rattle.md_seam.specs.Spelled.{IsQuiet, Reading, Role, add_block, begun, read, role, spelled, text_to, unread}
 use Rattle.md_seam.specs.Texts.{trim_each}
 use Rattle.md_seam.specs.Tree.{Block, Blocks, Break, End, More, Paragraph}
 use Rattle.md_seam.proofs.BlocksLemmas.{read-break, read-paragraph}
@@ -20,8 +20,9 @@ use Rattle.markdown_blocks.specs.Rows.{BlankRow, BreakRow, Group, HeadingRow, Li
 use Rattle.markdown_blocks.specs.Sections.{heading_block, sections, with_open}
 use Rattle.markdown_blocks.proofs.PlainRoles.{plain-roles}
 use Rattle.markdown_blocks.proofs.RowFacts as f
-use Rattle.markdown_blocks.proofs.SectionsLemmas.{heading-kind, sections_by, then_block-blocks, then_blocks, then_blocks-end}
+use Rattle.markdown_blocks.proofs.SectionsLemmas.{sections_by, then_block-blocks, then_blocks, then_blocks-end}
 use Rattle.markdown_blocks.proofs.SpelledHeadings.{read-heading}
+use Rattle.markdown_blocks.proofs.LineKinds.{heading-kind}
 
 -- Endings.
 

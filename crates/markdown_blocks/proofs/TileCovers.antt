@@ -175,9 +175,6 @@ groups-tiled options bytes p (line ∷ next ∷ lines) (row ∷ below ∷ rows) 
     (subst (λ (q : Point). Tiled q end (titled_groups bytes (groups (below ∷ rows)))) (sym (behind-is row are.2 are.3)) (groups-tiled options bytes are.2 (next ∷ lines) (below ∷ rows) are.5)) row.kind refl)
 groups-tiled options bytes p lines rows are = absurd are
 
-pub groups-cover : (options : ParseOptions) (bytes : List ℕ) (p : Point) (lines : List (List ℕ)) (rows : List Row) → AreRows options bytes p lines rows → Covers p (pieces (titled_groups bytes (groups rows))) (end_point bytes)
-groups-cover options bytes p lines rows are = (groups-tiled options bytes p lines rows are).covers
-
 -- So do the events of a text with its mark.
 mark-tiled : (bytes : List ℕ) → Tiled first_point (body_point bytes) (mark_events bytes)
 mark-tiled bytes = go (has_mark bytes)

@@ -1,5 +1,5 @@
 -- The text parts of a text, before they are read, stand as its tiling asks: one chunk a line, and no chunk elsewhere.
-use Rattle.std.proofs.Common.{◌≡◌, ◌≢◌, ℕ, zero, suc, ◌+◌, Bool, true, false, cond, nat_eq, not, ◌&&◌, List, [], ◌∷◌, ◌++◌, length, drop, take, refl, ap, sym, ◌∙◌, subst, append_assoc, append-nil, arith}
+use Rattle.std.proofs.Common.{◌≡◌, ◌≢◌, ℕ, ◌+◌, Bool, true, false, cond, not, ◌&&◌, List, [], ◌∷◌, ◌++◌, length, drop, take, refl, ap, sym, ◌∙◌, subst, append_assoc, append-nil, arith}
 use Rattle.std.specs.Prelude.{◌==◌, IsTrue, Option, Some, None}
 use Rattle.std.specs.List.{list_all}
 use Rattle.std.proofs.lemmas.Bool.{and_from}
@@ -12,72 +12,33 @@ use Rattle.md_engine.specs.declared.event.Link.{Link}
 use Rattle.md_engine.specs.declared.event.Name.{Name}
 use Rattle.md_engine.specs.declared.event.Name.TheVariants as n
 use Rattle.md_engine.specs.declared.event.Point.{Point}
-use Rattle.md_engine.specs.Meaning.{Cell}
 use Rattle.md_content.specs.Paragraph.{text_link}
-use Rattle.md_leaves.specs.BreakRule.{Apart, Marks, Run, White, runs}
 use Rattle.md_leaves.specs.Heading.{heading_link}
 use Rattle.md_leaves.specs.HeadingRule as heading
 use Rattle.md_leaves.specs.HeadingText.{linked_text}
-use Rattle.md_leaves.specs.HeadingTitle.{Title, front_len, line_runs, text_of, title_of, unread_title}
+use Rattle.md_leaves.specs.HeadingTitle.{Title, front_len, text_of, title_of, unread_title}
 use Rattle.md_seam.specs.declared.inline.Chunk.{Chunk}
 use Rattle.md_seam.specs.declared.inline.PartKind.{PartKind}
 use Rattle.md_seam.specs.declared.inline.PartKind.TheVariants.{Text}
-use Rattle.md_seam.specs.Ahead.{begins_white, from_ending, line_cells, line_end, white_end, white_rest}
-use Rattle.md_seam.specs.Inline.{Piece, are_lines, pieces, pieces_from}
-use Rattle.md_seam.specs.Nested.{Balanced, Forward, Nested, around, enter, enter_link, exit, pair}
-use Rattle.md_seam.specs.Places.{at_or_before, first_point, past_byte}
+use Rattle.md_seam.specs.Inline.{Piece, are_lines, pieces}
+use Rattle.md_seam.specs.Nested.{Balanced, Forward, Nested, around, enter, enter_link, exit, pair, is_exit}
+use Rattle.md_seam.specs.Places.{at_or_before, first_point}
 use Rattle.md_seam.specs.Preamble.{has_mark}
-use Rattle.md_seam.specs.Rest.{trim_start}
-use Rattle.md_seam.specs.Spaces.{small_indent}
-use Rattle.md_seam.specs.Spelled.{role}
-use Rattle.md_seam.specs.Tiles.{chunks, chunks_stand, inside_part, is_exit, is_part, is_white_piece, part_end, part_kind, part_stands, parts_stand, stands_in_part}
+use Rattle.md_seam.specs.Tiles.{chunks, chunks_stand, inside_part, is_part, is_white_piece, part_end, part_kind, part_stands, parts_stand, stands_in_part}
 use Rattle.md_seam.proofs.NestedLemmas.{at_or_before-refl, balanced-none}
-use Rattle.md_seam.proofs.SpelledLemmas.{Quiet, Roles}
 use Rattle.markdown_blocks.specs.Document.{body_point, mark_end, mark_events}
-use Rattle.markdown_blocks.specs.Rows.{BlankRow, BreakRow, Group, HeadingRow, Lines, Row, RowKind, Single, TextRow, behind_row, chunks_of, ending_events, first_cell, groups, inside_of, last_row, onto_groups, row_kind, row_line, row_title, rows_at}
+use Rattle.markdown_blocks.specs.Rows.{BlankRow, BreakRow, Group, HeadingRow, Lines, Row, RowKind, Single, TextRow, behind_row, chunks_of, ending_events, groups, last_row, row_line, row_title}
 use Rattle.markdown_blocks.specs.Unread.{linked, titled_group, titled_groups, titled_row_by, unread_paragraph}
-use Rattle.markdown_blocks.proofs.GroupLemmas.{AreGroups, IsParagraph, IsSingle, groups-are, heading-line, paragraph-lines, title-lines}
+use Rattle.markdown_blocks.proofs.GroupLemmas.{AreGroups, IsParagraph, IsSingle, groups-are, paragraph-lines, title-lines}
 use Rattle.markdown_blocks.proofs.JoinedLemmas.{EachNoContent}
 use Rattle.markdown_blocks.proofs.MarkLemmas.{mark-nested}
 use Rattle.markdown_blocks.proofs.NestedRows.{ByLines, Nested_in, Onward, Ordered, around-nested, behind-order, blank-nested, block-nested, break-nested, heading-nested, line-order, onward-before, onward-next, rows-hold}
+use Rattle.markdown_blocks.proofs.PartFacts.{AreUnlinked, EachUnlinked, IsUnlinked, NoParts, groups-unlinked, linked-chunks, linked-no_parts, part-inside, pieces-behind, quiet-no_parts, runs-no_parts}
 use Rattle.markdown_blocks.proofs.RowFacts.{AreRows, IsInside, IsRow}
 use Rattle.markdown_blocks.proofs.TitleFacts.{NoLinks, back-unlinked, front-unlinked}
-use Rattle.markdown_blocks.proofs.TileReads.{EachUnlinked}
-use Rattle.markdown_blocks.proofs.TitleNests.{either, text-order, text_begin, text_end}
+use Rattle.markdown_blocks.proofs.TitleNests.{text-order, text_begin, text_end}
 
 -- Events outside of text parts.
-
--- events none of which begins or ends a text part
-abbrev pub NoParts : List Event → Type 0
-NoParts [] = Unit {0}
-NoParts (e ∷ es) = (part_kind e.name ≡ None) × NoParts es
-
-no_parts-append : (xs ys : List Event) → NoParts xs → NoParts ys → NoParts (xs ++ ys)
-no_parts-append [] ys h k = k
-no_parts-append (e ∷ xs) ys h k = (h.0, no_parts-append xs ys h.1 k)
-
-no_links-append : (xs ys : List Event) → NoLinks xs → NoLinks ys → NoLinks (xs ++ ys)
-no_links-append [] ys h k = k
-no_links-append (e ∷ xs) ys h k = (h.0, no_links-append xs ys h.1 k)
-
--- the tree shows each text part
-quiet-name : (name : Name) → Quiet (role name) → part_kind name ≡ None
-quiet-name n.Paragraph h = absurd h
-quiet-name n.HeadingAtxText h = absurd h
-quiet-name n.HeadingSetextText h = absurd h
-quiet-name n.GfmTableCellText h = absurd h
-quiet-name n.CodeFencedFenceInfo h = absurd h
-quiet-name n.CodeFencedFenceMeta h = absurd h
-quiet-name n.MathFlowFenceMeta h = absurd h
-quiet-name n.DefinitionLabelString h = absurd h
-quiet-name n.DefinitionDestinationString h = absurd h
-quiet-name n.DefinitionTitleString h = absurd h
-quiet-name n.GfmFootnoteDefinitionLabelString h = absurd h
-quiet-name _ h = refl
-
-quiet-no_parts : (es : List Event) → Roles Quiet es → NoParts es
-quiet-no_parts [] h = tt
-quiet-no_parts (e ∷ es) h = (quiet-name e.name h.0, quiet-no_parts es h.1)
 
 outside-stands : (bytes : List ℕ) (kind : Kind) (part : Option PartKind) (es : List Event) → part ≡ None → part_stands bytes kind part es ≡ true
 outside-stands bytes Enter part es h = ap (λ (x : Option PartKind). part_stands bytes Enter x es) h
@@ -96,25 +57,9 @@ outside-chunks (e ∷ xs) ys h k =
 
 -- The chunks of a text part.
 
-linked-no_parts : (link : Link) (cs : List Chunk) → NoParts (linked n.Data link cs)
-linked-no_parts link [] = tt
-linked-no_parts link (c ∷ cs) = (refl, (refl, linked-no_parts link cs))
-
-linked-inside : (link : Link) (cs : List Chunk) (ys : List Event) → inside_part (linked n.Data link cs ++ ys) ≡ linked n.Data link cs ++ inside_part ys
-linked-inside link [] ys = refl
-linked-inside link (c ∷ cs) ys = ap (λ (l : List Event). enter_link n.Data c.first link ∷ exit n.Data c.after ∷ l) (linked-inside link cs ys)
-
 linked-end : (link : Link) (cs : List Chunk) (ys : List Event) → part_end (linked n.Data link cs ++ ys) ≡ part_end ys
 linked-end link [] ys = refl
 linked-end link (c ∷ cs) ys = linked-end link cs ys
-
-pieces-behind : (p : Point) (link : Link) (cs : List Chunk) → pieces_from (exit n.Data p) (linked n.Data link cs) ≡ pieces (linked n.Data link cs)
-pieces-behind p link [] = refl
-pieces-behind p link (c ∷ cs) = refl
-
-linked-chunks : (link : Link) (cs : List Chunk) → chunks (pieces (linked n.Data link cs)) ≡ cs
-linked-chunks link [] = refl
-linked-chunks link (c ∷ cs) = ap (λ (l : List Piece). c ∷ chunks l) (pieces-behind c.after link cs) ∙ ap (λ (l : List Chunk). c ∷ l) (linked-chunks link cs)
 
 linked-white : (bytes : List ℕ) (link : Link) (cs : List Chunk) → list_all (is_white_piece bytes) (pieces (linked n.Data link cs)) ≡ true
 linked-white bytes link [] = refl
@@ -171,12 +116,6 @@ stands-part bytes name kind link p q cs named lines = record {
     inside : List Event
     inside = linked n.Data link cs
 
-    inner : (ys : List Event) → inside_part (inside ++ exit name q ∷ ys) ≡ inside
-    inner ys =
-        linked-inside link cs (exit name q ∷ ys)
-        ∙ ap (λ (x : Option PartKind). inside ++ cond ((elim x [ None ↦ false | Some kind ↦ true ]) && true) [] (exit name q ∷ inside_part ys)) named
-        ∙ append-nil inside
-
     end : (ys : List Event) → part_end (inside ++ exit name q ∷ ys) ≡ q
     end ys = linked-end link cs (exit name q ∷ ys) ∙ ap (λ (x : Option PartKind). cond ((elim x [ None ↦ false | Some kind ↦ true ]) && true) q (part_end ys)) named
 
@@ -185,48 +124,22 @@ stands-part bytes name kind link p q cs named lines = record {
         let rest : List Event = inside ++ exit name q ∷ ys in
         ap (λ (x : Option PartKind). part_stands bytes Enter x rest) named
         ∙ and_from (list_all (is_white_piece bytes) (pieces (inside_part rest))) (are_lines bytes (part_end rest) (chunks (pieces (inside_part rest))))
-        (ap (λ (l : List Event). list_all (is_white_piece bytes) (pieces l)) (inner ys) ∙ linked-white bytes link cs)
+        (ap (λ (l : List Event). list_all (is_white_piece bytes) (pieces l)) (part-inside name kind q link cs ys named) ∙ linked-white bytes link cs)
         (ap (λ (r : Point). are_lines bytes r (chunks (pieces (inside_part rest)))) (end ys)
-        ∙ ap (λ (l : List Event). are_lines bytes q (chunks (pieces l))) (inner ys)
+        ∙ ap (λ (l : List Event). are_lines bytes q (chunks (pieces l))) (part-inside name kind q link cs ys named)
         ∙ ap (are_lines bytes q) (linked-chunks link cs)
         ∙ lines)
 
--- Lines.
-
--- what stands in a line that is no heading is not read later
-abbrev pub IsUnlinked : Row → Type 0
-IsUnlinked row = row.kind ≢ HeadingRow → NoLinks row.inside
-
 -- Headings.
 
-opens-no_parts : (run : heading.Run) (p : Point) → NoParts (heading.opens run p)
-opens-no_parts heading.Apart p = tt
-opens-no_parts heading.White p = (refl, tt)
-opens-no_parts heading.Hashes p = (refl, tt)
-opens-no_parts heading.Text p = (refl, tt)
-
-closes-no_parts : (run : heading.Run) (p : Point) → NoParts (heading.closes run p)
-closes-no_parts heading.Apart p = tt
-closes-no_parts heading.White p = (refl, tt)
-closes-no_parts heading.Hashes p = (refl, tt)
-closes-no_parts heading.Text p = (refl, tt)
-
-runs-no_parts : (run : heading.Run) (xs : List ℕ) (p : Point) → NoParts (line_runs run xs p)
-runs-no_parts run [] p = closes-no_parts run p
-runs-no_parts run (b ∷ xs) p =
-    let rest : List Event = line_runs (heading.begun b) xs (past_byte b p) in
-    either NoParts (heading.goes_on run b) (line_runs run xs (past_byte b p)) ((heading.closes run p ++ heading.opens (heading.begun b) p) ++ rest) (runs-no_parts run xs (past_byte b p))
-    (no_parts-append (heading.closes run p ++ heading.opens (heading.begun b) p) rest
-    (no_parts-append (heading.closes run p) (heading.opens (heading.begun b) p) (closes-no_parts run p) (opens-no_parts (heading.begun b) p)) (runs-no_parts (heading.begun b) xs (past_byte b p)))
-
 -- what stands in a heading
-stands-title : (options : ParseOptions) (bytes line : List ℕ) (row : Row) → IsRow options bytes line row → heading.is_heading (trim_start line) ≡ true → Stands bytes (unread_title (title_of line row.first))
-stands-title options bytes line row is h =
+stands-title : (options : ParseOptions) (bytes line : List ℕ) (row : Row) → IsRow options bytes line row → Stands bytes (unread_title (title_of line row.first))
+stands-title options bytes line row is =
     let title : Title = title_of line row.first in
     stands-append bytes (title.front ++ linked_text title.text) title.back
     (stands-append bytes title.front (linked_text title.text)
-    (stands-outside bytes title.front (runs-no_parts heading.Apart (take (front_len line) line) row.first) (front-unlinked line row.first h)) (text (length (text_of line) == 0) refl))
-    (stands-outside bytes title.back (runs-no_parts heading.Apart (drop (front_len line + length (text_of line)) line) end) (back-unlinked line row.first h))
+    (stands-outside bytes title.front (runs-no_parts heading.Apart (take (front_len line) line) row.first) (front-unlinked line row.first)) (text (length (text_of line) == 0) refl))
+    (stands-outside bytes title.back (runs-no_parts heading.Apart (drop (front_len line + length (text_of line)) line) end) (back-unlinked line row.first))
   where
     begin : Point
     begin = text_begin line row.first
@@ -239,7 +152,7 @@ stands-title options bytes line row is h =
 
     text : (x : Bool) → (length (text_of line) == 0) ≡ x → Stands bytes (linked_text (cond x None (Some chunk)))
     text true e = stands-outside bytes [] tt tt
-    text false e = stands-part bytes n.HeadingAtxText Text heading_link begin end (chunk ∷ []) refl (title-lines options bytes line row is h (grind (arith, nat_tests)))
+    text false e = stands-part bytes n.HeadingAtxText Text heading_link begin end (chunk ∷ []) refl (title-lines options bytes line row is (grind (arith, nat_tests)))
 
 -- Groups.
 
@@ -250,7 +163,7 @@ stands-single options bytes row is unlinked BlankRow e =
     stands-append bytes row.inside (ending_events n.BlankLineEnding row) (stands-outside bytes row.inside (quiet-no_parts row.inside inside.quiet) (unlinked (λ k. cc))) (stands-ending bytes n.BlankLineEnding row refl)
 stands-single options bytes row is unlinked HeadingRow e =
     let inside : List Event = unread_title (row_title bytes row) in
-    let stands : Stands bytes inside = subst (λ (line : List ℕ). Stands bytes (unread_title (title_of line row.first))) (sym is.is.text) (stands-title options bytes is.line row is.is (heading-line options is.line (sym is.is.kind ∙ e))) in
+    let stands : Stands bytes inside = subst (λ (line : List ℕ). Stands bytes (unread_title (title_of line row.first))) (sym is.is.text) (stands-title options bytes is.line row is.is) in
     stands-append bytes (around n.HeadingAtx row.first row.end inside) (ending_events n.LineEnding row) (stands-around bytes n.HeadingAtx row.first row.end inside refl stands) (stands-ending bytes n.LineEnding row refl)
 stands-single options bytes row is unlinked BreakRow e =
     let inside : IsInside row = is.is.inside (λ k. cc) in
@@ -265,25 +178,7 @@ stands-lines options bytes row rows is =
     stands-append bytes (unread_paragraph row rows) (ending_events n.LineEnding last)
     (stands-part bytes n.Paragraph Text text_link row.first last.end (chunks_of row rows) refl (paragraph-lines options bytes row rows is)) (stands-ending bytes n.LineEnding last refl)
 
--- the same of the lines of groups
-abbrev GroupsUnlinked : List Group → Type 0
-GroupsUnlinked [] = Unit {0}
-GroupsUnlinked (Single row ∷ gs) = IsUnlinked row × GroupsUnlinked gs
-GroupsUnlinked (Lines row rows ∷ gs) = GroupsUnlinked gs
-
-groups-unlinked : (rows : List Row) → EachUnlinked rows → GroupsUnlinked (groups rows)
-groups-unlinked [] h = tt
-groups-unlinked (row ∷ rows) h = onto (groups rows) (groups-unlinked rows h.1) row.kind
-  where
-    onto : (gs : List Group) → GroupsUnlinked gs → (kind : RowKind) → GroupsUnlinked (onto_groups row kind gs)
-    onto gs k BlankRow = (h.0, k)
-    onto gs k HeadingRow = (h.0, k)
-    onto gs k BreakRow = (h.0, k)
-    onto [] k TextRow = tt
-    onto (Single first ∷ gs) k TextRow = k
-    onto (Lines first rows ∷ gs) k TextRow = k
-
-stands-groups : (options : ParseOptions) (bytes : List ℕ) (gs : List Group) → AreGroups options bytes gs → GroupsUnlinked gs → Stands bytes (titled_groups bytes gs)
+stands-groups : (options : ParseOptions) (bytes : List ℕ) (gs : List Group) → AreGroups options bytes gs → AreUnlinked gs → Stands bytes (titled_groups bytes gs)
 stands-groups options bytes [] are unlinked = stands-outside bytes [] tt tt
 stands-groups options bytes (Single row ∷ gs) are unlinked =
     stands-append bytes (titled_group bytes (Single row)) (titled_groups bytes gs) (stands-single options bytes row are.0 unlinked.0 row.kind refl) (stands-groups options bytes gs are.1 unlinked.1)
@@ -299,12 +194,6 @@ all-stand bytes xs h = ap (parts_stand bytes) (sym (append-nil xs)) ∙ h.parts 
 
 all-chunks : (bytes : List ℕ) (xs : List Event) → Stands bytes xs → chunks_stand 0 xs ≡ true
 all-chunks bytes xs h = ap (chunks_stand 0) (sym (append-nil xs)) ∙ h.chunks []
-
-pub groups-stand : (options : ParseOptions) (bytes : List ℕ) (p : Point) (lines : List (List ℕ)) (rows : List Row) → AreRows options bytes p lines rows → EachNoContent rows → EachUnlinked rows → parts_stand bytes (titled_groups bytes (groups rows)) ≡ true
-groups-stand options bytes p lines rows are quiet unlinked = all-stand bytes (titled_groups bytes (groups rows)) (rows-stand options bytes p lines rows are quiet unlinked)
-
-pub groups-chunks : (options : ParseOptions) (bytes : List ℕ) (p : Point) (lines : List (List ℕ)) (rows : List Row) → AreRows options bytes p lines rows → EachNoContent rows → EachUnlinked rows → chunks_stand 0 (titled_groups bytes (groups rows)) ≡ true
-groups-chunks options bytes p lines rows are quiet unlinked = all-chunks bytes (titled_groups bytes (groups rows)) (rows-stand options bytes p lines rows are quiet unlinked)
 
 -- With the events of a mark in front.
 stands-mark : (bytes : List ℕ) → Stands bytes (mark_events bytes)

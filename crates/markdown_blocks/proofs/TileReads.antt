@@ -1,5 +1,5 @@
 -- The events of a text are its block list, with what the plain layer reads in the place of each chunk.
-use Rattle.std.proofs.Common.{◌≡◌, ◌≢◌, ℕ, zero, suc, ◌+◌, Bool, true, false, cond, ◌&&◌, ◌==◌, List, [], ◌∷◌, ◌++◌, length, take, drop, refl, ap, sym, ◌∙◌, subst, append_assoc, append-nil}
+use Rattle.std.proofs.Common.{◌≡◌, ◌≢◌, ℕ, suc, ◌+◌, Bool, true, false, cond, ◌&&◌, ◌==◌, List, [], ◌∷◌, ◌++◌, length, take, drop, refl, ap, sym, ◌∙◌, subst, append_assoc, append-nil}
 use Rattle.std.specs.Prelude.{IsTrue, Option, Some, None}
 use Rattle.std.proofs.lemmas.Bool.{and_from}
 use Rattle.md_engine.specs.declared.configuration.ParseOptions.{ParseOptions}
@@ -12,39 +12,33 @@ use Rattle.md_engine.specs.Meaning.{Cell}
 use Rattle.md_engine.specs.Place.{first_point}
 use Rattle.md_engine.specs.TextFeed.{text_feed}
 use Rattle.md_content.specs.Paragraph.{text_link}
-use Rattle.md_leaves.specs.BreakRule as break
 use Rattle.md_leaves.specs.Heading.{heading_link}
-use Rattle.md_leaves.specs.HeadingRule.{Apart, Hashes, Run, Text as TextRun, White, begun, closes, goes_on, is_heading, opens}
+use Rattle.md_leaves.specs.HeadingRule.{Apart}
 use Rattle.md_leaves.specs.HeadingText.{linked_text}
-use Rattle.md_leaves.specs.HeadingTitle.{Title, chunk_unless_empty, front_len, line_runs, text_of, title_of, unread_title}
+use Rattle.md_leaves.specs.HeadingTitle.{Title, chunk_unless_empty, front_len, text_of, title_of, unread_title}
 use Rattle.md_seam.specs.declared.inline.Chunk.{Chunk}
 use Rattle.md_seam.specs.declared.inline.PartKind.{PartKind}
 use Rattle.md_seam.specs.declared.inline.PartKind.TheVariants.{Text}
-use Rattle.md_seam.specs.Ahead.{begins_white, from_ending, line_cells, line_end, white_end, white_rest}
-use Rattle.md_seam.specs.Inline.{Fills, Part, in_order, pieces, plain_chunk, plain_chunks, plain_events, together}
-use Rattle.md_seam.specs.Nested.{around, enter, enter_link, exit, pair}
-use Rattle.md_seam.specs.Places.{at_or_before, past_byte}
+use Rattle.md_seam.specs.Inline.{Fills, Part, in_order, pieces, plain_chunk, plain_chunks, together}
+use Rattle.md_seam.specs.Nested.{around, enter, exit, pair}
+use Rattle.md_seam.specs.Places.{at_or_before}
 use Rattle.md_seam.specs.Preamble.{has_mark}
-use Rattle.md_seam.specs.Rest.{trim_start}
-use Rattle.md_seam.specs.Spaces.{small_indent}
-use Rattle.md_seam.specs.Spelled.{Purpose, Tells, role}
-use Rattle.md_seam.specs.Tiles.{EachRead, chunks, filled, filled_from, first_list, further_lists, inside_part, is_part, part_at, part_kind, part_of, parts}
-use Rattle.md_seam.proofs.FilledLemmas.{part-tells}
-use Rattle.md_seam.proofs.InlineLemmas.{plain-fills}
+use Rattle.md_seam.specs.Tiles.{EachRead, chunks, filled, filled_from, first_list, further_lists, part_at, part_kind, part_of, parts}
+use Rattle.md_seam.proofs.InlineLemmas.{plain-fills, before-text}
 use Rattle.md_seam.proofs.NestedLemmas.{at_or_before-refl, at_or_before-trans}
 use Rattle.md_seam.proofs.NestsLemmas.{part-none, together-append}
-use Rattle.md_seam.proofs.SpelledLemmas.{Quiet, Roles}
 use Rattle.markdown_blocks.specs.Document.{body_point, mark_end, mark_events}
 use Rattle.markdown_blocks.specs.FlowReads.{text_cells, text_rows}
 use Rattle.markdown_blocks.specs.Parsed.{reads_plain}
-use Rattle.markdown_blocks.specs.Rows.{BlankRow, BreakRow, Group, HeadingRow, Lines, Row, RowKind, Single, TextRow, behind_row, chunks_of, ending_events, first_cell, group_events, groups, groups_events, inside_of, last_row, onto_groups, read_text, read_title, row_kind, row_title, rows_at, single_events_by}
+use Rattle.markdown_blocks.specs.Rows.{BlankRow, BreakRow, Group, HeadingRow, Lines, Row, RowKind, Single, TextRow, behind_row, chunks_of, ending_events, group_events, groups, groups_events, last_row, read_text, read_title, row_title, single_events_by}
 use Rattle.markdown_blocks.specs.Unread.{linked, titled_group, titled_groups, titled_row_by, unread_paragraph}
-use Rattle.markdown_blocks.proofs.GroupLemmas.{AreGroups, IsParagraph, IsSingle, groups-are, heading-line}
+use Rattle.markdown_blocks.proofs.GroupLemmas.{AreGroups, IsParagraph, IsSingle, groups-are}
 use Rattle.markdown_blocks.proofs.JoinedLemmas.{EachNoContent, behind-is, rows_at-no_content}
 use Rattle.markdown_blocks.proofs.NestedRows.{ending-order}
+use Rattle.markdown_blocks.proofs.PartFacts.{AreUnlinked, EachUnlinked, IsUnlinked, NoParts, groups-unlinked, kind-no_part, linked-chunks, linked-no_parts, part-inside, quiet-no_parts, rows_at-unlinked, runs-no_parts}
 use Rattle.markdown_blocks.proofs.RowFacts.{AreRows, IsInside, IsRow}
 use Rattle.markdown_blocks.proofs.TitleFacts.{NoLinks, back-unlinked, front-unlinked}
-use Rattle.markdown_blocks.proofs.TitleNests.{before-piece, blank-no_heading, break-no_heading, either, text-order, text_begin, text_end}
+use Rattle.markdown_blocks.proofs.TitleNests.{blank-no_heading, break-no_heading, text-order, text_begin, text_end}
 
 -- events that are those of a block list, with what is read in the place of each chunk
 pub record IsFilled (bytes : List ℕ) (blocks events : List Event) : Type 0 where
@@ -94,35 +88,10 @@ fill-append bytes xs zs more done h k = record {
 
 -- Events without chunks and parts.
 
--- no text part begins or ends among some events
-abbrev NoParts : List Event → Type 0
-NoParts [] = Unit {0}
-NoParts (e ∷ es) = (is_part e.name ≡ false) × NoParts es
-
-no_parts-append : (xs ys : List Event) → NoParts xs → NoParts ys → NoParts (xs ++ ys)
-no_parts-append [] ys h k = k
-no_parts-append (e ∷ xs) ys h k = (h.0, no_parts-append xs ys h.1 k)
-
-no_links-append : (xs ys : List Event) → NoLinks xs → NoLinks ys → NoLinks (xs ++ ys)
-no_links-append [] ys h k = k
-no_links-append (e ∷ xs) ys h k = (h.0, no_links-append xs ys h.1 k)
-
--- a name that the tree does not show is that of no part
-quiet-no_part : (name : Name) → Quiet (role name) → is_part name ≡ false
-quiet-no_part name h = go (is_part name) refl
-  where
-    go : (x : Bool) → is_part name ≡ x → x ≡ false
-    go false e = refl
-    go true e = let tells : (purpose : Purpose) × (role name ≡ Tells purpose) = part-tells name e in absurd (subst Quiet tells.1 h)
-
-quiet-no_parts : (es : List Event) → Roles Quiet es → NoParts es
-quiet-no_parts [] h = tt
-quiet-no_parts (e ∷ es) h = (quiet-no_part e.name h.0, quiet-no_parts es h.1)
-
 -- they have no parts, and nothing is read in their places
 passes-parts : (xs ys : List Event) → NoParts xs → parts (xs ++ ys) ≡ parts ys
 passes-parts [] ys h = refl
-passes-parts (e ∷ xs) ys h = ap (λ (l : List Part). l ++ parts (xs ++ ys)) (part-none e.kind e.name (xs ++ ys) h.0) ∙ passes-parts xs ys h.1
+passes-parts (e ∷ xs) ys h = ap (λ (l : List Part). l ++ parts (xs ++ ys)) (part-none e.kind e.name (xs ++ ys) (kind-no_part e.name h.0)) ∙ passes-parts xs ys h.1
 
 passes-filled : (xs ys : List Event) (lists : List (List Event)) → NoLinks xs → filled_from false (xs ++ ys) lists ≡ xs ++ filled_from false ys lists
 passes-filled [] ys lists h = refl
@@ -134,26 +103,12 @@ fill-same : (bytes : List ℕ) (xs : List Event) → NoLinks xs → NoParts xs �
 fill-same bytes xs h k = record { own = []; lists = []; each = tt; parts_are = λ ys. passes-parts xs ys k; read = λ ys more. passes-filled xs ys more h }
 
 -- and so does what stands around others
-fill-around : (bytes : List ℕ) (name : Name) (p q : Point) (xs zs : List Event) → is_part name ≡ false → Fill bytes xs zs → Fill bytes (around name p q xs) (around name p q zs)
+fill-around : (bytes : List ℕ) (name : Name) (p q : Point) (xs zs : List Event) → part_kind name ≡ None → Fill bytes xs zs → Fill bytes (around name p q xs) (around name p q zs)
 fill-around bytes name p q xs zs other h =
     fill-append bytes (enter name p ∷ []) (enter name p ∷ []) (xs ++ exit name q ∷ []) (zs ++ exit name q ∷ []) (fill-same bytes (enter name p ∷ []) (refl, tt) (other, tt))
     (fill-append bytes xs zs (exit name q ∷ []) (exit name q ∷ []) h (fill-same bytes (exit name q ∷ []) (refl, tt) (other, tt)))
 
 -- Text parts.
-
-linked-no_parts : (link : Link) (list : List Chunk) → NoParts (linked n.Data link list)
-linked-no_parts link [] = tt
-linked-no_parts link (chunk ∷ list) = (refl, (refl, linked-no_parts link list))
-
--- a part ends with its exit
-linked-inside : (name : Name) (q : Point) (link : Link) (list : List Chunk) (ys : List Event) → is_part name ≡ true → inside_part (linked n.Data link list ++ exit name q ∷ ys) ≡ linked n.Data link list
-linked-inside name q link [] ys is = ap (λ (x : Bool). cond (x && true) [] (exit name q ∷ inside_part ys)) is
-linked-inside name q link (chunk ∷ list) ys is = ap (λ (l : List Event). enter_link n.Data chunk.first link ∷ exit n.Data chunk.after ∷ l) (linked-inside name q link list ys is)
-
-linked-chunks : (link : Link) (list : List Chunk) → chunks (pieces (linked n.Data link list)) ≡ list
-linked-chunks link [] = refl
-linked-chunks link (chunk ∷ []) = refl
-linked-chunks link (chunk ∷ next ∷ list) = ap (λ (l : List Chunk). chunk ∷ l) (linked-chunks link (next ∷ list))
 
 linked-filled : (bytes : List ℕ) (link : Link) (list : List Chunk) (ys : List Event) (more : List (List Event)) → filled_from false (linked n.Data link list ++ ys) (plain_chunks bytes list ++ more) ≡ together (plain_chunks bytes list) ++ filled_from false ys more
 linked-filled bytes link [] ys more = refl
@@ -174,9 +129,6 @@ lists-read : (bytes : List ℕ) (kind : PartKind) (list : List Chunk) → Fills 
 lists-read bytes kind [] h = tt
 lists-read bytes kind (chunk ∷ list) h = (h, refl, tt)
 
-kind-part : (name : Name) (kind : PartKind) → part_kind name ≡ Some kind → is_part name ≡ true
-kind-part name kind h = ap (λ (x : Option PartKind). elim x [ None ↦ false | Some kind ↦ true ]) h
-
 -- a part whose chunks stand in order is read
 fill-part : (bytes : List ℕ) (name : Name) (kind : PartKind) (p q : Point) (link : Link) (list : List Chunk) → part_kind name ≡ Some kind → Fills list (plain_chunks bytes list) →
     Fill bytes (around name p q (linked n.Data link list)) (around name p q (together (plain_chunks bytes list)))
@@ -187,7 +139,7 @@ fill-part bytes name kind p q link list is fills = record {
   parts_are = λ ys.
       ap (λ (es : List Event). part_at (enter name p).kind (part_kind name) es ++ parts es) (append_assoc inside (exit name q ∷ []) ys)
       ∙ ap (λ (x : Option PartKind). part_at (enter name p).kind x (inside ++ exit name q ∷ ys) ++ parts (inside ++ exit name q ∷ ys)) is
-      ∙ ap (λ (l : List Event). part_of kind (chunks (pieces l)) ++ parts (inside ++ exit name q ∷ ys)) (linked-inside name q link list ys (kind-part name kind is))
+      ∙ ap (λ (l : List Event). part_of kind (chunks (pieces l)) ++ parts (inside ++ exit name q ∷ ys)) (part-inside name kind q link list ys is)
       ∙ ap (λ (l : List Chunk). part_of kind l ++ parts (inside ++ exit name q ∷ ys)) (linked-chunks link list)
       ∙ ap (λ (l : List Part). part_of kind list ++ l) (passes-parts inside (exit name q ∷ ys) (linked-no_parts link list));
   read = λ ys more.
@@ -201,25 +153,6 @@ fill-part bytes name kind p q link list is fills = record {
     inside = linked n.Data link list
 
 -- Headings.
-
-closes-no_parts : (run : Run) (p : Point) → NoParts (closes run p)
-closes-no_parts Apart p = tt
-closes-no_parts White p = (refl, tt)
-closes-no_parts Hashes p = (refl, tt)
-closes-no_parts TextRun p = (refl, tt)
-
-opens-no_parts : (run : Run) (p : Point) → NoParts (opens run p)
-opens-no_parts Apart p = tt
-opens-no_parts White p = (refl, tt)
-opens-no_parts Hashes p = (refl, tt)
-opens-no_parts TextRun p = (refl, tt)
-
-runs-no_parts : (run : Run) (xs : List ℕ) (p : Point) → NoParts (line_runs run xs p)
-runs-no_parts run [] p = closes-no_parts run p
-runs-no_parts run (b ∷ xs) p =
-    let rest : List Event = line_runs (begun b) xs (past_byte b p) in
-    either NoParts (goes_on run b) (line_runs run xs (past_byte b p)) ((closes run p ++ opens (begun b) p) ++ rest) (runs-no_parts run xs (past_byte b p))
-    (no_parts-append (closes run p ++ opens (begun b) p) rest (no_parts-append (closes run p) (opens (begun b) p) (closes-no_parts run p) (opens-no_parts (begun b) p)) (runs-no_parts (begun b) xs (past_byte b p)))
 
 -- the text of a heading, if there is one
 fill-text : (bytes : List ℕ) (size : ℕ) (p q : Point) → IsTrue (at_or_before p q) → Fill bytes (linked_text (chunk_unless_empty size p q)) (read_text bytes (chunk_unless_empty size p q))
@@ -235,68 +168,17 @@ fill-text bytes size p q h = go (size == 0)
     go true = fill-same bytes [] tt tt
     go false = fill-part bytes n.HeadingAtxText Text p q heading_link (chunk ∷ []) refl (plain-fills bytes p (chunk ∷ []) order)
 
-fill-title : (bytes line : List ℕ) (p : Point) → is_heading (trim_start line) ≡ true → Fill bytes (unread_title (title_of line p)) (read_title bytes (title_of line p))
-fill-title bytes line p h =
+fill-title : (bytes line : List ℕ) (p : Point) → Fill bytes (unread_title (title_of line p)) (read_title bytes (title_of line p))
+fill-title bytes line p =
     let title : Title = title_of line p in
     fill-append bytes (title.front ++ linked_text title.text) (title.front ++ read_text bytes title.text) title.back title.back
-    (fill-append bytes title.front title.front (linked_text title.text) (read_text bytes title.text) (fill-same bytes title.front (front-unlinked line p h) (runs-no_parts Apart (take (front_len line) line) p))
+    (fill-append bytes title.front title.front (linked_text title.text) (read_text bytes title.text) (fill-same bytes title.front (front-unlinked line p) (runs-no_parts Apart (take (front_len line) line) p))
     (fill-text bytes (length (text_of line)) (text_begin line p) (text_end line p) (text-order line p)))
-    (fill-same bytes title.back (back-unlinked line p h) (runs-no_parts Apart (drop (front_len line + length (text_of line)) line) (text_end line p)))
+    (fill-same bytes title.back (back-unlinked line p) (runs-no_parts Apart (drop (front_len line + length (text_of line)) line) (text_end line p)))
 
 -- Lines.
 
--- nothing inside a line is read later, but in a heading
-abbrev pub EachUnlinked : List Row → Type 0
-EachUnlinked [] = Unit {0}
-EachUnlinked (row ∷ rows) = (row.kind ≢ HeadingRow → NoLinks row.inside) × EachUnlinked rows
-
-break-unlinked : (run : break.Run) (m : ℕ) (cells : List Cell) (p : Point) → NoLinks (break.runs run m cells p)
-break-unlinked break.Apart m [] p = tt
-break-unlinked break.Marks m [] p = (refl, tt)
-break-unlinked break.White m [] p = (refl, tt)
-break-unlinked break.Apart m (c ∷ cs) p = either NoLinks (c.byte == m) _ _ (refl, break-unlinked break.Marks m cs c.after) (refl, break-unlinked break.White m cs c.after)
-break-unlinked break.Marks m (c ∷ cs) p = either NoLinks (c.byte == m) _ _ (break-unlinked break.Marks m cs c.after) (refl, (refl, break-unlinked break.White m cs c.after))
-break-unlinked break.White m (c ∷ cs) p = either NoLinks (c.byte == m) _ _ (refl, (refl, break-unlinked break.Marks m cs c.after)) (break-unlinked break.White m cs c.after)
-
-inside-unlinked : (options : ParseOptions) (cells : List Cell) (p : Point) (kind : RowKind) → kind ≢ HeadingRow → NoLinks (inside_of options cells p kind)
-inside-unlinked options cells p BlankRow other = either NoLinks (begins_white cells) (pair n.SpaceOrTab p (line_end cells p)) [] (refl, (refl, tt)) tt
-inside-unlinked options cells p HeadingRow other = absurd (other refl)
-inside-unlinked options cells p BreakRow other =
-    let room : ℕ = small_indent options in
-    let rest : List Cell = white_rest room cells in
-    let q : Point = white_end room cells p in
-    no_links-append (cond (begins_white cells) (pair n.SpaceOrTab p q) []) (break.runs break.Apart (first_cell rest) (line_cells rest) q)
-    (either NoLinks (begins_white cells) (pair n.SpaceOrTab p q) [] (refl, (refl, tt)) tt) (break-unlinked break.Apart (first_cell rest) (line_cells rest) q)
-inside-unlinked options cells p TextRow other = tt
-
--- so it is in the lines that flow reads
-pub rows_at-unlinked : (options : ParseOptions) (size : ℕ) (cells : List Cell) (p : Point) → EachUnlinked (rows_at options size cells p)
-rows_at-unlinked options zero cells p = tt
-rows_at-unlinked options (suc size) cells p = (λ other. inside-unlinked options cells p (row_kind options cells) other, go (rows_at-unlinked options size) (from_ending cells))
-  where
-    go : ((cells : List Cell) (p : Point) → EachUnlinked (rows_at options size cells p)) → (rest : List Cell) → EachUnlinked (elim rest [ [] ↦ [] | c ∷ cs ↦ rows_at options size cs c.after ])
-    go further [] = tt
-    go further (c ∷ cs) = further cs c.after
-
--- the same of the lines of groups that are no text
-abbrev AreUnlinked : List Group → Type 0
-AreUnlinked [] = Unit {0}
-AreUnlinked (Single row ∷ gs) = (row.kind ≢ HeadingRow → NoLinks row.inside) × AreUnlinked gs
-AreUnlinked (Lines row rows ∷ gs) = AreUnlinked gs
-
-groups-unlinked : (rows : List Row) → EachUnlinked rows → AreUnlinked (groups rows)
-groups-unlinked [] h = tt
-groups-unlinked (row ∷ rows) h = onto row.kind (groups rows) (groups-unlinked rows h.1)
-  where
-    onto : (kind : RowKind) (gs : List Group) → AreUnlinked gs → AreUnlinked (onto_groups row kind gs)
-    onto BlankRow gs k = (h.0, k)
-    onto HeadingRow gs k = (h.0, k)
-    onto BreakRow gs k = (h.0, k)
-    onto TextRow [] k = tt
-    onto TextRow (Single first ∷ gs) k = k
-    onto TextRow (Lines first rows ∷ gs) k = k
-
-fill-ending : (bytes : List ℕ) (name : Name) (row : Row) → is_part name ≡ false → Fill bytes (ending_events name row) (ending_events name row)
+fill-ending : (bytes : List ℕ) (name : Name) (row : Row) → part_kind name ≡ None → Fill bytes (ending_events name row) (ending_events name row)
 fill-ending bytes name row other = go row.after
   where
     go : (after : Option Point) → Fill bytes (ending_events name (record row { after = after })) (ending_events name (record row { after = after }))
@@ -306,7 +188,7 @@ fill-ending bytes name row other = go row.after
 fill-inside : (bytes : List ℕ) (row : Row) → NoLinks row.inside → IsInside row → Fill bytes row.inside row.inside
 fill-inside bytes row h inside = fill-same bytes row.inside h (quiet-no_parts row.inside inside.quiet)
 
-fill-single : (options : ParseOptions) (bytes : List ℕ) (row : Row) → IsSingle options bytes row → (row.kind ≢ HeadingRow → NoLinks row.inside) → (kind : RowKind) → row.kind ≡ kind →
+fill-single : (options : ParseOptions) (bytes : List ℕ) (row : Row) → IsSingle options bytes row → IsUnlinked row → (kind : RowKind) → row.kind ≡ kind →
     Fill bytes (titled_row_by bytes kind row) (single_events_by bytes kind row)
 fill-single options bytes row is h BlankRow e =
     let ending : List Event = ending_events n.BlankLineEnding row in
@@ -317,7 +199,7 @@ fill-single options bytes row is h HeadingRow e =
     fill-append bytes (around n.HeadingAtx row.first row.end (unread_title (row_title bytes row))) (around n.HeadingAtx row.first row.end (read_title bytes (row_title bytes row))) ending ending
     (fill-around bytes n.HeadingAtx row.first row.end (unread_title (row_title bytes row)) (read_title bytes (row_title bytes row)) refl
     (subst (λ (line : List ℕ). Fill bytes (unread_title (title_of line row.first)) (read_title bytes (title_of line row.first))) (sym is.is.text)
-    (fill-title bytes is.line row.first (heading-line options is.line (sym is.is.kind ∙ e)))))
+    (fill-title bytes is.line row.first)))
     (fill-ending bytes n.LineEnding row refl)
 fill-single options bytes row is h BreakRow e =
     let ending : List Event = ending_events n.LineEnding row in
@@ -330,7 +212,7 @@ fill-single options bytes row is h TextRow e = absurd (is.other e)
 
 -- a line ends no earlier than it begins
 line-order : (options : ParseOptions) (bytes line : List ℕ) (row : Row) → IsRow options bytes line row → IsTrue (at_or_before row.first row.end)
-line-order options bytes line row is = subst (λ (q : Point). IsTrue (at_or_before row.first q)) (sym is.end) (before-piece line row.first)
+line-order options bytes line row is = subst (λ (q : Point). IsTrue (at_or_before row.first q)) (sym is.end) (before-text line row.first)
 
 -- the chunks of a paragraph stand one behind the other
 paragraph-order : (options : ParseOptions) (bytes : List ℕ) (row : Row) (rows : List Row) → IsParagraph options bytes row rows → in_order row.first (chunks_of row rows) ≡ true
@@ -371,12 +253,6 @@ fill-mark bytes = go (has_mark bytes)
     go : (x : Bool) → let mark : List Event = cond x (pair n.ByteOrderMark first_point mark_end) [] in Fill bytes mark mark
     go true = fill-same bytes (pair n.ByteOrderMark first_point mark_end) (refl, (refl, tt)) (refl, (refl, tt))
     go false = fill-same bytes [] tt tt
-
--- The events of the lines of a text are the block list of its groups, with each chunk read.
-pub groups-filled : (options : ParseOptions) (bytes : List ℕ) (p : Point) (lines : List (List ℕ)) (rows : List Row) → AreRows options bytes p lines rows → EachNoContent rows → EachUnlinked rows →
-    IsFilled bytes (titled_groups bytes (groups rows)) (groups_events bytes (groups rows))
-groups-filled options bytes p lines rows are quiet unlinked =
-    fill-all bytes (titled_groups bytes (groups rows)) (groups_events bytes (groups rows)) (fill-groups options bytes (groups rows) (groups-are options bytes p lines rows are quiet) (groups-unlinked rows unlinked))
 
 -- The same with a mark in front.
 pub blocks-filled : (options : ParseOptions) (bytes : List ℕ) (p : Point) (lines : List (List ℕ)) (rows : List Row) → AreRows options bytes p lines rows → EachNoContent rows → EachUnlinked rows →

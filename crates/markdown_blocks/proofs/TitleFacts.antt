@@ -1,5 +1,5 @@
 -- What is known of the parts of a heading on a line.
-use Rattle.std.proofs.Common.{◌≡◌, ℕ, ◌+◌, ◌≤◌, Bool, true, false, ◌||◌, List, [], ◌∷◌, ◌++◌, length, take, drop, refl, sym, ◌∙◌, ap, subst, append_assoc, append-nil}
+use Rattle.std.proofs.Common.{◌≡◌, ℕ, ◌+◌, Bool, true, false, ◌||◌, List, [], ◌∷◌, ◌++◌, length, take, drop, refl, sym, ◌∙◌, ap, subst, append_assoc, append-nil}
 use Rattle.std.specs.Prelude.{◌==◌, None}
 use Rattle.std.specs.List.{AllPass}
 use Rattle.md_engine.specs.declared.event.Event.{Event}
@@ -8,7 +8,7 @@ use Rattle.md_engine.specs.declared.event.Point.{Point}
 use Rattle.md_leaves.specs.HeadingRule.{Apart, Hashes, Run, Text, White, begun, closes, goes_on, is_heading, opens}
 use Rattle.md_leaves.specs.HeadingText.{Before, headings_resolved, resolved}
 use Rattle.md_leaves.specs.HeadingTitle.{front_len, line_runs, text_of, title_of, unread_title}
-use Rattle.md_leaves.proofs.TitleLemmas.{behind-marks, front-marks, is_mark, title-fits, title-resolved, title-text}
+use Rattle.md_leaves.proofs.TitleLemmas.{behind-marks, front-marks, is_mark, title-resolved}
 use Rattle.md_leaves.proofs.TitleRuns.{pass-first, pass-rest}
 use Rattle.md_seam.specs.Nested.{around, enter, exit}
 use Rattle.md_seam.specs.Places.{past_byte, past_text}
@@ -57,17 +57,10 @@ runs-unlinked run (b ∷ bs) p h = go (goes_on run b) refl (runs-unlinked run bs
         rw e (subst NoLinks (sym (append_assoc (closes run p) (opens (begun b) p) rest)) (closes-unlinked run p (opens (begun b) p ++ rest) (opens-unlinked b p rest (pass-first is_mark b bs h) next)))
 
 -- nothing around the text is read later
-pub front-unlinked : (line : List ℕ) (p : Point) → is_heading (trim_start line) ≡ true → NoLinks (title_of line p).front
-front-unlinked line p h = runs-unlinked Apart (take (front_len line) line) p (front-marks line)
+pub front-unlinked : (line : List ℕ) (p : Point) → NoLinks (title_of line p).front
+front-unlinked line p = runs-unlinked Apart (take (front_len line) line) p (front-marks line)
 
-pub back-unlinked : (line : List ℕ) (p : Point) → is_heading (trim_start line) ≡ true → NoLinks (title_of line p).back
-back-unlinked line p h =
+pub back-unlinked : (line : List ℕ) (p : Point) → NoLinks (title_of line p).back
+back-unlinked line p =
     let end = front_len line + length (text_of line) in
     runs-unlinked Apart (drop end line) (past_text (take end line) p) (behind-marks line)
-
--- the text stands behind the front, on the line
-pub text-place : (line : List ℕ) → is_heading (trim_start line) ≡ true → take (length (text_of line)) (drop (front_len line) line) ≡ text_of line
-text-place line h = title-text line
-
-pub text-fits : (line : List ℕ) → is_heading (trim_start line) ≡ true → front_len line + length (text_of line) ≤ length line
-text-fits line h = title-fits line

@@ -1,7 +1,6 @@
 -- The parts of a heading nest, and stand one behind the other on its line.
-use Rattle.std.proofs.Common.{◌≡◌, ◌≢◌, ℕ, ◌+◌, ◌<◌, Bool, true, false, cond, List, [], ◌∷◌, ◌++◌, length, take, drop, refl, ap, sym, ◌∙◌, subst, append_assoc, append-nil, arith, take-add}
+use Rattle.std.proofs.Common.{◌≡◌, ◌≢◌, ℕ, ◌+◌, Bool, true, false, cond, List, [], ◌∷◌, ◌++◌, length, take, drop, refl, ap, sym, ◌∙◌, subst, append_assoc, append-nil, take-add}
 use Rattle.std.specs.Prelude.{IsTrue}
-use Rattle.std.proofs.lemmas.Bool.Decides.{nat_tests}
 use Rattle.std.proofs.lemmas.List.{take-append-drop}
 use Rattle.md_engine.specs.declared.event.Event.{Event}
 use Rattle.md_engine.specs.declared.event.Name.{Name}
@@ -11,6 +10,7 @@ use Rattle.md_leaves.specs.HeadingRule.{Apart, Hashes, Run, Text, White, begun, 
 use Rattle.md_leaves.specs.HeadingTitle.{front_len, line_runs, text_of, title_of}
 use Rattle.md_seam.specs.Nested.{Balanced, Forward, Matches, last_point, open_after}
 use Rattle.md_seam.specs.Places.{at_or_before, past_byte, past_text}
+use Rattle.md_seam.proofs.InlineLemmas.{before-text, past_text-append}
 use Rattle.md_seam.proofs.NestedLemmas.{at_or_before-refl, at_or_before-trans, forward-append, last_point-append}
 use Rattle.markdown_blocks.specs.Rows.{BlankRow, BreakRow, HeadingRow, RowKind}
 
@@ -23,21 +23,6 @@ pub break-no_heading : (kind : RowKind) → kind ≡ BreakRow → kind ≢ Headi
 break-no_heading kind e k = cc
 
 -- Points.
-
-before-byte : (b : ℕ) (p : Point) → IsTrue (at_or_before p (past_byte b p))
-before-byte b p = later p (past_byte b p) (omega arith)
-  where
-    later : (p q : Point) → p.index < q.index → IsTrue (at_or_before p q)
-    later p q lt = grind (arith, nat_tests)
-
--- a piece of a line ends no earlier than it begins
-pub before-piece : (xs : List ℕ) (p : Point) → IsTrue (at_or_before p (past_text xs p))
-before-piece [] p = at_or_before-refl p
-before-piece (b ∷ xs) p = at_or_before-trans p (past_byte b p) (past_text xs (past_byte b p)) (before-byte b p) (before-piece xs (past_byte b p))
-
-pub past-piece : (xs ys : List ℕ) (p : Point) → past_text (xs ++ ys) p ≡ past_text ys (past_text xs p)
-past-piece [] ys p = refl
-past-piece (b ∷ xs) ys p = past-piece xs ys (past_byte b p)
 
 -- from a point on, and up to a point
 abbrev pub Spans : Point → Point → List Event → Type 0
@@ -112,9 +97,9 @@ spans-runs run (b ∷ xs) p q h =
     let next : Point = past_byte b q in
     let end : Point = past_text xs next in
     let rest : List Event = line_runs (begun b) xs next in
-    either (Spans p end) (goes_on run b) (line_runs run xs next) ((closes run q ++ opens (begun b) q) ++ rest) (spans-runs run xs p next (at_or_before-trans p q next h (before-byte b q)))
+    either (Spans p end) (goes_on run b) (line_runs run xs next) ((closes run q ++ opens (begun b) q) ++ rest) (spans-runs run xs p next (at_or_before-trans p q next h (before-text (b ∷ []) q)))
     (spans-append p q end (closes run q ++ opens (begun b) q) rest (spans-append p q q (closes run q) (opens (begun b) q) (spans-closes run p q h) (spans-opens (begun b) q))
-    (spans-runs (begun b) xs q next (before-byte b q)))
+    (spans-runs (begun b) xs q next (before-text (b ∷ []) q)))
 
 -- they stand between its ends
 pub runs-span : (xs : List ℕ) (p : Point) → Spans p (past_text xs p) (line_runs Apart xs p)
@@ -139,13 +124,13 @@ back_bytes line = drop (front_len line + length (text_of line)) line
 pub text-end-is : (line : List ℕ) (p : Point) → text_end line p ≡ past_text (text_bytes line) (text_begin line p)
 text-end-is line p =
     ap (λ (l : List ℕ). past_text l p) (take-add (front_len line) (length (text_of line)) line)
-    ∙ past-piece (take (front_len line) line) (text_bytes line) p
+    ∙ past_text-append (take (front_len line) line) (text_bytes line) p
 
 pub line-end-is : (line : List ℕ) (p : Point) → past_text line p ≡ past_text (back_bytes line) (text_end line p)
 line-end-is line p =
     let size : ℕ = front_len line + length (text_of line) in
     ap (λ (l : List ℕ). past_text l p) (sym (take-append-drop size line))
-    ∙ past-piece (take size line) (drop size line) p
+    ∙ past_text-append (take size line) (drop size line) p
 
 -- the front stands before the text
 pub front-span : (line : List ℕ) (p : Point) → Spans p (text_begin line p) (title_of line p).front
@@ -156,7 +141,7 @@ front-balanced line p = runs-balanced (take (front_len line) line) p
 
 -- the text ends no earlier than it begins
 pub text-order : (line : List ℕ) (p : Point) → IsTrue (at_or_before (text_begin line p) (text_end line p))
-text-order line p = subst (λ (q : Point). IsTrue (at_or_before (text_begin line p) q)) (sym (text-end-is line p)) (before-piece (text_bytes line) (text_begin line p))
+text-order line p = subst (λ (q : Point). IsTrue (at_or_before (text_begin line p) q)) (sym (text-end-is line p)) (before-text (text_bytes line) (text_begin line p))
 
 -- what is left stands behind the text, and on the line
 pub back-span : (line : List ℕ) (p : Point) → Spans (text_end line p) (past_text line p) (title_of line p).back

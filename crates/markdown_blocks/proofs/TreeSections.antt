@@ -18,6 +18,7 @@ use Rattle.md_seam.specs.State.{At, Kept, Leaf, NoLeaf, OpenParagraph, Path, Spo
 use Rattle.md_seam.specs.Step.{all_continued, all_continued_by, fresh_by, fresh_line, is_concrete, is_open_text, leaf_line, spot_of, step, steps, text_by, text_line}
 use Rattle.md_seam.specs.Texts.{split_lines}
 use Rattle.md_seam.specs.Tree.{Blocks, Break, End, More, Paragraph}
+use Rattle.md_seam.proofs.LinesLemmas.{rests_at-zero, without_ending-onto}
 use Rattle.markdown_blocks.specs.Parsed.{IsBuilt}
 use Rattle.markdown_blocks.specs.Rows.{BlankRow, BreakRow, HeadingRow, RowKind, TextRow, line_kind}
 use Rattle.markdown_blocks.specs.Sections.{heading_block, sections, with_open}
@@ -180,10 +181,6 @@ leaf_of-snoc : (ks : List Kept) (k : Kept) → leaf_of (ks ++ k ∷ []) ≡ Open
 leaf_of-snoc [] k = refl
 leaf_of-snoc (j ∷ ks) k = refl
 
-rests_at-zero : (ls : List (List ℕ)) → rests_at 0 ls ≡ map (rest_at 0) ls
-rests_at-zero [] = refl
-rests_at-zero (l ∷ ls) = refl
-
 -- the finished blocks, and behind them those of the lines, of which the first begins at any column
 steps-sections : (options : ParseOptions) (lines : List (List ℕ)) (column : ℕ) (bs : Blocks) (held : List Kept) → IsBuilt options →
     closed options (steps options (At (spot_with bs held)) (rests_at column lines)) ≡ then_blocks bs (sections options (texts held) lines)
@@ -259,16 +256,8 @@ or_empty-byte b split lines (inl e) = inl (ap (onto_first b) e)
 or_empty-byte b split [] (inr e) = inl (ap (onto_first b) e)
 or_empty-byte b split (line ∷ lines) (inr e) = inr (ap (onto_first b) e)
 
-without_ending-cons : (b : ℕ) (line : List ℕ) → is_ending b ≡ false → without_ending (b ∷ line) ≡ b ∷ without_ending line
-without_ending-cons b line e = take_while-cons (λ (c : ℕ). not (is_ending c)) b line ∙ ap (λ (t : Bool). cond (not t) (b ∷ without_ending line) []) e
-
 without_ending-end : (b : ℕ) (line : List ℕ) → is_ending b ≡ true → without_ending (b ∷ line) ≡ []
 without_ending-end b line e = take_while-cons (λ (c : ℕ). not (is_ending c)) b line ∙ ap (λ (t : Bool). cond (not t) (b ∷ without_ending line) []) e
-
--- a byte that ends no line stays in its line
-without_ending-onto : (b : ℕ) (ls : List (List ℕ)) → is_ending b ≡ false → map without_ending (onto_first b ls) ≡ onto_first b (map without_ending ls)
-without_ending-onto b [] e = ap (λ (l : List ℕ). l ∷ []) (without_ending-cons b [] e)
-without_ending-onto b (l ∷ ls) e = ap (λ (k : List ℕ). k ∷ map without_ending ls) (without_ending-cons b l e)
 
 -- a CR goes with the LF behind it
 return-feed : (b : ℕ) (bytes : List ℕ) → is_ending b ≡ true → begins_with 10 bytes ≡ true → map without_ending (onto_first b (full_lines_of bytes)) ≡ lines_of bytes

@@ -1,5 +1,5 @@
 -- Each state of the prefix of a quote takes one step of its rule.
-use Rattle.std.proofs.Common.{◌≡◌, ℕ, ◌≤◌, Bool, true, false, cond, List, [], ◌∷◌, ◌++◌, length, Option, Some, None, refl, sym, ◌∙◌, ap, arith, append_assoc}
+use Rattle.std.proofs.Common.{◌≡◌, ℕ, Bool, true, false, List, [], ◌∷◌, ◌++◌, length, Option, Some, None, refl, sym, ◌∙◌, ap, arith, append_assoc}
 use Rattle.md_engine.specs.declared.configuration.ParseOptions.{ParseOptions}
 use Rattle.md_engine.specs.declared.event.Event.{Event}
 use Rattle.md_engine.specs.declared.event.Name.TheVariants.{BlockQuote, BlockQuoteMarker, BlockQuotePrefix, SpaceOrTab}
@@ -13,15 +13,9 @@ use Rattle.md_containers.specs.Quote.{cont_after_code, cont_before_code, cont_st
 use Rattle.md_containers.specs.QuoteRule.{HasQuote, at_marker, behind_marker, prefix_at, quote_at}
 use Rattle.md_seam.specs.Ahead.{begins_white, white_rest}
 use Rattle.md_seam.specs.Nested.{enter, exit}
-use Rattle.md_seam.specs.Spaces.{any_size, is_current, sees_white, small_indent}
+use Rattle.md_seam.specs.Spaces.{is_current, sees_white, small_indent}
+use Rattle.md_seam.proofs.AheadLemmas.{small-some}
 use Rattle.md_seam.proofs.WhiteSteps.{begins-seen, behind_white, white-tried}
-
-small-some : (options : ParseOptions) → 1 ≤ small_indent options
-small-some options = go options.constructs.code_indented
-  where
-    go : (b : Bool) → 1 ≤ cond b 3 any_size
-    go true = omega arith
-    go false = omega arith
 
 -- The start.
 

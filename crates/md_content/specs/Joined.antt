@@ -1,27 +1,15 @@
 -- Lines of content that follow one another, joined: the ending between two belongs to the first.
 use Rattle.std.specs.Prelude.{ℕ, Bool, true, false, ◌&&◌, if◌then◌else◌, List, [], ◌∷◌}
 use Rattle.md_engine.specs.declared.event.Event.{Event}
-use Rattle.md_engine.specs.declared.event.Kind.{Kind}
-use Rattle.md_engine.specs.declared.event.Kind.TheVariants.{Enter, Exit}
 use Rattle.md_engine.specs.declared.event.Name.{Name}
 use Rattle.md_engine.specs.declared.event.Name.TheVariants as n
+use Rattle.md_seam.specs.Inline.{is_line_ending}
+use Rattle.md_seam.specs.Nested.{is_enter, is_exit}
 use Rattle.md_seam.specs.Substituted.{is_prefix}
 
 abbrev pub is_content : Name → Bool
 is_content n.Content = true
 is_content _ = false
-
-abbrev pub is_line_ending : Name → Bool
-is_line_ending n.LineEnding = true
-is_line_ending _ = false
-
-abbrev pub is_enter : Kind → Bool
-is_enter Enter = true
-is_enter Exit = false
-
-abbrev pub is_exit : Kind → Bool
-is_exit Exit = true
-is_exit Enter = false
 
 -- whether a line of content begins behind container prefixes
 abbrev pub content_behind : List Event → Bool

@@ -1,15 +1,21 @@
 -- What is left of a break, cell by cell.
-use Rattle.std.proofs.Common.{◌≡◌, ℕ, zero, suc, ◌+◌, ◌≤◌, Bool, true, false, cond, nat_eq, List, [], ◌∷◌, ◌++◌, length, refl, sym, ◌∙◌, arith, append_assoc, append-nil}
+use Rattle.std.proofs.Common.{◌≡◌, ℕ, zero, suc, ◌+◌, ◌≤◌, Bool, true, false, cond, nat_eq, List, [], ◌∷◌, ◌++◌, length, refl, sym, ◌∙◌, arith, append_assoc, append-nil, ap₂}
 use Rattle.std.specs.Prelude.{count_by, nat_le}
-use Rattle.std.proofs.lemmas.Bool.Decides.{Decides-eqb, nat_tests}
+use Rattle.std.proofs.lemmas.Bool.{eqb-true}
+use Rattle.std.proofs.lemmas.Bool.Decides.{nat_tests}
 use Rattle.std.proofs.lemmas.List.Sums.{sum_by-cons}
+use Rattle.md_engine.specs.declared.event.Event.{Event}
 use Rattle.md_engine.specs.declared.event.Name.TheVariants.{SpaceOrTab, ThematicBreakSequence}
+use Rattle.md_engine.specs.declared.tokenizer.Scratch.{Scratch}
 use Rattle.md_engine.specs.Meaning.{Cell, Here, Refuses}
 use Rattle.md_leaves.specs.Break.{is_marker, without_marker}
 use Rattle.md_leaves.specs.BreakRule.{Apart, Marks, Run, White, at_break, before_marker, in_break, marks}
 use Rattle.md_seam.specs.Ahead.{line_bytes, white_end, white_rest}
 use Rattle.md_seam.specs.Nested.{enter, exit}
 use Rattle.md_seam.specs.Rest.{is_white}
+use Rattle.md_seam.specs.Spaces.{calmed}
+use Rattle.md_seam.proofs.AheadLemmas.{white-no_ending}
+use Rattle.md_seam.proofs.WhiteSteps.{behind_white}
 
 pub marks-none : (m : ℕ) → marks m [] ≡ 0
 unfolding marks
@@ -45,10 +51,6 @@ pub in_break-other : (run : Run) (c : Cell) (cs : List Cell) (h : Here) → nat_
 unfolding in_break
 in_break-other run c cs h is white ending = rw (ending, is, white) refl
 
--- equal numbers
-pub eq-of : (a b : ℕ) → nat_eq a b ≡ true → a ≡ b
-eq-of a b e = (Decides-eqb a b).0 e
-
 pub marker-no_ending : (m : ℕ) → is_marker m ≡ true → nat_eq m 10 ≡ false
 marker-no_ending m h = grind (arith, nat_tests)
 
@@ -61,11 +63,7 @@ white-apart c m s k = go (nat_eq c m) refl
   where
     go : (x : Bool) → nat_eq c m ≡ x → x ≡ false
     go false e = refl
-    go true e = let same : is_white m ≡ true = rw (eq-of c m e) at s in let bad : true ≡ false = sym same ∙ k in cc
-
--- whitespace ends no line
-pub white-no_ending : (c : ℕ) → is_white c ≡ true → nat_eq c 10 ≡ false
-white-no_ending c s = white-apart c 10 s refl
+    go true e = let same : is_white m ≡ true = rw (eqb-true c m e) at s in let bad : true ≡ false = sym same ∙ k in cc
 
 -- where whitespace ends, the rest is what is left behind it
 white-ends : (c : Cell) (cs : List Cell) (h : Here) → is_white c.byte ≡ false →
@@ -113,6 +111,13 @@ apart-mark c cs h is e = rw (e, is) (simp append_assoc)
 -- behind whitespace that ends
 unfoldable pub here_after : ℕ → List Cell → Here → Here
 here_after room cells h = record h { events = h.events ++ exit SpaceOrTab (white_end room cells h.point) ∷ []; point = white_end room cells h.point }
+
+-- behind whitespace that was begun here, its events written in another way
+pub behind-joined : (room : ℕ) (cells : List Cell) (h : Here) → calmed h.scratch ≡ h.scratch →
+    here_after room cells (record h { events = h.events ++ enter SpaceOrTab h.point ∷ [] }) ≡ behind_white room cells h
+unfolding here_after
+behind-joined room cells h same =
+    ap₂ (λ (es : List Event) (t : Scratch). let r : Here = record h { events = es; point = white_end room cells h.point; scratch = t } in r) (append_assoc h.events (enter SpaceOrTab h.point ∷ []) _) (sym same)
 
 run-go_on : (room : ℕ) (c : Cell) (cs : List Cell) (h : Here) → is_white c.byte ≡ true →
     at_break (white_rest room cs) (here_after room cs (record h { point = c.after })) ≡ at_break (white_rest (suc room) (c ∷ cs)) (here_after (suc room) (c ∷ cs) h)

@@ -1,6 +1,7 @@
 -- Each state of a thematic break takes one step of its rule.
-use Rattle.std.proofs.Common.{◌≡◌, ℕ, ◌≤◌, Bool, true, false, cond, ◌&&◌, nat_eq, List, [], ◌∷◌, ◌++◌, length, Option, Some, None, refl, sym, ◌∙◌, ap, ap₂, arith, append_assoc, append-nil, add-zero}
+use Rattle.std.proofs.Common.{◌≡◌, ℕ, Bool, true, false, ◌&&◌, nat_eq, List, [], ◌∷◌, ◌++◌, length, Option, Some, None, refl, sym, ◌∙◌, ap, arith, append-nil, add-zero}
 use Rattle.std.specs.Prelude.{nat_le}
+use Rattle.std.proofs.lemmas.Bool.{eqb-true}
 use Rattle.md_engine.specs.declared.configuration.ParseOptions.{ParseOptions}
 use Rattle.md_engine.specs.declared.event.Event.{Event}
 use Rattle.md_engine.specs.declared.event.Name.TheVariants.{SpaceOrTab, ThematicBreak}
@@ -15,12 +16,13 @@ use Rattle.md_engine.specs.World.{World, after}
 use Rattle.md_engine.proofs.StepOf.{Sees, ahead, begins, cell_here, moves, passes}
 use Rattle.md_leaves.specs.Break.{at_break_code, before_code, is_marker, sequence_code, start_code, without_marker}
 use Rattle.md_leaves.specs.BreakRule.{Apart, HasBreak, Marks, White, at_break, before_marker, break_at, in_break}
-use Rattle.md_leaves.proofs.BreakLemmas.{apart-mark, before-mark, before-other, eq-of, here_after, in_break-mark, in_break-other, marker-no_ending, marker-no_white, marks-at_none, marks-end, marks-none, marks-white, white-run}
+use Rattle.md_leaves.proofs.BreakLemmas.{apart-mark, before-mark, before-other, in_break-mark, in_break-other, marker-no_ending, marker-no_white, marks-at_none, marks-end, marks-none, marks-white, white-run, behind-joined}
 use Rattle.md_leaves.proofs.Goods.{marked-calm}
-use Rattle.md_seam.specs.Ahead.{begins_white, white_end, white_rest}
+use Rattle.md_seam.specs.Ahead.{begins_white, white_rest}
 use Rattle.md_seam.specs.Nested.{enter, exit}
 use Rattle.md_seam.specs.Rest.{is_white}
-use Rattle.md_seam.specs.Spaces.{IsRest, any_size, calmed, ends_line, is_current, sees_white, small_indent}
+use Rattle.md_seam.specs.Spaces.{IsRest, any_size, ends_line, is_current, sees_white, small_indent}
+use Rattle.md_seam.proofs.AheadLemmas.{small-some}
 use Rattle.md_seam.proofs.WhiteSteps.{begins-seen, behind_white, white-tried}
 
 -- what is seen of a byte
@@ -57,18 +59,11 @@ to-white cells c cs h e s k = ap (λ (x : List Cell). in_break Marks x h) e ∙ 
 abbrev white_frame : State → World → List Event → Frame
 white_frame ok w events = record { ok = ok; nok = Nok; is_check = false; events_len = length events; point = w.point }
 
--- the same place, its events written in another way
-joined : (room : ℕ) (cells : List Cell) (h : Here) → calmed h.scratch ≡ h.scratch →
-    here_after room cells (record h { events = h.events ++ enter SpaceOrTab h.point ∷ [] }) ≡ behind_white room cells h
-unfolding here_after
-joined room cells h same =
-    ap₂ (λ (es : List Event) (t : Scratch). let r : Here = record h { events = es; point = white_end room cells h.point; scratch = t } in r) (append_assoc h.events (enter SpaceOrTab h.point ∷ []) _) (sym same)
-
 pub sequence_steps : (B : Behaviour) (options : ParseOptions) (feed : Feed) (w : World) (x y : Bool) → HasBreak B options → Sees feed w → IsRest (without_marker w.scratch) → is_marker w.scratch.marker ≡ true →
     is_current w.scratch.marker w.current ≡ x → sees_white w.current ≡ y → Steps B feed (Next n.ThematicBreakSequence) w (sequence_code w x y).to (sequence_code w x y).world
 sequence_steps B options feed w true y has s r mark e f =
     let saw = sees-byte feed w w.scratch.marker s e in
-    let ending : nat_eq saw.0 10 ≡ false = rw (eq-of saw.0 w.scratch.marker saw.2) (marker-no_ending w.scratch.marker mark) in
+    let ending : nat_eq saw.0 10 ≡ false = rw (eqb-true saw.0 w.scratch.marker saw.2) (marker-no_ending w.scratch.marker mark) in
     passes B feed _ _ w (sequence_code w true y).world refl refl
     (has.sequence _ _ ∙ ap (λ (x : List Cell). in_break Marks x (here w)) saw.1
     ∙ in_break-mark (cell_here feed w saw.0) (feed (after w.setting w.point)) (here w) saw.2 ending ∙ sym (has.sequence _ _))
@@ -80,7 +75,7 @@ sequence_steps B options feed w false true has s r mark e f =
     (has.sequence _ _
     ∙ to-white (feed w.point) (cell_here feed w saw.0) (feed (after w.setting w.point)) (here w) saw.1 saw.3 saw.2
     ∙ white-run any_size (feed w.point) (record h { events = h.events ++ enter SpaceOrTab h.point ∷ [] }) (omega (arith, s.short)) (marker-no_white w.scratch.marker mark)
-    ∙ ap (at_break (white_rest any_size (feed w.point))) (joined any_size (feed w.point) h (marked-calm w.scratch r))
+    ∙ ap (at_break (white_rest any_size (feed w.point))) (behind-joined any_size (feed w.point) h (marked-calm w.scratch r))
     ∙ sym (has.at_break _ _)
     ∙ white-tried B feed frame h.events (feed w.point) h 0 any_size has.white (begins-seen feed w s ∙ f) (omega arith) (omega arith) refl)
 sequence_steps B options feed w false false has s r mark e f =
@@ -93,8 +88,8 @@ at_break-mark : (c : Cell) (cs : List Cell) (h : Here) → nat_eq c.byte h.scrat
     at_break (c ∷ cs) h ≡ in_break Marks (c ∷ cs) (record h { events = h.events ++ enter parts.ThematicBreakSequence h.point ∷ [] })
 unfolding at_break
 at_break-mark c cs h is mark =
-    let white : is_white c.byte ≡ false = rw (eq-of c.byte h.scratch.marker is) (marker-no_white h.scratch.marker mark) in
-    let ending : nat_eq c.byte 10 ≡ false = rw (eq-of c.byte h.scratch.marker is) (marker-no_ending h.scratch.marker mark) in
+    let white : is_white c.byte ≡ false = rw (eqb-true c.byte h.scratch.marker is) (marker-no_white h.scratch.marker mark) in
+    let ending : nat_eq c.byte 10 ≡ false = rw (eqb-true c.byte h.scratch.marker is) (marker-no_ending h.scratch.marker mark) in
     rw white (apart-mark c cs h is ending)
 
 at_break-end : (feed : Feed) (w : World) (h : Here) (o : Option ℕ) → ends_line o && nat_le 3 h.scratch.size ≡ true →
@@ -105,7 +100,7 @@ at_break-end feed w h (Some b) e = go (nat_eq b 10) refl e
   where
     go : (x : Bool) → nat_eq b 10 ≡ x → x && nat_le 3 h.scratch.size ≡ true →
         at_break (ahead feed w (Some b)) h ≡ Accepts (record h { events = h.events ++ exit ThematicBreak h.point ∷ []; scratch = without_marker h.scratch; flags = record h.flags { interrupt = false } }) (ahead feed w (Some b))
-    go true is e = let ten : b ≡ 10 = eq-of b 10 is in rw (ten, marks-none, add-zero, e, append-nil) refl
+    go true is e = let ten : b ≡ 10 = eqb-true b 10 is in rw (ten, marks-none, add-zero, e, append-nil) refl
     go false is e = cc
 
 at_break-no : (feed : Feed) (w : World) (h : Here) (o : Option ℕ) → is_current h.scratch.marker o ≡ false → ends_line o && nat_le 3 h.scratch.size ≡ false →
@@ -116,7 +111,7 @@ at_break-no feed w h (Some b) k e = go (is_white b) (nat_eq b 10) refl refl e
   where
     go : (x y : Bool) → is_white b ≡ x → nat_eq b 10 ≡ y → y && nat_le 3 h.scratch.size ≡ false → at_break (ahead feed w (Some b)) h ≡ Refuses (without_marker h.scratch) h.flags
     go true y s t e = rw s refl
-    go false true s t e = let ten : b ≡ 10 = eq-of b 10 t in rw (ten, marks-none, add-zero, e) refl
+    go false true s t e = let ten : b ≡ 10 = eqb-true b 10 t in rw (ten, marks-none, add-zero, e) refl
     go false false s t e = rw s (in_break-other Apart (cell_here feed w b) (feed (after w.setting w.point)) h k s t)
 
 pub at_break_steps : (B : Behaviour) (options : ParseOptions) (feed : Feed) (w : World) (x y : Bool) → HasBreak B options → Sees feed w → is_marker w.scratch.marker ≡ true →
@@ -165,13 +160,6 @@ before_steps B options feed w has s r = go w.current s.next
             (has.before _ _ ∙ ap (λ (x : List Cell). before_marker x (here w)) e ∙ before-mark c cs (here w) k (ap (λ (t : Scratch). t.size) r)
             ∙ at_break-apart c cs h k ∙ ap (λ (x : List Cell). at_break x h) (sym e) ∙ sym (has.at_break _ _)))
         by false k = rw k (refused (ap (λ (x : List Cell). before_marker x (here w)) e ∙ before-other (cell_here feed w b) (feed (after w.setting w.point)) (here w) k))
-
-small-some : (options : ParseOptions) → 1 ≤ small_indent options
-small-some options = go options.constructs.code_indented
-  where
-    go : (b : Bool) → 1 ≤ cond b 3 any_size
-    go true = omega arith
-    go false = omega arith
 
 -- where a break has begun
 abbrev pub entered_here : Here → Here

@@ -57,12 +57,12 @@ good_start T w true false has r =
 marked-rest : (s : Scratch) (b : ℕ) → IsRest s → IsRest (without_marker (record s { marker = b }))
 marked-rest s b e = ap (λ (t : Scratch). without_marker (record t { marker = b })) e
 
-rest-size : (s : Scratch) → IsRest s → s.size ≡ 0
+pub rest-size : (s : Scratch) → IsRest s → s.size ≡ 0
 rest-size s e = ap (λ (t : Scratch). t.size) e
 
-low : (y : Bool) → cond y 2 0 % 64 < 3
-low true = omega arith
-low false = omega arith
+pub low-rank : (y : Bool) → cond y 2 0 % 64 < 3
+low-rank true = omega arith
+low-rank false = omega arith
 
 pub good_before : (T : Scheme) (w : World) (o : Option ℕ) → BreakFits T → rest_ready (spot w) (after_all T w.frames) → Does T n.ThematicBreakBefore w (before_code w o)
 good_before T w None has r =
@@ -72,7 +72,7 @@ good_before T w (Some b) has r = go (is_marker b) refl
     go : (x : Bool) → is_marker b ≡ x → Does T n.ThematicBreakBefore w (before_code w (Some b))
     go true e = rw e (
       (turns T break_scheme _ n.ThematicBreakAtBreak w w.events (record w.scratch { marker = b }) has.before has.at_break
-          (record { marker = e; size = omega (arith, rest-size w.scratch r.0); rest = marked-rest w.scratch b r.0 }, later IsRest IsRest (spot w) (after_all T w.frames) w.point (record w.scratch { marker = b }) (stays w.setting.limit w.point) r.1) (omega arith) (low (is_current b (seen (spot w))))),
+          (record { marker = e; size = omega (arith, rest-size w.scratch r.0); rest = marked-rest w.scratch b r.0 }, later IsRest IsRest (spot w) (after_all T w.frames) w.point (record w.scratch { marker = b }) (stays w.setting.limit w.point) r.1) (omega arith) (low-rank (is_current b (seen (spot w))))),
       refl,
     )
     go false e = rw e ((refuses T n.ThematicBreakBefore w IsRest IsRest w.events w.scratch r.1 r.0), refl)

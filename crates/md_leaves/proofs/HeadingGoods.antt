@@ -1,22 +1,22 @@
 -- Headings and the byte order mark stand and end in any table that has them.
 use Rattle.std.proofs.Common.{◌≡◌, ℕ, ◌%◌, ◌<◌, Bool, true, false, cond, ◌&&◌, nat_lt, Option, Some, None, List, refl, arith, ap, ◌∙◌}
+use Rattle.std.proofs.lemmas.Bool.{and_parts}
 use Rattle.std.proofs.lemmas.Bool.Decides.{nat_tests}
 use Rattle.md_engine.specs.declared.event.Event.{Event}
 use Rattle.md_engine.specs.declared.event.Name.TheVariants as parts
 use Rattle.md_engine.specs.declared.resolve.Name.{Name as ResolveName}
 use Rattle.md_engine.specs.declared.state.Name.{Name as StateName}
 use Rattle.md_engine.specs.declared.state.Name.TheVariants as n
-use Rattle.md_engine.specs.declared.state.State.TheVariants.{Next, Ok}
 use Rattle.md_engine.specs.declared.tokenizer.Scratch.{Scratch}
-use Rattle.md_engine.specs.Scheme.{Ends, Fits, Good, Grown, Scheme, Spot, after_all, seen, spot, spot_at, state_number}
-use Rattle.md_engine.specs.World.{Setting, World, after}
+use Rattle.md_engine.specs.Scheme.{Ends, Fits, Grown, Scheme, Spot, after_all, seen, spot, spot_at}
+use Rattle.md_engine.specs.World.{Setting, World}
 use Rattle.md_engine.proofs.Falls.{later, later_at, seen_grows}
 use Rattle.md_engine.proofs.Local.{accepts, consumes, refuses, turns}
-use Rattle.md_engine.proofs.Points.{grown-same, stays, takes}
-use Rattle.md_engine.proofs.Powers.{weighs}
+use Rattle.md_engine.proofs.Points.{stays, takes}
 use Rattle.md_leaves.specs.Bom as bom
 use Rattle.md_leaves.specs.Bom.{bom_ready, bom_scheme, mark_at}
 use Rattle.md_leaves.specs.Heading.{at_break_code, before_code, behind_part, data_code, heading_link, heading_ready, heading_scheme, sees_text, sequence_further_code, sequence_open_code, start_code, without_size}
+use Rattle.md_leaves.proofs.Goods.{low-rank, rest-size}
 use Rattle.md_seam.specs.Spaces.{IsRest, calmed, is_current, rest_ready, sees_white, small_indent, any_size}
 use Rattle.md_seam.specs.Went.{entered, entered_link, exited}
 use Rattle.md_seam.proofs.SpacesGoods.{Does, WhiteFits, accepts-behind, rest-calm, rest-none, seen-in, white_try}
@@ -31,9 +31,6 @@ pub record HeadingFits (T : Scheme) : Type 1 where
   pub at_break : Fits T heading_scheme n.HeadingAtxAtBreak
   pub sequence_further : Fits T heading_scheme n.HeadingAtxSequenceFurther
   pub text : Fits T heading_scheme n.HeadingAtxData
-
-rest-size : (s : Scratch) → IsRest s → s.size ≡ 0
-rest-size s e = ap (λ (t : Scratch). t.size) e
 
 rest-without : (s : Scratch) → IsRest s → IsRest (without_size s)
 rest-without s e = ap without_size e
@@ -68,10 +65,6 @@ still-white w t s up e = go (seen (spot w)) refl e
     go None is e = cc
     go (Some b) is e = ap sees_text (seen_grows (spot w) t s b up is) ∙ white-no_text (Some b) e
 
-low : (y : Bool) → cond y 2 0 % 64 < 3
-low true = omega arith
-low false = omega arith
-
 -- behind a run of the line, from a state whose rank is above that of what follows
 good-behind : (T : Scheme) (w : World) (name : StateName) (events : List Event) (s : Scratch) (x : Bool) → HeadingFits T → Fits T heading_scheme name → IsRest s → Ends IsRest IsRest (spot w) (after_all T w.frames) →
     sees_white (seen (spot w)) ≡ x → 1 < heading_scheme.rank name (spot w) % 64 → cond (sees_text (seen (spot w))) 2 0 % 64 < heading_scheme.rank name (spot w) % 64 →
@@ -87,15 +80,11 @@ good-behind T w name events s false has fits r ends e lt less =
 hash-in : (x : Spot) (more : Bool) → is_current 35 (seen x) && more ≡ true → x.point.index < x.setting.limit
 hash-in x more e = seen-in x (λ (o : Option ℕ). is_current 35 o && more) refl e
 
-and-right : (a b : Bool) → a && b ≡ true → b ≡ true
-and-right true b e = e
-and-right false b e = cc
-
 pub good_sequence_open : (T : Scheme) (w : World) (x y z : Bool) → HeadingFits T → heading_ready n.HeadingAtxSequenceOpen (spot w) (after_all T w.frames) →
     is_current 35 (seen (spot w)) && nat_lt w.scratch.size 6 ≡ x → sees_text (seen (spot w)) ≡ y → sees_white (seen (spot w)) ≡ z → Does T n.HeadingAtxSequenceOpen w (sequence_open_code w x y z)
 good_sequence_open T w true y z has r e f g =
     let inside = hash-in (spot w) (nat_lt w.scratch.size 6) e in
-    let few : nat_lt w.scratch.size 6 ≡ true = and-right (is_current 35 (seen (spot w))) (nat_lt w.scratch.size 6) e in
+    let few : nat_lt w.scratch.size 6 ≡ true = (and_parts (is_current 35 (seen (spot w))) (nat_lt w.scratch.size 6) e).1 in
     let less : w.scratch.size < 6 = grind (arith, nat_tests) in (
       consumes T heading_scheme _ _ w w.events _ has.sequence_open has.sequence_open inside
           (record { size = omega (arith, less); rest = r.0.rest }, later _ _ (spot w) _ _ _ (takes w.setting w.point inside) r.1) (omega arith),
@@ -124,7 +113,7 @@ good_sequence_further T w true y has r e f =
     let inside = seen-in (spot w) (is_current 35) refl e in
     (consumes T heading_scheme _ _ w w.events w.scratch has.sequence_further has.sequence_further inside (r.0, later _ _ (spot w) _ _ _ (takes w.setting w.point inside) r.1) (omega arith), refl)
 good_sequence_further T w false y has r e f =
-    good-behind T w n.HeadingAtxSequenceFurther (exited w parts.HeadingAtxSequence).events w.scratch y has has.sequence_further r.0 r.1 f (rw e (omega arith)) (rw e (low (sees_text (seen (spot w)))))
+    good-behind T w n.HeadingAtxSequenceFurther (exited w parts.HeadingAtxSequence).events w.scratch y has has.sequence_further r.0 r.1 f (rw e (omega arith)) (rw e (low-rank (sees_text (seen (spot w)))))
 
 pub good_data : (T : Scheme) (w : World) (x y : Bool) → HeadingFits T → rest_ready (spot w) (after_all T w.frames) → sees_text (seen (spot w)) ≡ x → sees_white (seen (spot w)) ≡ y →
     Does T n.HeadingAtxData w (data_code w x y)

@@ -1,16 +1,18 @@
 -- What is left of a heading, cell by cell.
 use Rattle.std.proofs.Common.{◌≡◌, ℕ, zero, suc, ◌+◌, ◌≤◌, Bool, true, false, cond, ◌&&◌, nat_eq, List, [], ◌∷◌, ◌++◌, length, refl, sym, ◌∙◌, ap, arith, append_assoc}
 use Rattle.std.specs.Prelude.{nat_le}
+use Rattle.std.proofs.lemmas.Bool.{eqb-true}
 use Rattle.std.proofs.lemmas.Bool.Decides.{nat_tests}
 use Rattle.md_engine.specs.declared.event.Name.TheVariants.{SpaceOrTab, HeadingAtxSequence}
 use Rattle.md_engine.specs.declared.tokenizer.Scratch.{Scratch}
 use Rattle.md_engine.specs.Meaning.{Cell, Here, Refuses}
 use Rattle.md_leaves.specs.Heading.{without_size}
 use Rattle.md_leaves.specs.HeadingRule.{Apart, Hashes, Run, White, at_break, before_opening, begun, closes, goes_on, in_heading, in_opening, is_heading, is_opening, opens}
-use Rattle.md_leaves.proofs.BreakLemmas.{eq-of, here_after, white-no_ending}
+use Rattle.md_leaves.proofs.BreakLemmas.{here_after}
 use Rattle.md_seam.specs.Ahead.{begins_white, line_bytes, white_rest}
 use Rattle.md_seam.specs.Nested.{enter, exit}
 use Rattle.md_seam.specs.Rest.{is_white, run_len}
+use Rattle.md_seam.proofs.AheadLemmas.{white-no_ending}
 
 -- a run goes on
 pub run-more : (run : Run) (c : Cell) (cs : List Cell) (h : Here) → goes_on run c.byte ≡ true → nat_eq c.byte 10 ≡ false → in_heading run (c ∷ cs) h ≡ in_heading run cs (record h { point = c.after })
@@ -85,9 +87,6 @@ apart-none cells h e = rw e refl
 
 -- `#` at the front
 
-pub hashes-none : run_len 35 [] ≡ 0
-hashes-none = refl
-
 pub hashes-one : (b : ℕ) (bs : List ℕ) → nat_eq b 35 ≡ true → run_len 35 (b ∷ bs) ≡ suc (run_len 35 bs)
 hashes-one b bs e = rw e (omega arith)
 
@@ -125,7 +124,7 @@ white-no_hash b s = go (nat_eq b 35) refl
   where
     go : (x : Bool) → nat_eq b 35 ≡ x → x ≡ false
     go false e = refl
-    go true e = let bad : false ≡ true = rw (eq-of b 35 e) at s in cc
+    go true e = let bad : false ≡ true = rw (eqb-true b 35 e) at s in cc
 
 few : (n : ℕ) → n ≤ 6 → nat_le (n + 0) 6 ≡ true
 few n le = grind (arith, nat_tests)
@@ -180,7 +179,7 @@ before-hash c cs h is ending none same = go (is_opening 0 (line_bytes (c ∷ cs)
     heads = rw some refl
 
     begins : in_heading Apart (c ∷ cs) h ≡ in_heading Hashes (c ∷ cs) entered
-    begins = run-begins c cs h ending ∙ ap (λ (r : Run). in_heading r (c ∷ cs) (record h { events = h.events ++ opens r h.point })) (ap begun (eq-of c.byte 35 is))
+    begins = run-begins c cs h ending ∙ ap (λ (r : Run). in_heading r (c ∷ cs) (record h { events = h.events ++ opens r h.point })) (ap begun (eqb-true c.byte 35 is))
 
     go : (x : Bool) → is_opening 0 (line_bytes (c ∷ cs)) ≡ x → before_opening (c ∷ cs) h ≡ in_opening (c ∷ cs) entered
     go true k = before-is (c ∷ cs) h (heads ∙ k) ∙ begins ∙ ap (λ (t : Scratch). in_heading Hashes (c ∷ cs) (record entered { scratch = t })) (sym same) ∙ sym (opening-is (c ∷ cs) entered (none-yet ∙ k))

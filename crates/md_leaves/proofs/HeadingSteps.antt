@@ -1,6 +1,7 @@
 -- Each state of a heading takes one step of its rule.
-use Rattle.std.proofs.Common.{◌≡◌, ℕ, ◌≤◌, Bool, true, false, cond, ◌&&◌, ◌||◌, nat_eq, nat_lt, List, [], ◌∷◌, ◌++◌, length, Option, Some, None, refl, sym, ◌∙◌, ap, ap₂, arith, append_assoc, append-nil}
+use Rattle.std.proofs.Common.{◌≡◌, ℕ, ◌≤◌, Bool, true, false, ◌&&◌, ◌||◌, nat_eq, nat_lt, List, [], ◌∷◌, ◌++◌, length, Option, Some, None, refl, sym, ◌∙◌, ap, arith, append-nil}
 use Rattle.std.specs.Prelude.{not}
+use Rattle.std.proofs.lemmas.Bool.{eqb-true, and_parts, not-true, not_from_false, not_from_true}
 use Rattle.std.proofs.lemmas.Bool.Decides.{nat_tests}
 use Rattle.md_engine.specs.declared.configuration.ParseOptions.{ParseOptions}
 use Rattle.md_engine.specs.declared.event.Event.{Event}
@@ -19,12 +20,13 @@ use Rattle.md_engine.specs.World.{World, after}
 use Rattle.md_engine.proofs.StepOf.{Sees, ahead, begins, cell_here, moves, passes}
 use Rattle.md_leaves.specs.Heading.{at_break_code, before_code, behind_part, data_code, heading_link, sees_text, sequence_further_code, sequence_open_code, start_code, without_size}
 use Rattle.md_leaves.specs.HeadingRule.{Apart, HasHeading, Hashes, Run, Text, White, at_break, before_opening, begun, closes, goes_on, heading_at, in_heading, in_opening, opens}
-use Rattle.md_leaves.proofs.BreakLemmas.{eq-of, here_after}
+use Rattle.md_leaves.proofs.BreakLemmas.{behind-joined}
 use Rattle.md_leaves.proofs.HeadingLemmas.{apart-none, apart-white, before-hash, before-other, opening-ends, opening-full, opening-more, opening-none, opening-text, opening-white, run-begins, run-ends, run-ends_line, run-ends_none, run-more, white-no_hash, white-run}
-use Rattle.md_seam.specs.Ahead.{begins_white, white_end, white_rest}
+use Rattle.md_seam.specs.Ahead.{begins_white, white_rest}
 use Rattle.md_seam.specs.Nested.{enter, exit}
 use Rattle.md_seam.specs.Rest.{is_white}
 use Rattle.md_seam.specs.Spaces.{IsRest, any_size, calmed, ends_line, is_current, sees_white, small_indent}
+use Rattle.md_seam.proofs.AheadLemmas.{small-some}
 use Rattle.md_seam.specs.Went.{Went}
 use Rattle.md_seam.proofs.WhiteSteps.{begins-seen, behind_white, white-tried}
 
@@ -47,20 +49,7 @@ or-left true b e k = refl
 or-left false true e k = cc
 or-left false false e k = cc
 
-not-true : (a : Bool) → a ≡ true → not a ≡ false
-not-true a e = rw e refl
-
-not-false : (a : Bool) → a ≡ false → not a ≡ true
-not-false a e = rw e refl
-
 -- The start.
-
-small-some : (options : ParseOptions) → 1 ≤ small_indent options
-small-some options = go options.constructs.code_indented
-  where
-    go : (b : Bool) → 1 ≤ cond b 3 any_size
-    go true = omega arith
-    go false = omega arith
 
 abbrev entered_here : Here → Here
 entered_here h = record h { events = h.events ++ enter parts.HeadingAtx h.point ∷ [] }
@@ -98,7 +87,7 @@ heading_start_steps B feed w true false has s e f =
 -- Behind the indent.
 
 hash-no_ending : (b : ℕ) → nat_eq b 35 ≡ true → nat_eq b 10 ≡ false
-hash-no_ending b e = rw (eq-of b 35 e) refl
+hash-no_ending b e = rw (eqb-true b 35 e) refl
 
 rest-same : (s : Scratch) → IsRest s → without_size s ≡ s
 rest-same s r = ap without_size r ∙ sym r
@@ -139,13 +128,6 @@ white-here feed w h s e =
     ap (λ (x : List Cell). in_heading Apart x h) saw.1 ∙ apart-white (cell_here feed w saw.0) (feed (after w.setting w.point)) h saw.2
     ∙ ap (λ (x : List Cell). in_heading White x (record h { events = h.events ++ enter SpaceOrTab h.point ∷ [] })) (sym saw.1)
 
--- the same place, its events written in another way
-joined : (room : ℕ) (cells : List Cell) (h : Here) → calmed h.scratch ≡ h.scratch →
-    here_after room cells (record h { events = h.events ++ enter SpaceOrTab h.point ∷ [] }) ≡ behind_white room cells h
-unfolding here_after
-joined room cells h same =
-    ap₂ (λ (es : List Event) (t : Scratch). let r : Here = record h { events = es; point = white_end room cells h.point; scratch = t } in r) (append_assoc h.events (enter SpaceOrTab h.point ∷ []) _) (sym same)
-
 -- what is left behind a run that has ended, in a step that ends it
 behind_steps : (B : Behaviour) (options : ParseOptions) (feed : Feed) (from : State) (w : World) (name : Name) (t : Scratch) (x : Bool) → HasHeading B options → Sees feed w → IsRest t → sees_white w.current ≡ x →
     goes B from (feed w.point) (here w) ≡ in_heading Apart (feed w.point) (record (here w) { events = w.events ++ exit name w.point ∷ []; scratch = t }) →
@@ -156,7 +138,7 @@ behind_steps B options feed from w name t true has s r e same =
     begins B feed from _ w (behind_part (record w { events = h.events; scratch = t }) true).world (exit name w.point ∷ []) frame refl refl
     (same ∙ white-here feed w h s e
     ∙ white-run any_size (feed w.point) (record h { events = h.events ++ enter SpaceOrTab h.point ∷ [] }) (omega (arith, s.short))
-    ∙ ap (at_break (white_rest any_size (feed w.point))) (joined any_size (feed w.point) h (ap calmed r ∙ sym r))
+    ∙ ap (at_break (white_rest any_size (feed w.point))) (behind-joined any_size (feed w.point) h (ap calmed r ∙ sym r))
     ∙ sym (has.at_break _ _)
     ∙ white-tried B feed frame h.events (feed w.point) h 1 any_size has.white (begins-seen feed w s ∙ e) (omega arith) (omega arith) refl)
 behind_steps B options feed from w name t false has s r e same =
@@ -189,22 +171,10 @@ opening-stops feed w h (Some b) e le = go (nat_eq b 10) refl
 white-of : (o : Option ℕ) (b : ℕ) → sees_text o ≡ false → o ≡ Some b → nat_eq b 10 ≡ false → is_white b ≡ true
 white-of o b e is k = or-left (is_white b) (nat_eq b 10) (sym (ap sees_text is) ∙ e) k
 
-and-left : (a b : Bool) → a && b ≡ true → a ≡ true
-and-left true b e = refl
-and-left false b e = cc
-
-and-right : (a b : Bool) → a && b ≡ true → b ≡ true
-and-right true b e = e
-and-right false b e = cc
-
-not-of : (a : Bool) → not a ≡ true → a ≡ false
-not-of true e = cc
-not-of false e = refl
-
 pub sequence_open_steps : (B : Behaviour) (options : ParseOptions) (feed : Feed) (w : World) (x y z : Bool) → HasHeading B options → Sees feed w → IsRest (without_size w.scratch) → w.scratch.size ≤ 6 →
     is_current 35 w.current && nat_lt w.scratch.size 6 ≡ x → sees_text w.current ≡ y → sees_white w.current ≡ z → Steps B feed (Next n.HeadingAtxSequenceOpen) w (sequence_open_code w x y z).to (sequence_open_code w x y z).world
 sequence_open_steps B options feed w true y z has s r le e f g =
-    let saw = sees-one feed w (is_current 35) refl s (and-left _ _ e) in
+    let saw = sees-one feed w (is_current 35) refl s (and_parts _ _ e).0 in
     passes B feed _ _ w (sequence_open_code w true y z).world refl refl
     (has.sequence_open _ _ ∙ ap (λ (x : List Cell). in_opening x (here w)) saw.1
     ∙ opening-more (cell_here feed w saw.0) (feed (after w.setting w.point)) (here w) saw.2 (hash-no_ending saw.0 saw.2) ∙ sym (has.sequence_open _ _))
@@ -235,7 +205,7 @@ line-ends : (feed : Feed) (w : World) (h : Here) (o : Option ℕ) → ends_line 
     at_break (ahead feed w o) h ≡ Accepts (record h { events = h.events ++ exit parts.HeadingAtx h.point ∷ []; flags = record h.flags { interrupt = false } }) (ahead feed w o)
 unfolding at_break in_heading
 line-ends feed w h None e = rw append-nil refl
-line-ends feed w h (Some b) e = let white : is_white b ≡ false = rw (eq-of b 10 e) refl in rw (white, e, append-nil) refl
+line-ends feed w h (Some b) e = let white : is_white b ≡ false = rw (eqb-true b 10 e) refl in rw (white, e, append-nil) refl
 
 white-refuses : (feed : Feed) (w : World) (h : Here) (o : Option ℕ) → sees_text o ≡ false → ends_line o ≡ false → at_break (ahead feed w o) h ≡ Refuses h.scratch h.flags
 unfolding at_break
@@ -246,14 +216,14 @@ pub heading_at_break_steps : (B : Behaviour) (options : ParseOptions) (feed : Fe
     sees_text w.current ≡ x → is_current 35 w.current ≡ y → ends_line w.current ≡ z → Steps B feed (Next n.HeadingAtxAtBreak) w (at_break_code is_name w x y z).to (at_break_code is_name w x y z).world
 heading_at_break_steps B options feed is_name w true true z has s e f g =
     let saw = sees-one feed w (is_current 35) refl s f in
-    let white : is_white saw.0 ≡ false = rw (eq-of saw.0 35 saw.2) refl in
+    let white : is_white saw.0 ≡ false = rw (eqb-true saw.0 35 saw.2) refl in
     moves B feed _ _ w (at_break_code is_name w true true z).world (enter parts.HeadingAtxSequence w.point ∷ []) refl refl
-    (has.at_break _ _ ∙ run-here feed w (here w) saw.0 Hashes saw.1 white (hash-no_ending saw.0 saw.2) (ap begun (eq-of saw.0 35 saw.2)) ∙ sym (has.sequence_further _ _))
+    (has.at_break _ _ ∙ run-here feed w (here w) saw.0 Hashes saw.1 white (hash-no_ending saw.0 saw.2) (ap begun (eqb-true saw.0 35 saw.2)) ∙ sym (has.sequence_further _ _))
 heading_at_break_steps B options feed is_name w true false z has s e f g =
     let saw = sees-one feed w (λ (o : Option ℕ). sees_text o && not (is_current 35 o)) refl s (rw (e, f) refl) in
-    let apart = not-or (is_white saw.0) (nat_eq saw.0 10) (and-left _ _ saw.2) in
+    let apart = not-or (is_white saw.0) (nat_eq saw.0 10) (and_parts _ _ saw.2).0 in
     moves B feed _ _ w (at_break_code is_name w true false z).world (record { kind = Enter; name = parts.Data; point = w.point; link = Some heading_link } ∷ []) refl refl
-    (has.at_break _ _ ∙ run-here feed w (here w) saw.0 Text saw.1 apart.0 apart.1 (text-begins saw.0 apart.0 (not-of _ (and-right _ _ saw.2))) ∙ sym (has.text _ _))
+    (has.at_break _ _ ∙ run-here feed w (here w) saw.0 Text saw.1 apart.0 apart.1 (text-begins saw.0 apart.0 (not-true _ (and_parts _ _ saw.2).1)) ∙ sym (has.text _ _))
 heading_at_break_steps B options feed is_name w false y true has s e f g =
     moves B feed _ _ w (at_break_code is_name w false y true).world (exit parts.HeadingAtx w.point ∷ []) refl refl
     (has.at_break _ _ ∙ rw s.next (line-ends feed w (here w) w.current g))
@@ -280,7 +250,7 @@ data_steps B options feed w true y has s r e f =
     let apart = not-or (is_white saw.0) (nat_eq saw.0 10) saw.2 in
     passes B feed _ _ w (data_code w true y).world refl refl
     (has.text _ _ ∙ ap (λ (x : List Cell). in_heading Text x (here w)) saw.1
-    ∙ run-more Text (cell_here feed w saw.0) (feed (after w.setting w.point)) (here w) (not-false _ apart.0) apart.1 ∙ sym (has.text _ _))
+    ∙ run-more Text (cell_here feed w saw.0) (feed (after w.setting w.point)) (here w) (not_from_false _ apart.0) apart.1 ∙ sym (has.text _ _))
 data_steps B options feed w false y has s r e f =
     behind_steps B options feed (Next n.HeadingAtxData) w parts.Data w.scratch y has s r f
-    (has.text _ _ ∙ rw s.next (run-stops feed w (here w) Text w.current (λ b is k. not-true _ (white-of w.current b e is k))))
+    (has.text _ _ ∙ rw s.next (run-stops feed w (here w) Text w.current (λ b is k. not_from_true _ (white-of w.current b e is k))))

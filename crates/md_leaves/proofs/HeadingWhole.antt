@@ -1,53 +1,24 @@
 -- A heading takes a whole line, or refuses it.
-use Rattle.std.proofs.Common.{◌≡◌, ℕ, zero, suc, ◌+◌, Bool, true, false, cond, ◌&&◌, ◌||◌, List, [], ◌∷◌, ◌++◌, drop, Option, Some, None, refl, sym, ◌∙◌, ap, ap₂, arith, append_assoc}
-use Rattle.std.specs.Prelude.{not, nat_le}
+use Rattle.std.proofs.Common.{◌≡◌, ℕ, ◌+◌, Bool, true, false, cond, ◌&&◌, List, [], ◌∷◌, ◌++◌, drop, Some, None, refl, sym, ◌∙◌, ap, ap₂, arith, append_assoc}
+use Rattle.std.specs.Prelude.{nat_le}
 use Rattle.std.specs.Option.{is_some}
+use Rattle.std.proofs.lemmas.Bool.{and_parts}
 use Rattle.md_engine.specs.declared.configuration.ParseOptions.{ParseOptions}
 use Rattle.md_engine.specs.declared.event.Event.{Event}
 use Rattle.md_engine.specs.declared.event.Name.TheVariants.{HeadingAtx, SpaceOrTab}
 use Rattle.md_engine.specs.declared.event.Point.{Point}
 use Rattle.md_engine.specs.declared.tokenizer.Scratch.{Scratch}
 use Rattle.md_engine.specs.Meaning.{Accepts, Cell, Here, Outcome, Refuses}
-use Rattle.md_leaves.specs.HeadingRule.{Apart, before_opening, heading_at, heading_inside, in_heading, is_heading, is_heading_line, is_opening, runs}
-use Rattle.md_leaves.proofs.BreakLemmas.{white-no_ending}
+use Rattle.md_leaves.specs.HeadingRule.{Apart, heading_at, heading_inside, in_heading, is_heading, is_heading_line, runs}
 use Rattle.md_leaves.proofs.HeadingLemmas.{before-is, before-no}
 use Rattle.md_leaves.proofs.HeadingSteps.{at-none, at-off, at-white}
 use Rattle.md_seam.specs.Ahead.{begins_white, from_ending, line_bytes, line_cells, line_end, white_end, white_rest}
 use Rattle.md_seam.specs.Leaves as leaves
-use Rattle.md_seam.specs.Nested.{around, enter, exit, pair}
-use Rattle.md_seam.specs.Rest.{Rest, has_small_indent, is_white, run_len, is_parted, trim_start}
+use Rattle.md_seam.specs.Nested.{around, enter, pair}
+use Rattle.md_seam.specs.Rest.{Rest, has_small_indent, run_len, is_parted, trim_start}
 use Rattle.md_seam.specs.Spaces.{calmed, small_indent}
+use Rattle.md_seam.proofs.AheadLemmas.{none-end, none-rest, white-ending, white-line_end}
 use Rattle.md_seam.proofs.WhiteSteps.{behind_white}
-
--- behind its indent a line ends where it ends
-white-ending : (room : ℕ) (cells : List Cell) → from_ending (white_rest room cells) ≡ from_ending cells
-white-ending room [] = refl
-white-ending zero (c ∷ cs) = refl
-white-ending (suc room) (c ∷ cs) = go (is_white c.byte) refl (white-ending room cs)
-  where
-    go : (x : Bool) → is_white c.byte ≡ x → from_ending (white_rest room cs) ≡ from_ending cs → from_ending (white_rest (suc room) (c ∷ cs)) ≡ from_ending (c ∷ cs)
-    go true e same = rw (white-no_ending c.byte e, e) same
-    go false e same = rw e refl
-
-white-line_end : (room : ℕ) (cells : List Cell) (p : Point) → line_end (white_rest room cells) (white_end room cells p) ≡ line_end cells p
-white-line_end room [] p = refl
-white-line_end zero (c ∷ cs) p = refl
-white-line_end (suc room) (c ∷ cs) p = go (is_white c.byte) refl (white-line_end room cs c.after)
-  where
-    go : (x : Bool) → is_white c.byte ≡ x → line_end (white_rest room cs) (white_end room cs c.after) ≡ line_end cs c.after →
-        line_end (white_rest (suc room) (c ∷ cs)) (white_end (suc room) (c ∷ cs) p) ≡ line_end (c ∷ cs) p
-    go true e same = rw (white-no_ending c.byte e, e) same
-    go false e same = rw e refl
-
-none-rest : (room : ℕ) (cells : List Cell) → begins_white cells ≡ false → white_rest room cells ≡ cells
-none-rest room [] e = refl
-none-rest zero (c ∷ cs) e = refl
-none-rest (suc room) (c ∷ cs) e = ap (λ (x : Bool). cond x (white_rest room cs) (c ∷ cs)) e
-
-none-end : (room : ℕ) (cells : List Cell) (p : Point) → begins_white cells ≡ false → white_end room cells p ≡ p
-none-end room [] p e = refl
-none-end zero (c ∷ cs) p e = refl
-none-end (suc room) (c ∷ cs) p e = ap (λ (x : Bool). cond x (white_end room cs c.after) p) e
 
 -- a heading that was begun here
 abbrev begun_here : Here → Here
@@ -80,20 +51,12 @@ taken-white : (room : ℕ) (cells : List Cell) (h : Here) → calmed h.scratch �
 unfolding in_heading
 taken-white room cells h calm = rw (white-ending room cells, white-line_end room cells h.point, calm) (simp append_assoc)
 
-both : (a b : Bool) → a && b ≡ true → (a ≡ true) × (b ≡ true)
-both true b e = (refl, e)
-both false b e = cc
-
-second : (a b : Bool) → a && b ≡ false → a ≡ true → b ≡ false
-second true b e k = e
-second false b e k = cc
-
 -- a line that holds a heading is taken, with its indent and its runs
 pub heading-taken : (options : ParseOptions) (cells : List Cell) (h : Here) → calmed h.scratch ≡ h.scratch → is_heading_line options cells ≡ true → heading_at options cells h ≡ taken_line (heading_inside options cells h.point) cells h
 heading-taken options cells h calm e = go (begins_white cells) refl
   where
     parts : (options.constructs.heading_atx ≡ true) × (is_heading (line_bytes (white_rest (small_indent options) cells)) ≡ true)
-    parts = both options.constructs.heading_atx (is_heading (line_bytes (white_rest (small_indent options) cells))) e
+    parts = and_parts options.constructs.heading_atx (is_heading (line_bytes (white_rest (small_indent options) cells))) e
 
     go : (x : Bool) → begins_white cells ≡ x → heading_at options cells h ≡ taken_line (heading_inside options cells h.point) cells h
     go true s =
@@ -119,7 +82,7 @@ heading-refused options cells h calm e = by options.constructs.heading_atx refl
         at-none options cells h on s ∙ before-no cells (begun_here h) (sym (ap (λ (r : List Cell). is_heading (line_bytes r)) (none-rest (small_indent options) cells s)) ∙ none)
 
     by : (x : Bool) → options.constructs.heading_atx ≡ x → heading_at options cells h ≡ Refuses h.scratch h.flags
-    by true on = go on (second options.constructs.heading_atx (is_heading (line_bytes (white_rest (small_indent options) cells))) e on) (begins_white cells) refl
+    by true on = go on (rw on at e) (begins_white cells) refl
     by false off = at-off options cells h off
 
 -- The definition of headings, on a line.

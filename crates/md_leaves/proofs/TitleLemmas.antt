@@ -2,7 +2,7 @@
 use Rattle.std.proofs.Common.{◌≡◌, ℕ, suc, ◌+◌, ◌≤◌, Bool, true, false, ◌||◌, List, [], ◌∷◌, ◌++◌, length, get_or, take, drop, Option, Some, None, refl, sym, ◌∙◌, ap, ap₂, arith, subst, append_assoc, length-append}
 use Rattle.std.specs.Prelude.{◌==◌, nat_le, not}
 use Rattle.std.specs.List.{AllPass}
-use Rattle.std.proofs.lemmas.Bool.{and_parts, false≢true}
+use Rattle.std.proofs.lemmas.Bool.{and_parts, false≢true, eqb-true}
 use Rattle.std.proofs.lemmas.Bool.Decides.{nat_tests}
 use Rattle.std.proofs.lemmas.List.{drop_at, take_at}
 use Rattle.std.proofs.lemmas.List.Elements.{All-append, All-nil}
@@ -12,15 +12,15 @@ use Rattle.md_engine.specs.declared.event.Point.{Point}
 use Rattle.md_leaves.specs.HeadingRule.{Apart, Hashes, Run, Text, White, goes_on, is_heading, is_opening}
 use Rattle.md_leaves.specs.HeadingText.{Before, Opened, Outside, Within, linked_text, resolved, text_between}
 use Rattle.md_leaves.specs.HeadingTitle.{chunk_unless_empty, front_len, line_runs, text_of, title_of, unread_title}
-use Rattle.md_leaves.proofs.BreakLemmas.{eq-of}
 use Rattle.md_leaves.proofs.HeadingLemmas.{white-no_hash}
-use Rattle.md_leaves.proofs.TitleRuns.{Comes, before-hashes, before-white, hash-runs, hashes-stop, is_hash, last_run, opened-white, pass-first, past-append, runs-cut, text-walk, white-stops, within-hashes, within-white}
+use Rattle.md_leaves.proofs.TitleRuns.{Comes, before-hashes, before-white, hash-runs, hashes-stop, is_hash, last_run, opened-white, pass-first, runs-cut, text-walk, white-stops, within-hashes, within-white}
 use Rattle.md_leaves.proofs.TitleTexts.{Behind, Closed, Empty, Parted, Plain, Shape, first-front, is_solid, parted}
 use Rattle.md_seam.specs.declared.inline.Chunk.{Chunk}
 use Rattle.md_seam.specs.Bytes.{begins}
 use Rattle.md_seam.specs.Nested.{exit, pair}
 use Rattle.md_seam.specs.Places.{past_text}
 use Rattle.md_seam.specs.Rest.{is_white, run_len, trim_start}
+use Rattle.md_seam.proofs.InlineLemmas.{past_text-append}
 
 -- the end of a heading, and what follows
 abbrev ended : Point → List Event → List Event
@@ -135,7 +135,7 @@ given-behind (t ∷ ts) c gap b hashes white p q es start run g h w =
     left = line_runs Apart white r3
 
     black : is_white b ≡ false
-    black = ap is_white (eq-of b 35 (pass-first is_hash b hashes h))
+    black = ap is_white (eqb-true b 35 (pass-first is_hash b hashes h))
 
     cut : line_runs Apart behind r ≡ parted_by ++ (seq ++ left)
     cut = runs-cut Apart (c ∷ gap) ((b ∷ hashes) ++ white) r (white-stops (c ∷ gap) ((b ∷ hashes) ++ white) g black) ∙ ap (λ (es' : List Event). parted_by ++ es') (hashes-cut b hashes white r2 h w)
@@ -250,8 +250,8 @@ titled-runs : (indent hashes gap text left : List ℕ) (size : ℕ) (p : Point) 
     Titled (indent ++ (hashes ++ gap)) ((indent ++ (hashes ++ gap)) ++ text) left size p ≡ (front ++ linked_text (chunk_unless_empty size p3 end)) ++ line_runs Apart left end
 titled-runs indent hashes gap text left size p front is =
     let p3 = past_text gap (past_text hashes (past_text indent p)) in
-    let begin : past_text (indent ++ (hashes ++ gap)) p ≡ p3 = past-append indent (hashes ++ gap) p ∙ past-append hashes gap (past_text indent p) in
-    let until : past_text ((indent ++ (hashes ++ gap)) ++ text) p ≡ past_text text p3 = past-append (indent ++ (hashes ++ gap)) text p ∙ ap (past_text text) begin in
+    let begin : past_text (indent ++ (hashes ++ gap)) p ≡ p3 = past_text-append indent (hashes ++ gap) p ∙ past_text-append hashes gap (past_text indent p) in
+    let until : past_text ((indent ++ (hashes ++ gap)) ++ text) p ≡ past_text text p3 = past_text-append (indent ++ (hashes ++ gap)) text p ∙ ap (past_text text) begin in
     ap (λ (e : Point). (line_runs Apart (indent ++ (hashes ++ gap)) p ++ linked_text (chunk_unless_empty size (past_text (indent ++ (hashes ++ gap)) p) e)) ++ line_runs Apart left e) until
     ∙ ap₂ (λ (es : List Event) (b : Point). (es ++ linked_text (chunk_unless_empty size b (past_text text p3))) ++ line_runs Apart left (past_text text p3)) is begin
 

@@ -2,6 +2,7 @@
 use Rattle.std.proofs.Common.{◌≡◌, ℕ, Bool, true, false, cond, List, [], ◌∷◌, ◌++◌, Option, Some, None, refl, sym, ◌∙◌, ap, append_assoc, append-nil}
 use Rattle.std.specs.Prelude.{◌==◌}
 use Rattle.std.specs.List.{AllPass}
+use Rattle.std.proofs.lemmas.Bool.{eqb-true}
 use Rattle.std.proofs.lemmas.List.Elements.{All-head, All-tail}
 use Rattle.md_engine.specs.declared.event.Event.{Event}
 use Rattle.md_engine.specs.declared.event.Name.TheVariants as n
@@ -9,7 +10,6 @@ use Rattle.md_engine.specs.declared.event.Point.{Point}
 use Rattle.md_leaves.specs.HeadingRule.{Apart, Hashes, Run, Text, White, begun, closes, goes_on, opens}
 use Rattle.md_leaves.specs.HeadingText.{Before, Opened, Within, resolved}
 use Rattle.md_leaves.specs.HeadingTitle.{line_runs}
-use Rattle.md_leaves.proofs.BreakLemmas.{eq-of}
 use Rattle.md_seam.specs.Bytes.{begins}
 use Rattle.md_seam.specs.Nested.{enter, exit, pair}
 use Rattle.md_seam.specs.Places.{past_byte, past_text}
@@ -26,10 +26,6 @@ last_run run (b ∷ bs) = last_run (cond (goes_on run b) run (begun b)) bs
 pub last-append : (run : Run) (xs ys : List ℕ) → last_run run (xs ++ ys) ≡ last_run (last_run run xs) ys
 last-append run [] ys = refl
 last-append run (b ∷ bs) ys = last-append (cond (goes_on run b) run (begun b)) bs ys
-
-pub past-append : (xs ys : List ℕ) (p : Point) → past_text (xs ++ ys) p ≡ past_text ys (past_text xs p)
-past-append [] ys p = refl
-past-append (b ∷ bs) ys p = past-append bs ys (past_byte b p)
 
 pub apart-stops : (bytes : List ℕ) → begins (goes_on Apart) bytes ≡ false
 apart-stops [] = refl
@@ -71,7 +67,7 @@ white-left (b ∷ bs) p h =
     let here : is_white b ≡ true = pass-first is_white b bs h in
     rw here (white-left bs (past_byte b p) (pass-rest is_white b bs h))
 
-begun-white : (b : ℕ) → is_white b ≡ true → begun b ≡ White
+pub begun-white : (b : ℕ) → is_white b ≡ true → begun b ≡ White
 begun-white b e = rw e refl
 
 pub white-runs : (b : ℕ) (bs : List ℕ) (p : Point) → AllPass is_white (b ∷ bs) → line_runs Apart (b ∷ bs) p ≡ pair n.SpaceOrTab p (past_text (b ∷ bs) p)
@@ -85,7 +81,7 @@ hashes-left (b ∷ bs) p h =
     rw here (hashes-left bs (past_byte b p) (pass-rest is_hash b bs h))
 
 pub begun-hash : (b : ℕ) → (b == 35) ≡ true → begun b ≡ Hashes
-begun-hash b e = ap begun (eq-of b 35 e)
+begun-hash b e = ap begun (eqb-true b 35 e)
 
 pub hash-runs : (b : ℕ) (bs : List ℕ) (p : Point) → AllPass is_hash (b ∷ bs) → line_runs Apart (b ∷ bs) p ≡ pair n.HeadingAtxSequence p (past_text (b ∷ bs) p)
 hash-runs b bs p h =
@@ -123,7 +119,7 @@ hashes-stop (b ∷ bs) rest h e =
 pub text-last : (bs : List ℕ) → AllPass is_hash bs → last_run Text bs ≡ Text
 text-last [] h = refl
 text-last (b ∷ bs) h =
-    let here : goes_on Text b ≡ true = ap (goes_on Text) (eq-of b 35 (pass-first is_hash b bs h)) in
+    let here : goes_on Text b ≡ true = ap (goes_on Text) (eqb-true b 35 (pass-first is_hash b bs h)) in
     rw here (text-last bs (pass-rest is_hash b bs h))
 
 -- The walk, within a heading.

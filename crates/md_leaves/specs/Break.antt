@@ -14,10 +14,6 @@ use Rattle.md_seam.specs.Went.{Went, entered, exited, taken}
 abbrev pub is_marker : ℕ → Bool
 is_marker b = (b == 42) || (b == 45) || (b == 95)
 
-abbrev pub sees_marker : Option ℕ → Bool
-sees_marker None = false
-sees_marker (Some b) = is_marker b
-
 abbrev pub without_marker : Scratch → Scratch
 without_marker s = record s { marker = 0; size = 0 }
 

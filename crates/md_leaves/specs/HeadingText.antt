@@ -2,22 +2,17 @@
 -- no closing sequence (CommonMark 4.2).
 use Rattle.std.specs.Prelude.{Bool, true, false, ◌&&◌, ◌||◌, if◌then◌else◌, List, [], ◌∷◌, ◌++◌, Option, Some, None}
 use Rattle.md_engine.specs.declared.event.Event.{Event}
-use Rattle.md_engine.specs.declared.event.Kind.{Kind}
-use Rattle.md_engine.specs.declared.event.Kind.TheVariants.{Enter, Exit}
 use Rattle.md_engine.specs.declared.event.Name.{Name}
 use Rattle.md_engine.specs.declared.event.Name.TheVariants as n
 use Rattle.md_engine.specs.declared.event.Point.{Point}
 use Rattle.md_leaves.specs.Heading.{heading_link}
 use Rattle.md_seam.specs.declared.inline.Chunk.{Chunk}
-use Rattle.md_seam.specs.Nested.{around, enter_link, exit}
+use Rattle.md_seam.specs.Nested.{around, enter_link, exit, is_enter, is_exit}
+use Rattle.md_seam.specs.Tiles.{is_data}
 
 abbrev pub is_heading : Name → Bool
 is_heading n.HeadingAtx = true
 is_heading _ = false
-
-abbrev pub is_data : Name → Bool
-is_data n.Data = true
-is_data _ = false
 
 abbrev pub is_sequence : Name → Bool
 is_sequence n.HeadingAtxSequence = true
@@ -26,14 +21,6 @@ is_sequence _ = false
 -- a run of `#`, or text
 abbrev pub is_run : Name → Bool
 is_run name = is_data name || is_sequence name
-
-abbrev pub is_enter : Kind → Bool
-is_enter Enter = true
-is_enter Exit = false
-
-abbrev pub is_exit : Kind → Bool
-is_exit Exit = true
-is_exit Enter = false
 
 -- whether a part with such a name begins or ends here
 abbrev pub begins : (Name → Bool) → Event → Bool

@@ -1,10 +1,10 @@
 -- The cells of a line: what is fed from a point of a line to the line's end, and the cell of its ending.
-use Rattle.std.proofs.Common.{◌≡◌, ℕ, zero, suc, ◌+◌, ◌-◌, ◌%◌, ◌^◌, ◌<◌, ◌≤◌, Bool, true, false, cond, ◌&&◌, List, [], ◌∷◌, ◌++◌, length, take, drop, Option, Some, refl, sym, ap, ◌∙◌, subst, add-one, arith, append_assoc}
+use Rattle.std.proofs.Common.{◌≡◌, ℕ, zero, suc, ◌+◌, ◌-◌, ◌%◌, ◌^◌, ◌<◌, ◌≤◌, Bool, true, false, cond, ◌&&◌, List, [], ◌∷◌, ◌++◌, length, take, drop, Option, Some, refl, sym, ap, ◌∙◌, subst, add-one, arith, append_assoc, drop-drop}
 use Rattle.std.specs.Prelude.{IsTrue, ◌==◌, not, nat_lt, nat_le, map, slice_get, slice_index, slice_range, if◌then◌else◌, count_by}
 use Rattle.std.specs.List.{list_all}
 use Rattle.std.proofs.lemmas.Bool.{eqb-true, or_parts}
 use Rattle.std.proofs.lemmas.Bool.Decides.{nat_tests}
-use Rattle.std.proofs.lemmas.List.{drop-drop, drop_at, length-append, length-drop, take_at}
+use Rattle.std.proofs.lemmas.List.{drop-drop, drop_at, length-append, length-drop, take_at, drop-take, take-take}
 use Rattle.std.proofs.lemmas.List.Folds.{list_all-append}
 use Rattle.std.proofs.lemmas.List.Sums.{sum_by-cons}
 use Rattle.md_engine.specs.declared.event.Point.{Point}
@@ -408,6 +408,17 @@ ending-feed x ending rest p h =
 
 pub slice-front : (bytes : List ℕ) (i j : ℕ) (xs rest : List ℕ) → drop i bytes ≡ xs ++ rest → j ≡ i + length xs → slice_range bytes i j ≡ xs
 slice-front bytes i j xs rest e k = ap (take (j - i)) e ∙ take_at xs rest (j - i) (omega arith)
+
+-- a piece of a line is one of the text
+pub slice-inside : (bytes line : List ℕ) (from end i size : ℕ) → slice_range bytes from end ≡ line → end ≡ from + length line → i + size ≤ length line → slice_range bytes (from + i) (from + i + size) ≡ take size (drop i line)
+slice-inside bytes line from end i size is long le =
+    let left = end - (from + i) in
+    let one : from + i + size - (from + i) ≡ size = omega arith in
+    let all : i + left ≡ end - from = omega arith in
+    ap (λ (k : ℕ). take k (drop (from + i) bytes)) one
+    ∙ sym (take-take size left (drop (from + i) bytes) (omega arith))
+    ∙ ap (λ (l : List ℕ). take size (take left l)) (sym (drop-drop i from bytes))
+    ∙ ap (take size) (sym (drop-take i left (drop from bytes)) ∙ ap (λ (k : ℕ). drop i (take k (drop from bytes))) all ∙ ap (drop i) is)
 
 pub drop-past : (bytes : List ℕ) (i : ℕ) (xs rest : List ℕ) → drop i bytes ≡ xs ++ rest → drop (i + length xs) bytes ≡ rest
 drop-past bytes i xs rest e = sym (drop-drop (length xs) i bytes) ∙ ap (drop (length xs)) e ∙ drop_at xs rest (length xs) refl

@@ -1,7 +1,7 @@
 -- A document is read as the same tree before its text parts are read and after.
 use Rattle.std.proofs.Common.{◌≡◌, ℕ, zero, suc, Bool, true, false, cond, ◌&&◌, List, [], ◌∷◌, ◌++◌, refl, ap, sym, ◌∙◌, subst}
 use Rattle.std.specs.Prelude.{Option, Some, option_map, ◌==◌, not}
-use Rattle.std.proofs.lemmas.Bool.{and_parts}
+use Rattle.std.proofs.lemmas.Bool.{and_parts, not-true}
 use Rattle.md_engine.specs.declared.event.Point.{Point}
 use Rattle.md_engine.specs.declared.event.Event.{Event}
 use Rattle.md_engine.specs.declared.event.Kind.{Kind}
@@ -10,7 +10,8 @@ use Rattle.md_engine.specs.declared.event.Name.{Name}
 use Rattle.md_engine.specs.declared.event.Name.TheVariants as n
 use Rattle.md_seam.specs.Spelled.{Reading, Text, Purpose, AsParagraph, AsHeading, AsInfo, AsMeta, AsLabel, AsDestination, AsTitle, AsCell, AsFootnoteLabel, Role, Tells, IsQuiet, IsPrefix, role, begun, before_prefix, after_prefix, read_by, read, unread, spelled}
 use Rattle.md_seam.specs.Inline.{is_linked, is_inline}
-use Rattle.md_seam.specs.Tiles.{stands_in_part, is_data, is_exit, is_part, is_chunk, depth_behind, chunks_stand, first_list, further_lists, filled_from, filled}
+use Rattle.md_seam.specs.Tiles.{stands_in_part, is_data, is_part, is_chunk, depth_behind, chunks_stand, first_list, further_lists, filled_from, filled}
+use Rattle.md_seam.specs.Nested.{is_exit}
 use Rattle.md_seam.proofs.SpelledLemmas.{Roles, QuietOrPrefix, QuietOrEnding, read-append, read-inline}
 
 -- Names.
@@ -126,10 +127,6 @@ same-unlinked : (bytes : List ℕ) (e : Event) (es : List Event) (depth : ℕ) (
 same-unlinked bytes e es depth r lists same unlinked stands has each =
     ap (λ (x : Bool). read bytes r (cond x (first_list lists ++ filled_from true es (further_lists lists)) (e ∷ filled_from false es lists))) unlinked
     ∙ same depth (read_by bytes e.kind (role e.name) e.point r) lists stands has each
-
-pub not-true : (x : Bool) → not x ≡ true → x ≡ false
-not-true false h = refl
-not-true true h = cc
 
 exit-kind : (kind : Kind) → is_exit kind ≡ true → kind ≡ Exit
 exit-kind Exit h = refl

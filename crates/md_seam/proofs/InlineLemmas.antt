@@ -38,6 +38,18 @@ pub past-vs : (b : ℕ) (text : List ℕ) (p : Point) → (past_text (b ∷ text
 past-vs b [] p = refl
 past-vs b (c ∷ text) p = past-vs c text (past_byte b p)
 
+pub past_text-append : (xs ys : List ℕ) (p : Point) → past_text (xs ++ ys) p ≡ past_text ys (past_text xs p)
+past_text-append [] ys p = refl
+past_text-append (b ∷ xs) ys p = past_text-append xs ys (past_byte b p)
+
+-- a piece of a text ends no earlier than it begins
+pub before-text : (text : List ℕ) (p : Point) → IsTrue (at_or_before p (past_text text p))
+before-text [] p = at_or_before-refl p
+before-text (b ∷ text) p = further (past_text (b ∷ text) p) (past-index (b ∷ text) p)
+  where
+    further : (q : Point) → q.index ≡ p.index + suc (length text) → IsTrue (at_or_before p q)
+    further q e = grind (arith, nat_tests)
+
 -- The line of a chunk.
 
 pub line-no_ending : (text : List ℕ) → NoEnding (without_ending text)
@@ -71,14 +83,7 @@ line-length bytes chunk =
 -- The end of its line lies in the chunk.
 
 pub end-behind : (bytes : List ℕ) (chunk : Chunk) → IsTrue (at_or_before chunk.first (line_end bytes chunk))
-end-behind bytes chunk = go (without_ending (chunk_text bytes chunk))
-  where
-    go : (line : List ℕ) → IsTrue (at_or_before chunk.first (past_text line chunk.first))
-    go [] = at_or_before-refl chunk.first
-    go (b ∷ line) = further (past_text (b ∷ line) chunk.first) (past-index (b ∷ line) chunk.first)
-      where
-        further : (p : Point) → p.index ≡ chunk.first.index + suc (length line) → IsTrue (at_or_before chunk.first p)
-        further p e = grind (arith, nat_tests)
+end-behind bytes chunk = before-text (without_ending (chunk_text bytes chunk)) chunk.first
 
 pub end-before : (bytes : List ℕ) (chunk : Chunk) → IsTrue (at_or_before chunk.first chunk.after) → IsTrue (at_or_before (line_end bytes chunk) chunk.after)
 end-before bytes chunk h = go (without_ending (chunk_text bytes chunk)) (line-length bytes chunk)

@@ -6,7 +6,7 @@ use Rattle.std.proofs.Math.Bool.{Bool-set}
 use Rattle.std.proofs.Math.ListN.{get_or-eq_default}
 use Rattle.std.proofs.Math.Logic.{∥∥₁_elim}
 use Rattle.std.proofs.Math.Seq.{drop-cons, take-suc}
-use Rattle.std.proofs.lemmas.Bool.{and_parts, and_from, eqb-true, eqb-false}
+use Rattle.std.proofs.lemmas.Bool.{and_parts, and_from, eqb-true, eqb-false, and_right, or_right, not-true}
 use Rattle.std.proofs.lemmas.Bool.Decides.{nat_tests}
 use Rattle.std.proofs.lemmas.List.Elements.{All-head, All-tail}
 use Rattle.md_engine.specs.declared.event.Event.{Event}
@@ -17,7 +17,6 @@ use Rattle.md_seam.specs.Parts.{ArePlaced}
 use Rattle.md_seam.specs.Places.{are_placed, columns_before, columns_from, is_placed, last_line, past_byte}
 use Rattle.md_seam.specs.Rest.{tab_columns}
 use Rattle.md_seam.specs.Texts.{first_byte, split_lines}
-use Rattle.md_seam.proofs.FilledLemmas.{not-true}
 use Rattle.md_seam.proofs.PlacesLemmas.{Placed, placed-byte, placed-from}
 use Rattle.md_seam.proofs.TextsLemmas.{Ending, Both, LineFeed, Return, ending_bytes}
 
@@ -174,16 +173,12 @@ column-room before vs column e h more = test room
     test : vs + 1 < 4 - before % 4 → nat_lt (vs + 1) (4 - before % 4) ≡ true
     test lt = grind (arith, nat_tests)
 
-or_true : (x y : Bool) → y ≡ true → (x || y) ≡ true
-or_true true y e = refl
-or_true false y e = e
-
 -- a column of a tab that is not its last
 stands-column : (bytes : List ℕ) (p : Point) → Stands bytes p → p.index < length bytes → slice_index bytes p.index ≡ 9 → (p.column % 4 == 0) ≡ false → Stands bytes (record p { column = p.column + 1; vs = p.vs + 1 })
 stands-column bytes p h lt e more = record {
   placed = record {
     index = h.placed.index;
-    within = rw tab (or_true (p.vs + 1 == 0) (nat_lt (p.vs + 1) (tab_columns (columns_before bytes p.index))) (column-room (columns_before bytes p.index) p.vs p.column h.placed.column within more));
+    within = rw tab (or_right (p.vs + 1 == 0) (nat_lt (p.vs + 1) (tab_columns (columns_before bytes p.index))) (column-room (columns_before bytes p.index) p.vs p.column h.placed.column within more));
     line = h.placed.line;
     column = omega (arith, h.placed.column);
   };
@@ -210,10 +205,6 @@ apart-feed : (x y : Bool) → (x && y) ≡ false → y ≡ true → x ≡ false
 apart-feed false y h e = refl
 apart-feed true y h e = cc
 
-pub and_false : (x y : Bool) → y ≡ false → (x && y) ≡ false
-and_false true y e = e
-and_false false y e = refl
-
 stands-feed : (bytes : List ℕ) (p : Point) → Stands bytes p → p.index < length bytes → slice_index bytes p.index ≡ 10 → Stands bytes (record { line = p.line + 1; column = 1; index = p.index + 1; vs = 0 })
 stands-feed bytes p h lt e = stands-ended bytes p LineFeed (p.index + 1) h.placed (omega arith) taken
     (apart-feed (ends_return (take p.index bytes)) (slice_index bytes p.index == 10) h.apart (ap (λ (b : ℕ). b == 10) e))
@@ -224,7 +215,7 @@ stands-feed bytes p h lt e = stands-ended bytes p LineFeed (p.index + 1) h.place
 
 stands-return : (bytes : List ℕ) (p : Point) → Stands bytes p → p.index < length bytes → slice_index bytes p.index ≡ 13 → (slice_index bytes (p.index + 1) == 10) ≡ false → Stands bytes (record { line = p.line + 1; column = 1; index = p.index + 1; vs = 0 })
 stands-return bytes p h lt e no_feed = stands-ended bytes p Return (p.index + 1) h.placed (omega arith) (take-next bytes p.index 13 lt e) tt
-    (and_false (ends_return (take (p.index + 1) bytes)) (slice_index bytes (p.index + 1) == 10) no_feed)
+    (and_right (ends_return (take (p.index + 1) bytes)) (slice_index bytes (p.index + 1) == 10) no_feed)
 
 stands-both : (bytes : List ℕ) (p : Point) → Stands bytes p → slice_index bytes p.index ≡ 13 → slice_index bytes (p.index + 1) ≡ 10 → Stands bytes (record { line = p.line + 1; column = 1; index = p.index + 2; vs = 0 })
 stands-both bytes p h e k = stands-ended bytes p Both (p.index + 2) h.placed (omega (arith, lt)) (taken ∙ append_assoc (take p.index bytes) (13 ∷ []) (10 ∷ [])) tt

@@ -16,7 +16,7 @@ use Rattle.md_seam.specs.Rest.{Rest, behind, behind_indent, indent, is_white, lo
 use Rattle.md_seam.proofs.FeedLines.{HasLine, Stops, at-next, before-byte, before-column, behind_last, byte-one, cell, columns_more, line-feed, next_column, past-next, point_after-append, spread, spread-end, stops-white, tab-end, tab-feed, tab_cells, tab_end, tab_end-last, tab_end-next, tab_end-stop}
 use Rattle.md_seam.proofs.NestedLemmas.{at_or_before-refl, at_or_before-trans}
 use Rattle.md_seam.proofs.TextsLemmas.{NoEnding, no_ending-drop}
-use Rattle.md_seam.proofs.WhiteSteps.{none-end, none-rest}
+use Rattle.md_seam.proofs.AheadLemmas.{none-end, none-rest}
 
 -- the columns that are left of a cut tab, and then the cells of the bytes
 abbrev pub cells_by : Line → ℕ → List ℕ → Point → List Cell
@@ -220,11 +220,11 @@ bare-same r e = go r.spaces r.bytes (bare r e)
 -- where no whitespace comes first, none is taken
 pub white-rest : (room : ℕ) (cells : List Cell) → begins_white cells ≡ false → white_rest room cells ≡ cells
 white-rest room [] e = refl
-white-rest room (c ∷ cs) e = none-rest room c cs e
+white-rest room (c ∷ cs) e = none-rest room (c ∷ cs) e
 
 pub white-end : (room : ℕ) (cells : List Cell) (p : Point) → begins_white cells ≡ false → white_end room cells p ≡ p
 white-end room [] p e = refl
-white-end room (c ∷ cs) p e = none-end room c cs p e
+white-end room (c ∷ cs) p e = none-end room (c ∷ cs) p e
 
 pub white-length : (room : ℕ) (cells : List Cell) → length (white_rest room cells) ≤ length cells
 white-length room [] = omega arith

@@ -4,7 +4,6 @@ use Rattle.std.specs.Prelude.{nat_le}
 use Rattle.std.proofs.lemmas.Bool.Decides.{nat_tests}
 use Rattle.md_engine.specs.declared.event.Event.{Event}
 use Rattle.md_engine.specs.declared.event.Name.TheVariants.{SpaceOrTab}
-use Rattle.md_engine.specs.declared.event.Point.{Point}
 use Rattle.md_engine.specs.declared.state.Name.TheVariants as n
 use Rattle.md_engine.specs.declared.state.State.TheVariants.{Next}
 use Rattle.md_engine.specs.declared.tokenizer.Frame.{Frame}
@@ -15,6 +14,7 @@ use Rattle.md_seam.specs.Ahead.{HasWhite, after_white, begins_white, inside_whit
 use Rattle.md_seam.specs.Nested.{enter, exit}
 use Rattle.md_seam.specs.Rest.{is_white}
 use Rattle.md_seam.specs.Spaces.{after_code, asking, calmed, inside_code, sees_white, start_code}
+use Rattle.md_seam.proofs.AheadLemmas.{none-end, none-rest, none-size}
 
 -- one column more
 inside-more : (c : Cell) (cs : List Cell) (h : Here) → is_white c.byte ≡ true → h.scratch.whitespace.size < h.scratch.whitespace.max →
@@ -37,25 +37,13 @@ inside-full (c ∷ cs) h le =
     let room : h.scratch.whitespace.max - h.scratch.whitespace.size ≡ 0 = omega arith in
     rw (room, add-zero) refl
 
-pub none-end : (room : ℕ) (c : Cell) (cs : List Cell) (p : Point) → is_white c.byte ≡ false → white_end room (c ∷ cs) p ≡ p
-none-end zero c cs p e = refl
-none-end (suc n) c cs p e = rw e refl
-
-pub none-rest : (room : ℕ) (c : Cell) (cs : List Cell) → is_white c.byte ≡ false → white_rest room (c ∷ cs) ≡ c ∷ cs
-none-rest zero c cs e = refl
-none-rest (suc n) c cs e = rw e refl
-
-none-size : (room : ℕ) (c : Cell) (cs : List Cell) → is_white c.byte ≡ false → white_size room (c ∷ cs) ≡ 0
-none-size zero c cs e = refl
-none-size (suc n) c cs e = rw e refl
-
 stop-ahead : (feed : Feed) (w : World) (h : Here) (o : Option ℕ) → sees_white o ≡ false → inside_white (ahead feed w o) h ≡ after_white (ahead feed w o) (ended_here h)
 unfolding inside_white
 stop-ahead feed w h None e = rw add-zero refl
 stop-ahead feed w h (Some b) e =
     let c = cell_here feed w b in
     let cs = feed (after w.setting w.point) in
-    rw (none-end _ c cs h.point e, none-rest _ c cs e, none-size _ c cs e, add-zero) refl
+    rw (none-end _ (c ∷ cs) h.point e, none-rest _ (c ∷ cs) e, none-size _ (c ∷ cs) e, add-zero) refl
 
 inside-stop : (feed : Feed) (w : World) (h : Here) → Sees feed w → (sees_white w.current ≡ false) ⊎ (h.scratch.whitespace.max ≤ h.scratch.whitespace.size) →
     inside_white (feed w.point) h ≡ after_white (feed w.point) (ended_here h)

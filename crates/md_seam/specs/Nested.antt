@@ -1,5 +1,5 @@
 -- Lists of events as brackets, and the order of their points.
-use Rattle.std.specs.Prelude.{◌≡◌, IsTrue, List, [], ◌∷◌, ◌++◌, Some, None}
+use Rattle.std.specs.Prelude.{◌≡◌, IsTrue, List, [], ◌∷◌, ◌++◌, Some, None, Bool, true, false}
 use Rattle.md_engine.specs.declared.event.Point.{Point}
 use Rattle.md_engine.specs.declared.event.Event.{Event}
 use Rattle.md_engine.specs.declared.event.Kind.{Kind}
@@ -25,6 +25,15 @@ pair name p q = enter name p ∷ exit name q ∷ []
 
 abbrev pub around : Name → Point → Point → List Event → List Event
 around name p q inside = enter name p ∷ inside ++ exit name q ∷ []
+
+-- whether a part begins or ends
+abbrev pub is_enter : Kind → Bool
+is_enter Enter = true
+is_enter Exit = false
+
+abbrev pub is_exit : Kind → Bool
+is_exit Exit = true
+is_exit Enter = false
 
 -- the names that are open behind an event, the innermost first
 abbrev pub open_behind : List Name → Kind → Name → List Name

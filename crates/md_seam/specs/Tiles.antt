@@ -12,7 +12,7 @@ use Rattle.md_seam.specs.declared.inline.PartKind.TheVariants as k
 use Rattle.md_seam.specs.declared.inline.Chunk.{Chunk}
 use Rattle.md_seam.specs.Rest.{is_blank}
 use Rattle.md_seam.specs.Places.{first_point, are_placed}
-use Rattle.md_seam.specs.Nested.{Nested}
+use Rattle.md_seam.specs.Nested.{Nested, is_exit}
 use Rattle.md_seam.specs.Inline.{Part, Piece, pieces, Covers, Fills, are_lines, is_linked, together}
 
 -- the point behind the last byte
@@ -47,10 +47,6 @@ stands_in_part kind _ = false
 abbrev pub is_data : Name → Bool
 is_data n.Data = true
 is_data _ = false
-
-abbrev pub is_exit : Kind → Bool
-is_exit Exit = true
-is_exit Enter = false
 
 abbrev pub is_part : Name → Bool
 is_part name = elim (part_kind name) [ None ↦ false | Some kind ↦ true ]

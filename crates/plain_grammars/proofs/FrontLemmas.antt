@@ -8,7 +8,7 @@ use Rattle.md_seam.specs.Preamble as p
 use Rattle.plain_grammars.specs.declared.rest.Rest.{Rest}
 use Rattle.plain_grammars.specs.Fronts.{lines_in, IsEnd}
 use Rattle.plain_grammars.specs.Rests.{rest_meaning, rest_meanings}
-use Rattle.plain_grammars.proofs.LinesLemmas.{rests_at-zero}
+use Rattle.md_seam.proofs.LinesLemmas.{rests_at-zero}
 
 -- one passes where those that do not are fewer than all
 any-some : {A : Type 0} (f : A → Bool) (xs : List A) → prefix_len (λ x. not (f x)) xs < length xs → list_any f xs ≡ true

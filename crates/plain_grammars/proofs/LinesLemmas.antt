@@ -2,11 +2,11 @@
 use Rattle.std.proofs.Common.{◌≡◌, ℕ, suc, ◌+◌, Bool, true, false, cond, not, ◌==◌, ◌&&◌, ◌||◌, List, [], ◌∷◌, map, length, take, drop, refl, sym, ◌∙◌, ap, subst, append_assoc, ◌++◌, arith}
 use Rattle.std.proofs.lemmas.Bool.{eqb-true}
 use Rattle.std.proofs.lemmas.List.{map-append}
-use Rattle.std.proofs.lemmas.List.Sums.{take_while-cons}
 use Rattle.std.specs.List.{prefix_len, onto_first}
 use Rattle.md_seam.specs.Lines.{is_ending, begins_with, ends_line, full_lines_of, without_ending, lines_of}
 use Rattle.md_seam.specs.Rest as r
 use Rattle.md_seam.specs.Preamble.{rest_at, rests_at}
+use Rattle.md_seam.proofs.LinesLemmas.{rests_at-zero, without_ending-onto}
 use Rattle.plain_grammars.specs.declared.rest.Rest.{Rest}
 use Rattle.plain_grammars.specs.Rests.{after_ending, rest_meaning, rest_meanings}
 
@@ -17,14 +17,6 @@ line_len text = prefix_len (λ b. not (is_ending b)) text
 abbrev Splits : List ℕ → Type 0
 Splits [] = Unit {0}
 Splits (b ∷ bytes) = lines_of (b ∷ bytes) ≡ take (line_len (b ∷ bytes)) (b ∷ bytes) ∷ lines_of (after_ending (drop (line_len (b ∷ bytes)) (b ∷ bytes)))
-
-without_ending-cons : (b : ℕ) (line : List ℕ) → is_ending b ≡ false → without_ending (b ∷ line) ≡ b ∷ without_ending line
-without_ending-cons b line e = take_while-cons (λ c. not (is_ending c)) b line ∙ ap (λ t. cond (not t) (b ∷ without_ending line) []) e
-
--- a byte that ends no line stays in its line
-without_ending-onto : (b : ℕ) (ls : List (List ℕ)) → is_ending b ≡ false → map without_ending (onto_first b ls) ≡ onto_first b (map without_ending ls)
-without_ending-onto b [] e = ap (λ l. l ∷ []) (without_ending-cons b [] e)
-without_ending-onto b (l ∷ ls) e = ap (λ k. k ∷ map without_ending ls) (without_ending-cons b l e)
 
 lines_of-inside : (b : ℕ) (bytes : List ℕ) → (b == 10) ≡ false → (b == 13) ≡ false → lines_of (b ∷ bytes) ≡ onto_first b (lines_of bytes)
 lines_of-inside b bytes e f =
@@ -68,10 +60,6 @@ splits (b ∷ bytes) = splits-next b bytes (splits bytes)
 pub lines_of-first : (text : List ℕ) → (length text == 0) ≡ false → lines_of text ≡ take (line_len text) text ∷ lines_of (after_ending (drop (line_len text) text))
 lines_of-first [] h = absurd (cc)
 lines_of-first (b ∷ bytes) h = splits (b ∷ bytes)
-
-pub rests_at-zero : (ls : List (List ℕ)) → rests_at 0 ls ≡ map (rest_at 0) ls
-rests_at-zero [] = refl
-rests_at-zero (l ∷ ls) = refl
 
 -- one line read, and those behind its ending
 pub rests_at-next : (before : List r.Rest) (c : ℕ) (text : List ℕ) → (length text == 0) ≡ false →

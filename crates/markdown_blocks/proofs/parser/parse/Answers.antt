@@ -8,10 +8,9 @@ use Rattle.md_engine.specs.World.{Setting}
 use Rattle.md_seam.specs.Inline.{PlainReads}
 use Rattle.md_seam.specs.Parts.{ArePlaced}
 use Rattle.md_seam.proofs.ReachedLemmas.{events-placed}
-use Rattle.markdown_blocks.proofs.FlowReads.{reads-labels, reads-setting}
+use Rattle.markdown_blocks.proofs.FlowReads.{reads-labels, reads-setting, map-nil}
 use Rattle.markdown_blocks.proofs.MarkLemmas.{body-placed}
 use Rattle.markdown_blocks.proofs.Parses.{Reads, parsed-reads}
-use Rattle.markdown_blocks.proofs.Settings.{map-nil}
 use Rattle.markdown_blocks.specs.TextReads.{text_kind, wants_text}
 use Rattle.markdown_blocks.proofs.parser.parse.Goals as goal
 

@@ -1,6 +1,6 @@
 use Rattle.std.proofs.Common.{arith, refl}
 use Rattle.markdown_blocks.proofs.DocumentReads.{document-reads-from}
-use Rattle.markdown_blocks.proofs.Settings.{placed-first}
+use Rattle.markdown_blocks.proofs.MarkLemmas.{placed-first}
 use Rattle.markdown_blocks.proofs.parser.read_mark.Goals as goal
 
 pub new-tokenizer-requires : goal.new-tokenizer-requires

@@ -2,7 +2,6 @@ use Rattle.std.proofs.Common.{ap, arith, ◌≡◌, ◌∙◌, ◌-◌, suc, len
 use Rattle.md_engine.specs.World.{Setting, World, fresh, world}
 use Rattle.md_content.specs.ContentReads.{first_of, skipping_all}
 use Rattle.md_content.proofs.ContentReadsLemmas.{end-at, first-at, part-read, small-at, skipping-more}
-use Rattle.md_content.proofs.Settings.{content_keeps}
 use Rattle.md_seam.proofs.Settings.{flushes-setting}
 use Rattle.md_content.proofs.content.ContentReader.read_part.Goals as goal
 
@@ -35,7 +34,7 @@ loop-chunk-preserved c =
 
 pub returns : goal.returns
 returns c =
-    let kept = flushes-setting _ _ _ _ _ _ _ content_keeps (record { setting = λ n w f v r. ap (λ (x : World). x.setting) r.1 }) c.in_ok-flush.ensures in
+    let kept = flushes-setting _ _ _ _ _ _ _ (record { setting = λ n w f v r. ap (λ (x : World). x.setting) r.1 }) c.in_ok-flush.ensures in
     let pushed = c.push.ensures.setting c.in_default.not-Error in
     let same : c.flush.new.tokenizer.bytes.now ≡ c.args.self.now.bytes.now = ap (λ (x : Setting). x.bytes) kept ∙ ap (λ (x : Setting). x.bytes) pushed ∙ c.loop-chunk.invariant.bytes in
     let count : length c.args.chunks.now ≡ suc (length c.args.chunks.now - 1) = omega (arith, c.requires.some) in

@@ -1,0 +1,167 @@
+-- Events outside of text parts, the chunks of a text part, and lines of which nothing is read later.
+use Rattle.std.proofs.Common.{◌≡◌, ◌≢◌, ℕ, zero, suc, true, false, cond, ◌&&◌, ◌==◌, List, [], ◌∷◌, ◌++◌, refl, ap, ◌∙◌, append-nil}
+use Rattle.std.specs.Prelude.{Option, Some, None}
+use Rattle.md_engine.specs.declared.configuration.ParseOptions.{ParseOptions}
+use Rattle.md_engine.specs.declared.event.Event.{Event}
+use Rattle.md_engine.specs.declared.event.Link.{Link}
+use Rattle.md_engine.specs.declared.event.Name.{Name}
+use Rattle.md_engine.specs.declared.event.Name.TheVariants as n
+use Rattle.md_engine.specs.declared.event.Point.{Point}
+use Rattle.md_engine.specs.Meaning.{Cell}
+use Rattle.md_leaves.specs.BreakRule as break
+use Rattle.md_leaves.specs.HeadingRule as heading
+use Rattle.md_leaves.specs.HeadingTitle.{line_runs}
+use Rattle.md_seam.specs.declared.inline.Chunk.{Chunk}
+use Rattle.md_seam.specs.declared.inline.PartKind.{PartKind}
+use Rattle.md_seam.specs.Ahead.{begins_white, from_ending, line_cells, line_end, white_end, white_rest}
+use Rattle.md_seam.specs.Inline.{Piece, pieces, pieces_from}
+use Rattle.md_seam.specs.Nested.{enter_link, exit, pair}
+use Rattle.md_seam.specs.Places.{past_byte}
+use Rattle.md_seam.specs.Spaces.{small_indent}
+use Rattle.md_seam.specs.Spelled.{role}
+use Rattle.md_seam.specs.Tiles.{chunks, inside_part, is_part, part_kind}
+use Rattle.md_seam.proofs.SpelledLemmas.{Quiet, Roles}
+use Rattle.markdown_blocks.specs.Rows.{BlankRow, BreakRow, Group, HeadingRow, Lines, Row, RowKind, Single, TextRow, first_cell, groups, inside_of, onto_groups, row_kind, rows_at}
+use Rattle.markdown_blocks.specs.Unread.{linked}
+use Rattle.markdown_blocks.proofs.TitleFacts.{NoLinks}
+use Rattle.markdown_blocks.proofs.TitleNests.{either}
+
+-- Events outside of text parts.
+
+-- events none of which begins or ends a text part
+abbrev pub NoParts : List Event → Type 0
+NoParts [] = Unit {0}
+NoParts (e ∷ es) = (part_kind e.name ≡ None) × NoParts es
+
+no_parts-append : (xs ys : List Event) → NoParts xs → NoParts ys → NoParts (xs ++ ys)
+no_parts-append [] ys h k = k
+no_parts-append (e ∷ xs) ys h k = (h.0, no_parts-append xs ys h.1 k)
+
+pub kind-no_part : (name : Name) → part_kind name ≡ None → is_part name ≡ false
+kind-no_part name h = ap (λ (x : Option PartKind). elim x [ None ↦ false | Some kind ↦ true ]) h
+
+-- the tree shows each text part
+quiet-name : (name : Name) → Quiet (role name) → part_kind name ≡ None
+quiet-name n.Paragraph h = absurd h
+quiet-name n.HeadingAtxText h = absurd h
+quiet-name n.HeadingSetextText h = absurd h
+quiet-name n.GfmTableCellText h = absurd h
+quiet-name n.CodeFencedFenceInfo h = absurd h
+quiet-name n.CodeFencedFenceMeta h = absurd h
+quiet-name n.MathFlowFenceMeta h = absurd h
+quiet-name n.DefinitionLabelString h = absurd h
+quiet-name n.DefinitionDestinationString h = absurd h
+quiet-name n.DefinitionTitleString h = absurd h
+quiet-name n.GfmFootnoteDefinitionLabelString h = absurd h
+quiet-name _ h = refl
+
+pub quiet-no_parts : (es : List Event) → Roles Quiet es → NoParts es
+quiet-no_parts [] h = tt
+quiet-no_parts (e ∷ es) h = (quiet-name e.name h.0, quiet-no_parts es h.1)
+
+-- The chunks of a text part.
+
+pub linked-no_parts : (link : Link) (cs : List Chunk) → NoParts (linked n.Data link cs)
+linked-no_parts link [] = tt
+linked-no_parts link (c ∷ cs) = (refl, (refl, linked-no_parts link cs))
+
+linked-inside : (link : Link) (cs : List Chunk) (ys : List Event) → inside_part (linked n.Data link cs ++ ys) ≡ linked n.Data link cs ++ inside_part ys
+linked-inside link [] ys = refl
+linked-inside link (c ∷ cs) ys = ap (λ (l : List Event). enter_link n.Data c.first link ∷ exit n.Data c.after ∷ l) (linked-inside link cs ys)
+
+-- a part ends with its exit
+pub part-inside : (name : Name) (kind : PartKind) (q : Point) (link : Link) (cs : List Chunk) (ys : List Event) → part_kind name ≡ Some kind → inside_part (linked n.Data link cs ++ exit name q ∷ ys) ≡ linked n.Data link cs
+part-inside name kind q link cs ys named =
+    linked-inside link cs (exit name q ∷ ys)
+    ∙ ap (λ (x : Option PartKind). linked n.Data link cs ++ cond ((elim x [ None ↦ false | Some kind ↦ true ]) && true) [] (exit name q ∷ inside_part ys)) named
+    ∙ append-nil (linked n.Data link cs)
+
+pub pieces-behind : (p : Point) (link : Link) (cs : List Chunk) → pieces_from (exit n.Data p) (linked n.Data link cs) ≡ pieces (linked n.Data link cs)
+pieces-behind p link [] = refl
+pieces-behind p link (c ∷ cs) = refl
+
+pub linked-chunks : (link : Link) (cs : List Chunk) → chunks (pieces (linked n.Data link cs)) ≡ cs
+linked-chunks link [] = refl
+linked-chunks link (c ∷ cs) = ap (λ (l : List Piece). c ∷ chunks l) (pieces-behind c.after link cs) ∙ ap (λ (l : List Chunk). c ∷ l) (linked-chunks link cs)
+
+-- The runs of a heading.
+
+opens-no_parts : (run : heading.Run) (p : Point) → NoParts (heading.opens run p)
+opens-no_parts heading.Apart p = tt
+opens-no_parts heading.White p = (refl, tt)
+opens-no_parts heading.Hashes p = (refl, tt)
+opens-no_parts heading.Text p = (refl, tt)
+
+closes-no_parts : (run : heading.Run) (p : Point) → NoParts (heading.closes run p)
+closes-no_parts heading.Apart p = tt
+closes-no_parts heading.White p = (refl, tt)
+closes-no_parts heading.Hashes p = (refl, tt)
+closes-no_parts heading.Text p = (refl, tt)
+
+pub runs-no_parts : (run : heading.Run) (xs : List ℕ) (p : Point) → NoParts (line_runs run xs p)
+runs-no_parts run [] p = closes-no_parts run p
+runs-no_parts run (b ∷ xs) p =
+    let rest : List Event = line_runs (heading.begun b) xs (past_byte b p) in
+    either NoParts (heading.goes_on run b) (line_runs run xs (past_byte b p)) ((heading.closes run p ++ heading.opens (heading.begun b) p) ++ rest) (runs-no_parts run xs (past_byte b p))
+    (no_parts-append (heading.closes run p ++ heading.opens (heading.begun b) p) rest
+    (no_parts-append (heading.closes run p) (heading.opens (heading.begun b) p) (closes-no_parts run p) (opens-no_parts (heading.begun b) p)) (runs-no_parts (heading.begun b) xs (past_byte b p)))
+
+-- Lines.
+
+-- what stands in a line that is no heading is not read later
+abbrev pub IsUnlinked : Row → Type 0
+IsUnlinked row = row.kind ≢ HeadingRow → NoLinks row.inside
+
+abbrev pub EachUnlinked : List Row → Type 0
+EachUnlinked [] = Unit {0}
+EachUnlinked (row ∷ rows) = IsUnlinked row × EachUnlinked rows
+
+no_links-append : (xs ys : List Event) → NoLinks xs → NoLinks ys → NoLinks (xs ++ ys)
+no_links-append [] ys h k = k
+no_links-append (e ∷ xs) ys h k = (h.0, no_links-append xs ys h.1 k)
+
+break-unlinked : (run : break.Run) (m : ℕ) (cells : List Cell) (p : Point) → NoLinks (break.runs run m cells p)
+break-unlinked break.Apart m [] p = tt
+break-unlinked break.Marks m [] p = (refl, tt)
+break-unlinked break.White m [] p = (refl, tt)
+break-unlinked break.Apart m (c ∷ cs) p = either NoLinks (c.byte == m) _ _ (refl, break-unlinked break.Marks m cs c.after) (refl, break-unlinked break.White m cs c.after)
+break-unlinked break.Marks m (c ∷ cs) p = either NoLinks (c.byte == m) _ _ (break-unlinked break.Marks m cs c.after) (refl, (refl, break-unlinked break.White m cs c.after))
+break-unlinked break.White m (c ∷ cs) p = either NoLinks (c.byte == m) _ _ (refl, (refl, break-unlinked break.Marks m cs c.after)) (break-unlinked break.White m cs c.after)
+
+inside-unlinked : (options : ParseOptions) (cells : List Cell) (p : Point) (kind : RowKind) → kind ≢ HeadingRow → NoLinks (inside_of options cells p kind)
+inside-unlinked options cells p BlankRow other = either NoLinks (begins_white cells) (pair n.SpaceOrTab p (line_end cells p)) [] (refl, (refl, tt)) tt
+inside-unlinked options cells p HeadingRow other = absurd (other refl)
+inside-unlinked options cells p BreakRow other =
+    let room : ℕ = small_indent options in
+    let rest : List Cell = white_rest room cells in
+    let q : Point = white_end room cells p in
+    no_links-append (cond (begins_white cells) (pair n.SpaceOrTab p q) []) (break.runs break.Apart (first_cell rest) (line_cells rest) q)
+    (either NoLinks (begins_white cells) (pair n.SpaceOrTab p q) [] (refl, (refl, tt)) tt) (break-unlinked break.Apart (first_cell rest) (line_cells rest) q)
+inside-unlinked options cells p TextRow other = tt
+
+-- so it is in the lines that flow reads
+pub rows_at-unlinked : (options : ParseOptions) (size : ℕ) (cells : List Cell) (p : Point) → EachUnlinked (rows_at options size cells p)
+rows_at-unlinked options zero cells p = tt
+rows_at-unlinked options (suc size) cells p = (λ other. inside-unlinked options cells p (row_kind options cells) other, go (rows_at-unlinked options size) (from_ending cells))
+  where
+    go : ((cells : List Cell) (p : Point) → EachUnlinked (rows_at options size cells p)) → (rest : List Cell) → EachUnlinked (elim rest [ [] ↦ [] | c ∷ cs ↦ rows_at options size cs c.after ])
+    go further [] = tt
+    go further (c ∷ cs) = further cs c.after
+
+-- the same of the lines of groups that are no text
+abbrev pub AreUnlinked : List Group → Type 0
+AreUnlinked [] = Unit {0}
+AreUnlinked (Single row ∷ gs) = IsUnlinked row × AreUnlinked gs
+AreUnlinked (Lines row rows ∷ gs) = AreUnlinked gs
+
+pub groups-unlinked : (rows : List Row) → EachUnlinked rows → AreUnlinked (groups rows)
+groups-unlinked [] h = tt
+groups-unlinked (row ∷ rows) h = onto row.kind (groups rows) (groups-unlinked rows h.1)
+  where
+    onto : (kind : RowKind) (gs : List Group) → AreUnlinked gs → AreUnlinked (onto_groups row kind gs)
+    onto BlankRow gs k = (h.0, k)
+    onto HeadingRow gs k = (h.0, k)
+    onto BreakRow gs k = (h.0, k)
+    onto TextRow [] k = tt
+    onto TextRow (Single first ∷ gs) k = k
+    onto TextRow (Lines first rows ∷ gs) k = k
