@@ -25,13 +25,13 @@ use Rattle.md_seam.specs.Spaces.{IsRest, any_size, ends_line, is_current, sees_w
 use Rattle.md_seam.proofs.AheadLemmas.{small-some}
 use Rattle.md_seam.proofs.WhiteSteps.{begins-seen, behind_white, white-tried}
 
--- what is seen of a byte
-sees-byte : (feed : Feed) (w : World) (m : ℕ) → Sees feed w → is_current m w.current ≡ true →
-    (b : ℕ) × (feed w.point ≡ cell_here feed w b ∷ feed (after w.setting w.point)) × (nat_eq b m ≡ true)
-sees-byte feed w m s e = go w.current e s.next
+-- what is seen of a byte that passes a test
+pub sees-one : (feed : Feed) (w : World) (t : Option ℕ → Bool) → t None ≡ false → Sees feed w → t w.current ≡ true →
+    (b : ℕ) × (feed w.point ≡ cell_here feed w b ∷ feed (after w.setting w.point)) × (t (Some b) ≡ true)
+sees-one feed w t none s e = go w.current e s.next
   where
-    go : (o : Option ℕ) → is_current m o ≡ true → feed w.point ≡ ahead feed w o → (b : ℕ) × (feed w.point ≡ cell_here feed w b ∷ feed (after w.setting w.point)) × (nat_eq b m ≡ true)
-    go None e k = cc
+    go : (o : Option ℕ) → t o ≡ true → feed w.point ≡ ahead feed w o → (b : ℕ) × (feed w.point ≡ cell_here feed w b ∷ feed (after w.setting w.point)) × (t (Some b) ≡ true)
+    go None e k = let bad : true ≡ false = sym e ∙ none in cc
     go (Some b) e k = (b, k, e)
 
 sees-other_white : (feed : Feed) (w : World) (m : ℕ) → Sees feed w → is_current m w.current ≡ false → sees_white w.current ≡ true →
@@ -56,13 +56,13 @@ to-white : (cells : List Cell) (c : Cell) (cs : List Cell) (h : Here) → cells 
 to-white cells c cs h e s k = ap (λ (x : List Cell). in_break Marks x h) e ∙ marks-white c cs h s k
     ∙ ap (λ (x : List Cell). in_break White x (record h { events = h.events ++ exit parts.ThematicBreakSequence h.point ∷ [] ++ enter SpaceOrTab h.point ∷ [] })) (sym e)
 
-abbrev white_frame : State → World → List Event → Frame
+abbrev pub white_frame : State → World → List Event → Frame
 white_frame ok w events = record { ok = ok; nok = Nok; is_check = false; events_len = length events; point = w.point }
 
 pub sequence_steps : (B : Behaviour) (options : ParseOptions) (feed : Feed) (w : World) (x y : Bool) → HasBreak B options → Sees feed w → IsRest (without_marker w.scratch) → is_marker w.scratch.marker ≡ true →
     is_current w.scratch.marker w.current ≡ x → sees_white w.current ≡ y → Steps B feed (Next n.ThematicBreakSequence) w (sequence_code w x y).to (sequence_code w x y).world
 sequence_steps B options feed w true y has s r mark e f =
-    let saw = sees-byte feed w w.scratch.marker s e in
+    let saw = sees-one feed w (is_current w.scratch.marker) refl s e in
     let ending : nat_eq saw.0 10 ≡ false = rw (eqb-true saw.0 w.scratch.marker saw.2) (marker-no_ending w.scratch.marker mark) in
     passes B feed _ _ w (sequence_code w true y).world refl refl
     (has.sequence _ _ ∙ ap (λ (x : List Cell). in_break Marks x (here w)) saw.1
@@ -117,7 +117,7 @@ at_break-no feed w h (Some b) k e = go (is_white b) (nat_eq b 10) refl refl e
 pub at_break_steps : (B : Behaviour) (options : ParseOptions) (feed : Feed) (w : World) (x y : Bool) → HasBreak B options → Sees feed w → is_marker w.scratch.marker ≡ true →
     is_current w.scratch.marker w.current ≡ x → ends_line w.current && nat_le 3 w.scratch.size ≡ y → Steps B feed (Next n.ThematicBreakAtBreak) w (at_break_code w x y).to (at_break_code w x y).world
 at_break_steps B options feed w true y has s mark e f =
-    let saw = sees-byte feed w w.scratch.marker s e in
+    let saw = sees-one feed w (is_current w.scratch.marker) refl s e in
     moves B feed _ _ w (at_break_code w true y).world (enter parts.ThematicBreakSequence w.point ∷ []) refl refl
     (has.at_break _ _ ∙ ap (λ (x : List Cell). at_break x (here w)) saw.1
     ∙ at_break-mark (cell_here feed w saw.0) (feed (after w.setting w.point)) (here w) saw.2 mark

@@ -1,10 +1,9 @@
 -- Each state of a heading takes one step of its rule.
-use Rattle.std.proofs.Common.{◌≡◌, ℕ, ◌≤◌, Bool, true, false, ◌&&◌, ◌||◌, nat_eq, nat_lt, List, [], ◌∷◌, ◌++◌, length, Option, Some, None, refl, sym, ◌∙◌, ap, arith, append-nil}
+use Rattle.std.proofs.Common.{◌≡◌, ℕ, ◌≤◌, Bool, true, false, ◌&&◌, ◌||◌, nat_eq, nat_lt, List, [], ◌∷◌, ◌++◌, Option, Some, None, refl, sym, ◌∙◌, ap, arith, append-nil}
 use Rattle.std.specs.Prelude.{not}
 use Rattle.std.proofs.lemmas.Bool.{eqb-true, and_parts, not-true, not_from_false, not_from_true}
 use Rattle.std.proofs.lemmas.Bool.Decides.{nat_tests}
 use Rattle.md_engine.specs.declared.configuration.ParseOptions.{ParseOptions}
-use Rattle.md_engine.specs.declared.event.Event.{Event}
 use Rattle.md_engine.specs.declared.event.Kind.TheVariants.{Enter}
 use Rattle.md_engine.specs.declared.event.Name.{Name}
 use Rattle.md_engine.specs.declared.event.Name.TheVariants.{SpaceOrTab}
@@ -12,7 +11,7 @@ use Rattle.md_engine.specs.declared.event.Name.TheVariants as parts
 use Rattle.md_engine.specs.declared.resolve.Name.{Name as ResolveName}
 use Rattle.md_engine.specs.declared.state.Name.TheVariants as n
 use Rattle.md_engine.specs.declared.state.State.{State}
-use Rattle.md_engine.specs.declared.state.State.TheVariants.{Nok, Next}
+use Rattle.md_engine.specs.declared.state.State.TheVariants.{Next}
 use Rattle.md_engine.specs.declared.tokenizer.Frame.{Frame}
 use Rattle.md_engine.specs.declared.tokenizer.Scratch.{Scratch}
 use Rattle.md_engine.specs.Meaning.{Accepts, Behaviour, Cell, Feed, Here, Refuses, Steps, goes, here}
@@ -21,6 +20,7 @@ use Rattle.md_engine.proofs.StepOf.{Sees, ahead, begins, cell_here, moves, passe
 use Rattle.md_leaves.specs.Heading.{at_break_code, before_code, behind_part, data_code, heading_link, sees_text, sequence_further_code, sequence_open_code, start_code, without_size}
 use Rattle.md_leaves.specs.HeadingRule.{Apart, HasHeading, Hashes, Run, Text, White, at_break, before_opening, begun, closes, goes_on, heading_at, in_heading, in_opening, opens}
 use Rattle.md_leaves.proofs.BreakLemmas.{behind-joined}
+use Rattle.md_leaves.proofs.BreakSteps.{sees-one, white_frame}
 use Rattle.md_leaves.proofs.HeadingLemmas.{apart-none, apart-white, before-hash, before-other, opening-ends, opening-full, opening-more, opening-none, opening-text, opening-white, run-begins, run-ends, run-ends_line, run-ends_none, run-more, white-no_hash, white-run}
 use Rattle.md_seam.specs.Ahead.{begins_white, white_rest}
 use Rattle.md_seam.specs.Nested.{enter, exit}
@@ -29,15 +29,6 @@ use Rattle.md_seam.specs.Spaces.{IsRest, any_size, calmed, ends_line, is_current
 use Rattle.md_seam.proofs.AheadLemmas.{small-some}
 use Rattle.md_seam.specs.Went.{Went}
 use Rattle.md_seam.proofs.WhiteSteps.{begins-seen, behind_white, white-tried}
-
--- what is seen of a byte that passes a test
-pub sees-one : (feed : Feed) (w : World) (t : Option ℕ → Bool) → t None ≡ false → Sees feed w → t w.current ≡ true →
-    (b : ℕ) × (feed w.point ≡ cell_here feed w b ∷ feed (after w.setting w.point)) × (t (Some b) ≡ true)
-sees-one feed w t none s e = go w.current e s.next
-  where
-    go : (o : Option ℕ) → t o ≡ true → feed w.point ≡ ahead feed w o → (b : ℕ) × (feed w.point ≡ cell_here feed w b ∷ feed (after w.setting w.point)) × (t (Some b) ≡ true)
-    go None e k = let bad : true ≡ false = sym e ∙ none in cc
-    go (Some b) e k = (b, k, e)
 
 not-or : (a b : Bool) → not (a || b) ≡ true → (a ≡ false) × (b ≡ false)
 not-or true b e = cc
@@ -66,9 +57,6 @@ at-white options cells h on s = rw (on, s) refl
 pub at-none : (options : ParseOptions) (cells : List Cell) (h : Here) → options.constructs.heading_atx ≡ true → begins_white cells ≡ false → heading_at options cells h ≡ before_opening cells (entered_here h)
 unfolding heading_at
 at-none options cells h on s = rw (on, s) refl
-
-abbrev white_frame : State → World → List Event → Frame
-white_frame ok w events = record { ok = ok; nok = Nok; is_check = false; events_len = length events; point = w.point }
 
 pub heading_start_steps : (B : Behaviour) (feed : Feed) (w : World) (x y : Bool) → HasHeading B w.setting.options → Sees feed w → w.setting.options.constructs.heading_atx ≡ x → sees_white w.current ≡ y →
     Steps B feed (Next n.HeadingAtxStart) w (start_code w x y).to (start_code w x y).world
