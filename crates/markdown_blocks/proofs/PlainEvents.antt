@@ -78,11 +78,11 @@ plain-quiet [] h = plain-nil
 plain-quiet (e ∷ es) h = plain-cons e es (quiet-plain (role e.name) h.0) (quiet-whole (role e.name) (e.point.vs == 0) h.0) (plain-quiet es h.1)
 
 -- a part of such a name around such events, which cuts no tab if the tree shows its text
-plain-around : (name : Name) (p q : Point) (inside : List Event) → is_plain (role name) ≡ true → (not (is_told (role name)) || (p.vs == 0)) ≡ true → (not (is_told (role name)) || (q.vs == 0)) ≡ true → ArePlain inside →
+plain-around : (name : Name) (p q : Point) (inside : List Event) → is_leaf (role name) ≡ true → (not (is_told (role name)) || (p.vs == 0)) ≡ true → (not (is_told (role name)) || (q.vs == 0)) ≡ true → ArePlain inside →
     ArePlain (around name p q inside)
 plain-around name p q inside plain begin end h = plain-cons (enter name p) (inside ++ exit name q ∷ []) plain begin (plain-append inside (exit name q ∷ []) h (plain-cons (exit name q) [] plain end plain-nil))
 
-plain-ending : (name : Name) (row : Row) → is_plain (role name) ≡ true → not (is_told (role name)) ≡ true → ArePlain (ending_events name row)
+plain-ending : (name : Name) (row : Row) → is_leaf (role name) ≡ true → not (is_told (role name)) ≡ true → ArePlain (ending_events name row)
 plain-ending name row plain untold = go row.after
   where
     go : (o : Option Point) → ArePlain (elim o [ None ↦ [] | Some q ↦ pair name row.end q ])
