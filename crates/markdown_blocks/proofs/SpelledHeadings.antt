@@ -26,7 +26,7 @@ use Rattle.md_seam.specs.Tree.{Heading}
 use Rattle.md_seam.proofs.BlocksLemmas.{read-leaf, read-told}
 use Rattle.md_seam.proofs.InlineLemmas.{past-index}
 use Rattle.md_seam.proofs.SpelledLemmas.{Between, Quiet, QuietOrEnding, Roles, read-from, read-quiet, text-inline, text_after}
-use Rattle.md_seam.proofs.TextsLemmas.{NoEnding, no_ending-drop, split-line}
+use Rattle.md_seam.proofs.TextsLemmas.{NoEnding, split-line}
 use Rattle.markdown_blocks.specs.Rows.{Row, read_text, read_title, row_title}
 use Rattle.markdown_blocks.specs.Sections.{heading_block}
 use Rattle.md_seam.proofs.FeedLines.{past_text-whole, slice-inside}
