@@ -4,9 +4,9 @@ use Rattle.md_engine.specs.declared.configuration.ParseOptions.{ParseOptions}
 use Rattle.md_engine.specs.declared.event.Name.{Name}
 use Rattle.md_engine.specs.declared.event.Name.TheVariants.{BlankLineEnding, LineEnding}
 use Rattle.md_engine.specs.declared.state.Name.TheVariants as s
-use Rattle.md_engine.specs.declared.tokenizer.Flags.{Flags}
 use Rattle.md_engine.specs.declared.tokenizer.Scratch.{Scratch}
 use Rattle.md_engine.specs.Meaning.{Accepts, Behaviour, Cell, Fails, Here, Outcome, Refuses}
+use Rattle.md_engine.specs.World.{Flags}
 use Rattle.md_content.specs.ChunkRule.{HasChunk, chunk_at, inside_chunk}
 use Rattle.md_leaves.specs.BlankRule.{HasBlank, after_blank, blank_at}
 use Rattle.md_leaves.specs.BreakRule.{HasBreak, Marks, at_break, before_marker, break_at, in_break}

@@ -1,5 +1,5 @@
 -- A run keeps what is left: what the tokenizer comes to from its first state is what it comes to from its last.
-use Rattle.std.proofs.Common.{◌≡◌, ℕ, zero, suc, ◌≤◌, Bool, true, false, cond, List, [], ◌∷◌, ◌++◌, length, take, refl, sym, ◌∙◌, ap, ap₂, arith}
+use Rattle.std.proofs.Common.{◌≡◌, ◌⊎◌, ◌<◌, inl, inr, ℕ, zero, suc, ◌≤◌, Bool, true, false, cond, List, [], ◌∷◌, ◌++◌, length, take, refl, sym, ◌∙◌, ap, ap₂, arith}
 use Rattle.std.specs.List.{All}
 use Rattle.std.proofs.lemmas.List.{take-append-le}
 use Rattle.md_engine.specs.declared.event.Event.{Event}
@@ -77,9 +77,13 @@ pub steps-keep : (B : Behaviour) (feed : Feed) (from to : State) (old new : Worl
     Steps B feed from old to new → comes_to B feed from old ≡ comes_to B feed to new
 steps-keep B feed from to old new h s =
     ap (resume_all B feed old.events old.frames) s.same
-    ∙ resume_all-same B feed old.events new.events old.frames _ (λ k d lt. sym (ap (take _) s.events ∙ take-append-le _ old.events s.added (h k d lt)))
+    ∙ resume_all-same B feed old.events new.events old.frames _ (go s.events)
     ∙ sym (resume_all-join B feed new.events s.begun old.frames _)
     ∙ ap (λ (x : List Frame). resume_all B feed new.events x (goes B to (feed new.point) (here new))) (sym s.frames)
+  where
+    go : (old.frames ≡ []) ⊎ (new.events ≡ old.events ++ s.added) → All (λ f. take f.events_len old.events ≡ take f.events_len new.events) old.frames
+    go (inl none) = λ k d lt. absurd (let less : k < length old.frames = lt in let size : length old.frames ≡ 0 = ap length none in omega (arith, less, size))
+    go (inr e) = λ k d lt. sym (ap (take _) e ∙ take-append-le _ old.events s.added (h k d lt))
 
 -- leaving an attempt changes no setting
 leaves-setting : (s s' : State) (w w' : World) → Leaves s w s' w' → w'.setting ≡ w.setting

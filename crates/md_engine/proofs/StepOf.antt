@@ -11,7 +11,7 @@ use Rattle.md_engine.specs.World.{World, after, looks}
 -- a step that begins no attempt
 pub moves : (B : Behaviour) (feed : Feed) (from to : State) (old new : World) (added : List Event) → new.frames ≡ old.frames → new.events ≡ old.events ++ added →
     goes B from (feed old.point) (here old) ≡ goes B to (feed new.point) (here new) → Steps B feed from old to new
-moves B feed from to old new added frames events same = record { begun = []; added = added; frames = frames; events = events; same = same }
+moves B feed from to old new added frames events same = record { begun = []; added = added; frames = frames; events = inr events; same = same }
 
 -- a step that adds no event either
 pub passes : (B : Behaviour) (feed : Feed) (from to : State) (old new : World) → new.frames ≡ old.frames → new.events ≡ old.events →
@@ -21,7 +21,12 @@ passes B feed from to old new frames events same = moves B feed from to old new 
 -- a step that begins an attempt
 pub begins : (B : Behaviour) (feed : Feed) (from to : State) (old new : World) (added : List Event) (f : Frame) → new.frames ≡ f ∷ old.frames → new.events ≡ old.events ++ added →
     goes B from (feed old.point) (here old) ≡ resume B feed new.events f (goes B to (feed new.point) (here new)) → Steps B feed from old to new
-begins B feed from to old new added f frames events same = record { begun = f ∷ []; added = added; frames = frames; events = events; same = same }
+begins B feed from to old new added f frames events same = record { begun = f ∷ []; added = added; frames = frames; events = inr events; same = same }
+
+-- a step that changes events where no attempt can go back
+pub changes : (B : Behaviour) (feed : Feed) (from to : State) (old new : World) → old.frames ≡ [] → new.frames ≡ [] →
+    goes B from (feed old.point) (here old) ≡ goes B to (feed new.point) (here new) → Steps B feed from old to new
+changes B feed from to old new none frames same = record { begun = []; added = []; frames = frames ∙ sym none; events = inl none; same = same }
 
 -- and adds no event
 pub begins_only : (B : Behaviour) (feed : Feed) (from to : State) (old new : World) (f : Frame) → new.frames ≡ f ∷ old.frames → new.events ≡ old.events →

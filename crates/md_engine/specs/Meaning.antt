@@ -1,16 +1,15 @@
 -- What the states of a construct mean: what is left of its rule, as a function of what is still to come.
-use Rattle.std.specs.Prelude.{◌≡◌, ◌^◌, ◌<◌, ◌≤◌, ℕ, Bool, true, List, [], ◌∷◌, ◌++◌, length, take, if◌then◌else◌}
+use Rattle.std.specs.Prelude.{◌≡◌, ◌⊎◌, ◌^◌, ◌<◌, ◌≤◌, ℕ, Bool, true, List, [], ◌∷◌, ◌++◌, length, take, if◌then◌else◌}
 use Rattle.md_engine.specs.declared.event.Event.{Event}
 use Rattle.md_engine.specs.declared.event.Point.{Point}
 use Rattle.md_engine.specs.declared.state.Name.{Name as StateName}
 use Rattle.md_engine.specs.declared.state.State.{State}
 use Rattle.md_engine.specs.declared.state.State.TheVariants.{Error, Ok, Nok, Next, Retry}
-use Rattle.md_engine.specs.declared.tokenizer.Flags.{Flags}
 use Rattle.md_engine.specs.declared.tokenizer.Frame.{Frame}
 use Rattle.md_engine.specs.declared.tokenizer.Line.{Line}
 use Rattle.md_engine.specs.declared.tokenizer.Scratch.{Scratch}
 use Rattle.md_engine.specs.Place.{seen_at}
-use Rattle.md_engine.specs.World.{Setting, World, after}
+use Rattle.md_engine.specs.World.{Flags, Setting, World, after}
 
 -- what a state is fed: a byte, `\n` for each line ending, or a column of a tab; the point behind it; and what the parent says
 -- of its line
@@ -83,10 +82,11 @@ pub record Follows (feed : Feed) (x : Setting) (is_end : Bool) : Type 0 where
   pub said : (p : Point) → x.line.start ≤ p.index → p.index < x.limit → line_of x.line (feed p) ≡ x.line
   pub none : is_end ≡ true → (p : Point) → x.limit ≤ p.index → feed p ≡ []
 
--- one step of a construct: what it begins and adds, and that what is left is what there was
+-- one step of a construct: what it begins and adds, and that what is left is what there was; where an attempt may go back,
+-- events are only added
 pub record Steps (B : Behaviour) (feed : Feed) (from : State) (old : World) (to : State) (new : World) : Type 0 where
   pub begun : List Frame
   pub added : List Event
   pub frames : new.frames ≡ begun ++ old.frames
-  pub events : new.events ≡ old.events ++ added
+  pub events : (old.frames ≡ []) ⊎ (new.events ≡ old.events ++ added)
   pub same : goes B from (feed old.point) (here old) ≡ resume_all B feed new.events begun (goes B to (feed new.point) (here new))

@@ -1,16 +1,17 @@
 -- What contracts see of a tokenizer.
-use Rattle.std.specs.Prelude.{ℕ, ◌-◌, Bool, false, ◌==◌, if◌then◌else◌, List, [], ◌∷◌, ◌++◌, Option, None, Some, reverse, slice_index, slice_get, nat_lt}
+use Rattle.std.specs.Prelude.{ℕ, ◌-◌, Bool, false, ◌==◌, if◌then◌else◌, List, [], ◌∷◌, ◌++◌, length, take, drop, Option, None, Some, reverse, slice_index, slice_get, nat_lt}
 use Rattle.std.specs.List.{list_any}
 use Rattle.md_engine.specs.declared.configuration.ParseOptions.{ParseOptions}
 use Rattle.md_engine.specs.declared.event.Point.{Point}
 use Rattle.md_engine.specs.declared.event.Event.{Event}
 use Rattle.md_engine.specs.declared.resolve.Name.{Name as ResolveName}
-use Rattle.md_engine.specs.declared.tokenizer.Flags.{Flags}
+use Rattle.md_engine.specs.declared.tokenizer.Container.{Container}
 use Rattle.md_engine.specs.declared.tokenizer.Frame.{Frame}
 use Rattle.md_engine.specs.declared.tokenizer.Line.{Line}
 use Rattle.md_engine.specs.declared.tokenizer.Scratch.{Scratch}
 use Rattle.md_engine.specs.declared.tokenizer.TheConstants.Scratch.{REST}
 use Rattle.md_engine.specs.declared.tokenizer.Tokenizer.{Tokenizer}
+use Rattle.md_engine.specs.Ends.{ends_at, point_of, put}
 use Rattle.md_engine.specs.Place.{begun_at, is_ending, next_point, seen_at}
 
 -- what no state changes: the text, the options, and what the parent says of the line that is fed
@@ -23,6 +24,23 @@ pub record Setting : Type 0 where
   pub first_line : ℕ
   pub skips : List Point
   pub line : Line
+
+-- what a construct tells the containers around it, and what is known of these
+pub record Flags : Type 0 where
+  -- whether a paragraph is open, which the next line would interrupt
+  pub interrupt : Bool
+  -- whether no container can open in the block that is open
+  pub concrete : Bool
+  -- whether nothing but whitespace stands on the line that was read
+  pub blank : Bool
+  -- whether a paragraph was open before the line that is read
+  pub text_open : Bool
+  -- the open containers, the outermost first
+  pub containers : List Container
+  -- how many of them went on, or opened, on this line
+  pub continued : ℕ
+  -- the index of the first event behind the line that was read last
+  pub line_end : ℕ
 
 pub record World : Type 0 where
   pub setting : Setting
@@ -38,6 +56,17 @@ pub record World : Type 0 where
 abbrev pub setting_of : Tokenizer → Setting
 setting_of t = record { bytes = t.bytes.now; options = t.options.now; limit = t.limit; first_line = t.first_line; skips = t.skips.items; line = t.line }
 
+abbrev pub flags_of : Tokenizer → Flags
+flags_of t = record {
+  interrupt = t.flags.interrupt;
+  concrete = t.flags.concrete;
+  blank = t.flags.blank;
+  text_open = t.flags.text_open;
+  containers = t.containers.items;
+  continued = t.flags.continued;
+  line_end = t.flags.line_end;
+}
+
 abbrev pub world : Tokenizer → World
 world t = record {
   setting = setting_of t;
@@ -46,7 +75,7 @@ world t = record {
   events = t.events.items;
   frames = reverse t.frames.items;
   scratch = t.scratch;
-  flags = t.flags;
+  flags = flags_of t;
   resolvers = t.resolvers.items;
 }
 
@@ -74,7 +103,7 @@ fresh bytes options p = record {
   events = [];
   frames = [];
   scratch = REST;
-  flags = record { interrupt = false; concrete = false };
+  flags = record { interrupt = false; concrete = false; blank = false; text_open = false; containers = []; continued = 0; line_end = 0 };
   resolvers = [];
 }
 
@@ -95,3 +124,13 @@ registered_before is_name names name = if list_any is_name names then names else
 -- the text may be read up to here
 abbrev pub reads_to : World → ℕ → World
 reads_to w to = record w { setting = record w.setting { limit = to } }
+
+-- the containers behind so many end in front of the event at an index, and at its point; where there is none, at this point
+abbrev pub closed_events : ℕ → ℕ → List Container → List Event → Point → List Event
+closed_events keep at containers events p = put at (ends_at (drop keep containers) (point_of (drop at events) p)) events
+
+abbrev pub kept : ℕ → Flags → Flags
+kept keep g = record g { containers = take keep g.containers }
+
+abbrev pub closed : World → ℕ → ℕ → World
+closed w keep at = record w { events = closed_events keep at w.flags.containers w.events w.point; flags = kept keep w.flags }

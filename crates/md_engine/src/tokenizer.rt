@@ -3,9 +3,10 @@
 // A tokenizer walks over the text from point to point. States add events at its point, move it on, and begin attempts:
 // trials that are taken back where they fail. Each primitive says what the whole tokenizer is afterwards, by one equation
 // over `world`, which is what contracts see of a tokenizer.
-ghost use Rattle.std.specs.Prelude.{◌≡◌, ◌+◌, ◌^◌, ◌∷◌, ◌++◌, ◌<◌, ◌≤◌, [], length, All, AllPairs, if◌then◌else◌, is_ok, nat_le, nat_lt, ◌==◌, true, false, Some, None, take, IfSome, IfNone, reverse, slice_index};
+ghost use Rattle.std.specs.Prelude.{◌≡◌, ◌-◌, IfOk, drop, ◌+◌, ◌^◌, ◌∷◌, ◌++◌, ◌<◌, ◌≤◌, [], length, All, AllPairs, if◌then◌else◌, is_ok, nat_le, nat_lt, ◌==◌, true, false, Some, None, take, IfSome, IfNone, reverse, slice_index};
 ghost use Rattle.md_engine.specs.Place.{IsPlaced, begun_at, is_pair, next_point, stepped};
 ghost use Rattle.md_engine.specs.Sound.{IsSound};
+ghost use Rattle.md_engine.specs.Ends.{ends_at, name_of, point_of, put};
 
 use crate::configuration::ParseOptions;
 use crate::event::{Event, Kind, Link, Name, Point};
@@ -84,6 +85,26 @@ pub struct Flags {
     pub interrupt: bool,
     /// Whether no container can open in the block that is open.
     pub concrete: bool,
+    /// Whether nothing but whitespace stands on the line that was read.
+    pub blank: bool,
+    /// Whether a paragraph was open before the line that is read.
+    pub text_open: bool,
+    /// How many containers went on, or opened, on this line.
+    pub continued: usize,
+    /// The index of the first event behind the line that was read last: of its ending, if it has one.
+    pub line_end: usize,
+}
+
+/// The kinds of containers.
+#[derive(Clone, Copy, Debug, PartialEq, Eq)]
+pub enum ContainerKind {
+    BlockQuote,
+}
+
+/// A container that is open.
+#[derive(Clone, Copy, Debug, PartialEq, Eq)]
+pub struct Container {
+    pub kind: ContainerKind,
 }
 
 /// What the containers say of the line that is fed.
@@ -121,6 +142,8 @@ pub struct Tokenizer<'a> {
     pub frames: Vec<Frame>,
     pub scratch: Scratch,
     pub flags: Flags,
+    /// The open containers, the outermost first.
+    pub containers: Vec<Container>,
     /// The line of the first of `skips`.
     pub first_line: usize,
     /// Where each line begins, behind the prefixes of its containers.
@@ -185,8 +208,46 @@ fn step(point: Point, byte: u8, pair: bool) -> Point
     }
 }
 
+/// The name of a container's events.
+fn name_of(kind: ContainerKind) -> Name
+    ensures { result ≡ name_of kind }
+{
+    match kind {
+        ContainerKind::BlockQuote => Name::BlockQuote,
+    }
+}
+
+/// The ends of containers at a point, the innermost first.
+fn ends_at(alloc: Global, containers: &[Container], point: Point) -> Result<Vec<Event>, Message>
+    ensures { IfOk result (λ ends. ends.items ≡ ends_at containers.now point) }
+{
+    let mut ends = Vec::new(alloc);
+    let mut left = containers.len();
+    while left > 0 {
+        left -= 1;
+        let event = Event {
+            kind: Kind::Exit,
+            name: name_of(containers[left].kind),
+            point,
+            link: None,
+        };
+        if ends.push(event).is_err() {
+            return Err(Message);
+        }
+    }
+    Ok(ends)
+}
+
+/// Moves the last `count` events in front of the one at `at`.
+fn turn(events: &mut Vec<Event>, at: usize, count: usize)
+    requires { at + count ≤ length events.old.items }
+    ensures { events.new.items ≡ take at events.old.items ++ drop (length events.old.items - at - count) (drop at events.old.items) ++ take (length events.old.items - at - count) (drop at events.old.items) }
+{
+    events[at..].rotate_right(count);
+}
+
 impl<'a> Tokenizer<'a> {
-    ghost use Rattle.md_engine.specs.World.{world, looks, after, fresh, line_begun, reads_to, registered, registered_before, skipping};
+    ghost use Rattle.md_engine.specs.World.{closed, world, looks, after, fresh, line_begun, reads_to, registered, registered_before, skipping};
 
     /// A tokenizer at `point`, which has read nothing.
     pub fn new(
@@ -210,7 +271,12 @@ impl<'a> Tokenizer<'a> {
             flags: Flags {
                 interrupt: false,
                 concrete: false,
+                blank: false,
+                text_open: false,
+                continued: 0,
+                line_end: 0,
             },
+            containers: Vec::new(alloc),
             first_line: point.line,
             skips: Vec::new(alloc),
             limit: 0,
@@ -424,6 +490,57 @@ impl<'a> Tokenizer<'a> {
             Ok(()) => Ok(()),
             Err(_) => Err(Message),
         }
+    }
+
+    /// Opens a container in those that are open, or changes nothing.
+    pub fn open(&mut self, container: Container) -> Result<(), Message>
+        ensures { world self.new ≡ record (world self.old) { flags = record (world self.old).flags { containers = if is_ok result then (world self.old).flags.containers ++ container ∷ [] else (world self.old).flags.containers } } }
+    {
+        match self.containers.push(container) {
+            Ok(()) => Ok(()),
+            Err(_) => Err(Message),
+        }
+    }
+
+    /// Where containers end that end in front of the event at `at`: at its point, or at the tokenizer's if there is none.
+    fn end_point(&self, at: usize) -> Point
+        ensures value { result ≡ point_of (drop at (world self.now).events) (world self.now).point }
+        ensures placed { IsPlaced self.now.bytes.now result }
+    {
+        if at < self.events.len() {
+            self.events[at].point
+        } else {
+            self.point
+        }
+    }
+
+    /// Puts events in front of the one at `at`, or behind the last; or changes nothing.
+    fn put(&mut self, at: usize, ends: &mut Vec<Event>) -> Result<(), Message>
+        requires { All (λ e. IsPlaced (world self.old).setting.bytes e.point) ends.old.items }
+        ensures { world self.new ≡ record (world self.old) { events = if is_ok result then put at ends.old.items (world self.old).events else (world self.old).events } }
+    {
+        let at = at.min(self.events.len());
+        let count = ends.len();
+        if self.events.append(ends).is_err() {
+            return Err(Message);
+        }
+        turn(&mut self.events, at, count);
+        Ok(())
+    }
+
+    /// Ends the containers behind the first `keep`, the innermost first, in front of the event at `at` and at its point, or at
+    /// the tokenizer's point behind the last event; or changes nothing.
+    pub fn close(&mut self, keep: usize, at: usize) -> Result<(), Message>
+        ensures { world self.new ≡ (if is_ok result then closed (world self.old) keep at else world self.old) }
+    {
+        if self.containers.len() <= keep {
+            return Ok(());
+        }
+        let point = self.end_point(at);
+        let mut ends = ends_at(self.alloc, &self.containers[keep..], point)?;
+        self.put(at, &mut ends)?;
+        self.containers.truncate(keep);
+        Ok(())
     }
 
     /// Takes the resolvers that were registered.
