@@ -5,6 +5,7 @@ pub mod FlowMeans
 pub mod FlowRuns
 pub mod FlowEnds
 pub mod PiecesLemmas
+pub mod FrontFacts
 pub mod RowFacts
 pub mod HeadingSpread
 pub mod LineKinds

@@ -1,5 +1,5 @@
 -- What the lines of a text are, as flow reads them: facts that the lemmas on the tree rest on.
-use Rattle.std.proofs.Common.{◌≡◌, ◌≢◌, ℕ, ◌+◌, ◌-◌, ◌≤◌, List, [], ◌∷◌, ◌++◌, length, take, drop, slice_range, ap, ◌∙◌, take-add, drop-drop, arith}
+use Rattle.std.proofs.Common.{◌≡◌, ◌≢◌, ℕ, ◌+◌, ◌-◌, ◌≤◌, Bool, List, [], ◌∷◌, ◌++◌, length, take, drop, slice_range, ap, ◌∙◌, take-add, drop-drop, arith}
 use Rattle.std.specs.Prelude.{IsTrue, Some, None}
 use Rattle.md_engine.specs.declared.configuration.ParseOptions.{ParseOptions}
 use Rattle.md_engine.specs.declared.event.Point.{Point}
@@ -8,9 +8,12 @@ use Rattle.md_leaves.specs.HeadingTitle.{line_runs}
 use Rattle.md_seam.specs.Nested.{Balanced, Forward, last_point}
 use Rattle.md_seam.specs.Places.{at_or_before, past_text}
 pub use Rattle.md_seam.proofs.FeedLines.{IsEnding}
+use Rattle.md_seam.proofs.RestCells.{Cut}
 use Rattle.md_seam.proofs.SpelledLemmas.{Roles, Quiet}
 use Rattle.md_seam.proofs.TextsLemmas.{NoEnding, ending_bytes}
-use Rattle.markdown_blocks.specs.Rows.{HeadingRow, Row, TextRow, line_kind}
+use Rattle.markdown_blocks.specs.Fronted.{quoted, rest_from, rest_line}
+use Rattle.markdown_blocks.specs.Rows.{HeadingRow, Row, TextRow, is_text, line_kind}
+use Rattle.markdown_blocks.proofs.FrontFacts.{Fronts}
 use Rattle.markdown_blocks.proofs.PiecesLemmas.{Tiled}
 
 -- what stands in a line that is no heading: nothing that the tree shows
@@ -21,15 +24,14 @@ pub record IsInside (row : Row) : Type 0 where
   pub within : IsTrue (at_or_before (last_point row.first row.inside) row.end)
   pub covers : row.kind ≢ TextRow → Tiled row.first row.end row.inside
 
--- a line without its ending, as a row
+-- the rest of a line without its ending, behind the prefixes of its containers, as a row
 pub record IsRow (options : ParseOptions) (bytes line : List ℕ) (row : Row) : Type 0 where
   pub kind : row.kind ≡ line_kind options line
   pub no_ending : NoEnding line
-  -- the line stands between the first point and the end
+  -- it stands between the first point and the end; a tab that a prefix has cut is its first byte
   pub text : slice_range bytes row.first.index row.end.index ≡ line
   pub size : row.end.index ≡ row.first.index + length line
   pub end : row.end ≡ past_text line row.first
-  pub first_whole : row.first.vs ≡ 0
   pub first_column : 1 ≤ row.first.column
   pub end_whole : row.end.vs ≡ 0
   -- what stands inside
@@ -38,18 +40,30 @@ pub record IsRow (options : ParseOptions) (bytes line : List ℕ) (row : Row) : 
   -- in a heading, its runs
   pub heading : row.kind ≡ HeadingRow → row.inside ≡ line_runs Apart line row.first
 
--- these lines, from this point to the end of the text
-abbrev pub AreRows : ParseOptions → List ℕ → Point → List (List ℕ) → List Row → Type 0
-AreRows options bytes p (line ∷ []) (row ∷ []) = (is : IsRow options bytes line row) × (first : row.first ≡ p) × (last : row.after ≡ None) × (row.end.index ≡ length bytes)
-AreRows options bytes p (line ∷ next ∷ lines) (row ∷ below ∷ rows) =
-    (is : IsRow options bytes line row) × (first : row.first ≡ p) × (q : Point) × (after : row.after ≡ Some q) × (ending : IsEnding bytes row.end q) × AreRows options bytes q (next ∷ lines) (below ∷ rows)
-AreRows options bytes p _ _ = ⊥
+-- a line from a point on, where so many quotes are open, and a paragraph or none: its containers, and its rest as a row
+pub record IsLine (options : ParseOptions) (bytes : List ℕ) (depth : ℕ) (open : Bool) (p : Point) (line : List ℕ) (row : Row) : Type 0 where
+  pub is : IsRow options bytes (rest_line (quoted options depth open (rest_from p line)).rest) row
+  -- a tab that is cut at the begin of the rest, if there is one
+  pub cut : Cut (quoted options depth open (rest_from p line)).rest.spaces row.first
+  pub front : Fronts bytes row.opens p row.first row.front
+  pub opens : row.opens ≡ (quoted options depth open (rest_from p line)).opens
+  pub closes : row.closes ≡ (quoted options depth open (rest_from p line)).closes
+  -- where the line begins no tab is cut
+  pub whole : p.vs ≡ 0
+  pub column : 1 ≤ p.column
 
--- the first line begins where the lines do
-pub first-is : (options : ParseOptions) (bytes : List ℕ) (p : Point) (lines : List (List ℕ)) (row : Row) (rows : List Row) → AreRows options bytes p lines (row ∷ rows) → row.first ≡ p
-first-is options bytes p (line ∷ []) row [] are = are.1
-first-is options bytes p (line ∷ next ∷ lines) row (below ∷ rows) are = are.1
-first-is options bytes p lines row rows are = absurd are
+-- how many quotes are open behind a line
+abbrev pub depth_behind : ParseOptions → ℕ → Bool → Point → List ℕ → ℕ
+depth_behind options depth open p line = (quoted options depth open (rest_from p line)).depth
+
+-- These lines, from this point to the end of the text, where so many quotes are open, and a paragraph or none.
+abbrev pub AreRows : ParseOptions → List ℕ → ℕ → Bool → Point → List (List ℕ) → List Row → Type 0
+AreRows options bytes depth open p (line ∷ []) (row ∷ []) =
+    (is : IsLine options bytes depth open p line row) × (leaves : row.leaves ≡ depth_behind options depth open p line) × (last : row.after ≡ None) × (row.end.index ≡ length bytes)
+AreRows options bytes depth open p (line ∷ next ∷ lines) (row ∷ below ∷ rows) =
+    (is : IsLine options bytes depth open p line row) × (leaves : row.leaves ≡ below.closes) × (q : Point) × (after : row.after ≡ Some q) × (ending : IsEnding bytes row.end q)
+    × AreRows options bytes (depth_behind options depth open p line) (is_text row.kind) q (next ∷ lines) (below ∷ rows)
+AreRows options bytes depth open p _ _ = ⊥
 
 -- a slice is cut at a place inside
 pub slice-split : (bytes : List ℕ) (a b c : ℕ) → a ≤ b → b ≤ c → slice_range bytes a c ≡ slice_range bytes a b ++ slice_range bytes b c

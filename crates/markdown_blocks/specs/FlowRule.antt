@@ -1,12 +1,15 @@
--- What is left of flow at each state: the lines that are still to come, each by the block that takes it.
-use Rattle.std.specs.Prelude.{◌≡◌, ℕ, zero, suc, false, ◌==◌, if◌then◌else◌, List, [], ◌∷◌, ◌++◌, length}
+-- What is left at each state of the lines of a text: the lines that are still to come, each by its containers and the block that
+-- takes the rest of it.
+use Rattle.std.specs.Prelude.{◌≡◌, ℕ, zero, suc, ◌==◌, Option, Some, None, if◌then◌else◌, List, [], ◌∷◌, ◌++◌, length}
 use Rattle.md_engine.specs.declared.configuration.ParseOptions.{ParseOptions}
-use Rattle.md_engine.specs.declared.event.Name.{Name}
-use Rattle.md_engine.specs.declared.event.Name.TheVariants.{BlankLineEnding, LineEnding}
 use Rattle.md_engine.specs.declared.state.Name.TheVariants as s
+use Rattle.md_engine.specs.declared.tokenizer.Container.{Container}
+use Rattle.md_engine.specs.declared.tokenizer.ContainerKind.{ContainerKind}
+use Rattle.md_engine.specs.declared.tokenizer.ContainerKind.TheVariants as kind
 use Rattle.md_engine.specs.declared.tokenizer.Scratch.{Scratch}
 use Rattle.md_engine.specs.Meaning.{Accepts, Behaviour, Cell, Fails, Here, Outcome, Refuses}
-use Rattle.md_engine.specs.World.{Flags}
+use Rattle.md_engine.specs.World.{Flags, closed_events, kept}
+use Rattle.md_containers.specs.QuoteRule.{HasQuote, at_marker, behind_marker, prefix_at, quote_at}
 use Rattle.md_content.specs.ChunkRule.{HasChunk, chunk_at, inside_chunk}
 use Rattle.md_leaves.specs.BlankRule.{HasBlank, after_blank, blank_at}
 use Rattle.md_leaves.specs.BreakRule.{HasBreak, Marks, at_break, before_marker, break_at, in_break}
@@ -14,24 +17,31 @@ use Rattle.md_leaves.specs.HeadingRule as heading
 use Rattle.md_leaves.specs.HeadingRule.{HasHeading, Hashes, Text, before_opening, heading_at, in_heading, in_opening}
 use Rattle.md_seam.specs.Ahead.{after_white, inside_white, white_at}
 use Rattle.md_seam.specs.Nested.{pair}
+use Rattle.markdown_blocks.specs.LineFlags.{begun_line, blanked, ending_name, next_container, next_line, stays, went_on, with_quote}
 
 -- how the rest of a text ends from a place
 abbrev pub Rule : Type 0
 Rule = List Cell → Here → Outcome
 
--- the ending of a line, and what follows it
-abbrev pub ended : Rule → Name → Rule
-ended next name [] h = Accepts h []
-ended next name (c ∷ cs) h = if c.byte == 10 then next cs (record h { events = h.events ++ pair name h.point c.after; point = c.after }) else Refuses h.scratch h.flags
+-- the containers behind so many end, in front of the event at an index
+abbrev pub ended_to : ℕ → ℕ → Here → Here
+ended_to keep at h = record h { events = closed_events keep at h.flags.containers h.events h.point; flags = kept keep h.flags }
 
--- no paragraph is open where more follows
-abbrev pub calmed_at : List Cell → Here → Here
-calmed_at [] h = h
-calmed_at (c ∷ cs) h = record h { flags = record h.flags { interrupt = false } }
+-- the ending of a line, and what follows it: all containers end where the text does
+abbrev pub ended : Rule → Rule
+ended next [] h = Accepts (ended_to 0 (length h.events) h) []
+ended next (c ∷ cs) h =
+    if c.byte == 10
+    then next cs (record h { events = h.events ++ pair (ending_name h.flags.blank) h.point c.after; point = c.after; flags = next_line (length h.events) h.flags })
+    else Refuses h.scratch h.flags
+
+-- behind the leaf of a line: containers that did not go on end before it, unless it goes on the open paragraph
+abbrev pub line_ended : Rule → Rule
+line_ended next cells h = ended next cells (ended_to (stays h.flags) h.flags.line_end h)
 
 -- behind a blank line no paragraph is open
 abbrev pub blank_ended : Rule → Rule
-blank_ended next cells h = ended next BlankLineEnding cells (calmed_at cells h)
+blank_ended next cells h = line_ended next cells (record h { flags = blanked h.flags })
 
 -- goes on by what a trial came to
 abbrev pub tried : Outcome → Rule → (Scratch → Flags → Outcome) → Outcome
@@ -41,17 +51,51 @@ tried Fails onward otherwise = Fails
 
 -- a line that is neither blank, nor a heading, nor a break is content
 abbrev pub content_of : Rule → Rule
-content_of next cells h = tried (chunk_at cells h) (ended next LineEnding) Refuses
+content_of next cells h = tried (chunk_at cells h) (line_ended next) Refuses
 
 abbrev pub break_of : ParseOptions → Rule → Rule
-break_of options next cells h = tried (break_at options cells h) (ended next LineEnding) (λ s g. content_of next cells (record h { scratch = s; flags = g }))
+break_of options next cells h = tried (break_at options cells h) (line_ended next) (λ s g. content_of next cells (record h { scratch = s; flags = g }))
 
 abbrev pub nonblank_of : ParseOptions → Rule → Rule
-nonblank_of options next cells h = tried (heading_at options cells h) (ended next LineEnding) (λ s g. break_of options next cells (record h { scratch = s; flags = g }))
+nonblank_of options next cells h = tried (heading_at options cells h) (line_ended next) (λ s g. break_of options next cells (record h { scratch = s; flags = g }))
 
--- one line, and what follows it
-abbrev pub line_then : ParseOptions → Rule → Rule
-line_then options next cells h = tried (blank_at cells h) (blank_ended next) (λ s g. nonblank_of options next cells (record h { scratch = s; flags = g }))
+-- the rest of a line behind its containers
+abbrev pub leaf_of : ParseOptions → Rule → Rule
+leaf_of options next cells h = tried (blank_at cells h) (blank_ended next) (λ s g. nonblank_of options next cells (record h { scratch = s; flags = g }))
+
+-- Containers. Each takes a cell at least, so there are no more of them than cells.
+
+-- behind all containers
+abbrev pub behind_containers : ParseOptions → Rule → Rule
+behind_containers options next cells h = leaf_of options next cells (record h { flags = begun_line h.flags })
+
+-- a quote opens, and those that did not go on end
+abbrev pub quote_opened : Here → Here
+quote_opened h = let k = ended_to h.flags.continued h.flags.line_end h in record k { flags = with_quote k.flags }
+
+-- containers open as often as they do
+unfoldable pub new_from : ParseOptions → Rule → ℕ → Rule
+new_from options next zero cells h = behind_containers options next cells h
+new_from options next (suc n) cells h = tried (quote_at options cells h) (λ rest k. new_from options next n rest (quote_opened k)) (λ s g. behind_containers options next cells (record h { scratch = s; flags = g }))
+
+unfoldable pub new_of : ParseOptions → Rule → Rule
+new_of options next cells h = new_from options next (suc (length cells)) cells h
+
+-- what is asked of a container on a further line
+abbrev pub continues_at : ParseOptions → ContainerKind → Rule
+continues_at options kind.BlockQuote cells h = prefix_at options cells h
+
+-- each container is asked whether it goes on, from the outermost in, until one does not
+abbrev pub existing_by : ParseOptions → Rule → Rule → Option Container → Rule
+existing_by options next further None cells h = new_of options next cells h
+existing_by options next further (Some c) cells h = tried (continues_at options c.kind cells h) (λ rest k. further rest (record k { flags = went_on k.flags })) (λ s g. new_of options next cells (record h { scratch = s; flags = g }))
+
+unfoldable pub existing_from : ParseOptions → Rule → ℕ → Rule
+existing_from options next zero cells h = new_of options next cells h
+existing_from options next (suc n) cells h = existing_by options next (existing_from options next n) (next_container h.flags) cells h
+
+unfoldable pub line_then : ParseOptions → Rule → Rule
+line_then options next cells h = existing_from options next (suc (length cells)) cells h
 
 -- at most so many lines
 unfoldable pub flow_lines : ParseOptions → ℕ → Rule
@@ -67,13 +111,20 @@ pub record HasFlow (B : Behaviour) (options : ParseOptions) : Type 0 where
   pub heading : HasHeading B options
   pub break : HasBreak B options
   pub chunk : HasChunk B
-  pub start : (cells : List Cell) (h : Here) → B s.FlowStart cells h ≡ flow_at options cells h
-  pub blank_line_before : (cells : List Cell) (h : Here) → B s.FlowBlankLineBefore cells h ≡ flow_at options cells h
+  pub quote : HasQuote B options
+  pub existing_before : (cells : List Cell) (h : Here) → B s.DocumentContainerExistingBefore cells h ≡ line_then options (flow_at options) cells h
+  pub existing_after : (cells : List Cell) (h : Here) → B s.DocumentContainerExistingAfter cells h ≡ line_then options (flow_at options) cells (record h { flags = went_on h.flags })
+  pub new_before : (cells : List Cell) (h : Here) → B s.DocumentContainerNewBefore cells h ≡ new_of options (flow_at options) cells h
+  pub new_after : (cells : List Cell) (h : Here) → B s.DocumentContainerNewAfter cells h ≡ new_of options (flow_at options) cells (quote_opened h)
+  pub containers_after : (cells : List Cell) (h : Here) → B s.DocumentContainersAfter cells h ≡ behind_containers options (flow_at options) cells h
+  pub start : (cells : List Cell) (h : Here) → B s.FlowStart cells h ≡ leaf_of options (flow_at options) cells h
+  pub blank_line_before : (cells : List Cell) (h : Here) → B s.FlowBlankLineBefore cells h ≡ leaf_of options (flow_at options) cells h
   pub blank_line_after : (cells : List Cell) (h : Here) → B s.FlowBlankLineAfter cells h ≡ blank_ended (flow_at options) cells h
   pub before_heading_atx : (cells : List Cell) (h : Here) → B s.FlowBeforeHeadingAtx cells h ≡ nonblank_of options (flow_at options) cells h
   pub before_thematic_break : (cells : List Cell) (h : Here) → B s.FlowBeforeThematicBreak cells h ≡ break_of options (flow_at options) cells h
   pub before_content : (cells : List Cell) (h : Here) → B s.FlowBeforeContent cells h ≡ content_of (flow_at options) cells h
-  pub behind : (cells : List Cell) (h : Here) → B s.FlowAfter cells h ≡ ended (flow_at options) LineEnding cells h
+  pub behind : (cells : List Cell) (h : Here) → B s.FlowAfter cells h ≡ line_ended (flow_at options) cells h
+  pub flow_end : (cells : List Cell) (h : Here) → B s.DocumentFlowEnd cells h ≡ line_ended (flow_at options) cells h
 
 -- what is left at each state of flow
 abbrev pub flow_behaves : ParseOptions → Behaviour
@@ -81,13 +132,23 @@ flow_behaves options s.BlankLineStart cells h = blank_at cells h
 flow_behaves options s.BlankLineAfter cells h = after_blank cells h
 flow_behaves options s.ContentChunkStart cells h = chunk_at cells h
 flow_behaves options s.ContentChunkInside cells h = inside_chunk cells h
-flow_behaves options s.FlowStart cells h = flow_at options cells h
-flow_behaves options s.FlowBlankLineBefore cells h = flow_at options cells h
+flow_behaves options s.BlockQuoteStart cells h = quote_at options cells h
+flow_behaves options s.BlockQuoteContStart cells h = prefix_at options cells h
+flow_behaves options s.BlockQuoteContBefore cells h = at_marker cells h
+flow_behaves options s.BlockQuoteContAfter cells h = behind_marker cells h
+flow_behaves options s.DocumentContainerExistingBefore cells h = line_then options (flow_at options) cells h
+flow_behaves options s.DocumentContainerExistingAfter cells h = line_then options (flow_at options) cells (record h { flags = went_on h.flags })
+flow_behaves options s.DocumentContainerNewBefore cells h = new_of options (flow_at options) cells h
+flow_behaves options s.DocumentContainerNewAfter cells h = new_of options (flow_at options) cells (quote_opened h)
+flow_behaves options s.DocumentContainersAfter cells h = behind_containers options (flow_at options) cells h
+flow_behaves options s.DocumentFlowEnd cells h = line_ended (flow_at options) cells h
+flow_behaves options s.FlowStart cells h = leaf_of options (flow_at options) cells h
+flow_behaves options s.FlowBlankLineBefore cells h = leaf_of options (flow_at options) cells h
 flow_behaves options s.FlowBeforeHeadingAtx cells h = nonblank_of options (flow_at options) cells h
 flow_behaves options s.FlowBeforeThematicBreak cells h = break_of options (flow_at options) cells h
 flow_behaves options s.FlowBeforeContent cells h = content_of (flow_at options) cells h
 flow_behaves options s.FlowBlankLineAfter cells h = blank_ended (flow_at options) cells h
-flow_behaves options s.FlowAfter cells h = ended (flow_at options) LineEnding cells h
+flow_behaves options s.FlowAfter cells h = line_ended (flow_at options) cells h
 flow_behaves options s.HeadingAtxStart cells h = heading_at options cells h
 flow_behaves options s.HeadingAtxBefore cells h = before_opening cells h
 flow_behaves options s.HeadingAtxSequenceOpen cells h = in_opening cells h

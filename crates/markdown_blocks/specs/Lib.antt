@@ -1,9 +1,11 @@
+pub mod LineFlags
 pub mod Flow
 pub mod States
 pub mod Parsed
 pub mod Resolved
 pub mod FlowRule
 pub mod Rows
+pub mod Fronted
 pub mod Sections
 pub mod Between
 pub mod FlowReads

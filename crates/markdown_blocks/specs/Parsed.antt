@@ -15,9 +15,8 @@ use Rattle.markdown_blocks.specs.Outlined.{IsOutlined}
 abbrev pub IsSmall : List ℕ → Type 0
 IsSmall text = length text ≤ (2 ^ 64 - 1) / 8
 
--- the constructs that are asked for are there: ATX headings and breaks alone
+-- the constructs that are asked for are there: block quotes, ATX headings and breaks alone
 pub record IsBuilt (options : ParseOptions) : Type 0 where
-  pub block_quote : options.constructs.block_quote ≡ false
   pub code_fenced : options.constructs.code_fenced ≡ false
   pub code_indented : options.constructs.code_indented ≡ false
   pub definition : options.constructs.definition ≡ false

@@ -1,11 +1,12 @@
--- The lines of a text as flow reads them, and the events of each.
-use Rattle.std.specs.Prelude.{ℕ, zero, suc, Bool, ◌&&◌, if◌then◌else◌, List, [], ◌∷◌, ◌++◌, slice_range, Option, Some, None}
+-- The lines of a text as they are read, where block quotes, headings and breaks may be on, and the events of each.
+use Rattle.std.specs.Prelude.{ℕ, zero, suc, ◌+◌, ◌-◌, Bool, true, false, ◌&&◌, ◌==◌, length, if◌then◌else◌, List, [], ◌∷◌, ◌++◌, slice_range, Option, Some, None}
 use Rattle.md_engine.specs.declared.configuration.ParseOptions.{ParseOptions}
 use Rattle.md_engine.specs.declared.event.Event.{Event}
 use Rattle.md_engine.specs.declared.event.Name.{Name}
 use Rattle.md_engine.specs.declared.event.Name.TheVariants as n
 use Rattle.md_engine.specs.declared.event.Point.{Point}
 use Rattle.md_engine.specs.Meaning.{Cell}
+use Rattle.md_containers.specs.QuoteRule.{prefix_end, prefix_events, prefix_rest, takes_prefix}
 use Rattle.md_content.specs.Chunks.{content_link}
 use Rattle.md_leaves.specs.BlankRule.{blank_events}
 use Rattle.md_leaves.specs.BreakRule.{Apart, runs}
@@ -14,9 +15,9 @@ use Rattle.md_leaves.specs.HeadingTitle.{Title, title_of}
 use Rattle.md_seam.specs.declared.inline.Chunk.{Chunk}
 use Rattle.md_seam.specs.declared.inline.PartKind.TheVariants.{Text}
 use Rattle.md_seam.specs.Ahead.{begins_white, from_ending, line_bytes, line_cells, line_end, white_end, white_rest}
-use Rattle.md_seam.specs.Inline.{plain_events}
+use Rattle.md_seam.specs.Inline.{plain_chunk, plain_events}
 use Rattle.md_seam.specs.Leaves.{is_rule}
-use Rattle.md_seam.specs.Nested.{around, enter_link, exit, pair}
+use Rattle.md_seam.specs.Nested.{around, enter, enter_link, exit, pair}
 use Rattle.md_seam.specs.Rest.{is_blank, trim_start}
 use Rattle.md_seam.specs.Spaces.{small_indent}
 
@@ -27,10 +28,17 @@ pub data RowKind : Type 0 where
   BreakRow : RowKind
   TextRow : RowKind
 
--- A line that was read: where it begins, what stands in it unless it is text, where its ending begins, and where it
--- has ended, if it has an ending.
+-- A line that was read.
 pub record Row : Type 0 where
   pub kind : RowKind
+  -- what stands in front of it: the prefixes of its containers, and the begins of those that open on it
+  pub front : List Event
+  -- how many quotes open on it, how many end before it, and how many end behind it
+  pub opens : ℕ
+  pub closes : ℕ
+  pub leaves : ℕ
+  -- behind its containers: where it begins, what stands in it unless it is text, where its ending begins, and where it has
+  -- ended, if it has an ending
   pub first : Point
   pub inside : List Event
   pub end : Point
@@ -81,33 +89,131 @@ abbrev pub after_ending : List Cell → Option Point
 after_ending [] = None
 after_ending (c ∷ cs) = Some c.after
 
-abbrev pub row_at : ParseOptions → List Cell → Point → Row
-row_at options cells p = record {
-  kind = row_kind options cells;
-  first = p;
-  inside = inside_of options cells p (row_kind options cells);
-  end = line_end cells p;
-  after = after_ending (from_ending cells);
+-- Containers by the cells of a line.
+
+-- prefixes of so many containers, or their begins, and what is left of the line behind them
+pub record Front : Type 0 where
+  pub events : List Event
+  pub many : ℕ
+  pub cells : List Cell
+  pub point : Point
+
+abbrev pub no_front : List Cell → Point → Front
+no_front cells p = record { events = []; many = 0; cells = cells; point = p }
+
+-- these events of one more in front
+abbrev pub in_front : List Event → Front → Front
+in_front events f = record f { events = events ++ f.events; many = suc f.many }
+
+-- each of so many open quotes is asked whether it goes on, until one does not
+abbrev pub went_front : ParseOptions → ℕ → List Cell → Point → Front
+went_front options zero cells p = no_front cells p
+went_front options (suc n) cells p =
+    if takes_prefix options cells
+    then in_front (prefix_events options cells p) (went_front options n (prefix_rest options cells) (prefix_end options cells p))
+    else no_front cells p
+
+-- quotes open as often as they do, at most so many
+abbrev pub new_front : ParseOptions → ℕ → List Cell → Point → Front
+new_front options zero cells p = no_front cells p
+new_front options (suc n) cells p =
+    if options.constructs.block_quote && takes_prefix options cells
+    then in_front (enter n.BlockQuote p ∷ prefix_events options cells p) (new_front options n (prefix_rest options cells) (prefix_end options cells p))
+    else no_front cells p
+
+-- The containers of a line: those before it, whether a paragraph is open, and what goes on and opens.
+pub record Held : Type 0 where
+  pub front : List Event
+  pub opens : ℕ
+  pub closes : ℕ
+  -- how many are open behind it
+  pub depth : ℕ
+  pub cells : List Cell
+  pub point : Point
+
+abbrev pub is_text : RowKind → Bool
+is_text TextRow = true
+is_text _ = false
+
+-- so many of the containers before it are still open
+abbrev pub held_by : ℕ → ℕ → Front → Front → Held
+held_by depth keep went new = record { front = went.events ++ new.events; opens = new.many; closes = depth - keep; depth = keep + new.many; cells = new.cells; point = new.point }
+
+-- whether a line goes on the open paragraph, whatever containers go on (CommonMark 5.1, "laziness")
+abbrev pub is_lazy : Bool → ℕ → RowKind → Bool
+is_lazy open opens kind = open && (opens == 0) && is_text kind
+
+abbrev pub held_of : ParseOptions → ℕ → Bool → Front → Front → Held
+held_of options depth open went new = held_by depth (if is_lazy open new.many (row_kind options new.cells) then depth else went.many) went new
+
+abbrev pub held_behind : ParseOptions → ℕ → Bool → Front → Held
+held_behind options depth open went = held_of options depth open went (new_front options (length went.cells) went.cells went.point)
+
+unfoldable pub held_at : ParseOptions → ℕ → Bool → List Cell → Point → Held
+held_at options depth open cells p = held_behind options depth open (went_front options depth cells p)
+
+-- The lines.
+
+-- how many quotes end in front of these lines; so many do at the end of the text
+abbrev pub closes_before : ℕ → List Row → ℕ
+closes_before depth [] = depth
+closes_before depth (row ∷ rows) = row.closes
+
+abbrev pub row_of : ParseOptions → Held → List Row → Row
+row_of options h below = record {
+  kind = row_kind options h.cells;
+  front = h.front;
+  opens = h.opens;
+  closes = h.closes;
+  leaves = closes_before h.depth below;
+  first = h.point;
+  inside = inside_of options h.cells h.point (row_kind options h.cells);
+  end = line_end h.cells h.point;
+  after = after_ending (from_ending h.cells);
 }
 
--- at most so many lines; behind the last ending stands an empty one
-abbrev pub rows_at : ParseOptions → ℕ → List Cell → Point → List Row
-rows_at options zero cells p = []
-rows_at options (suc n) cells p = row_at options cells p ∷ elim (from_ending cells) [ [] ↦ [] | c ∷ cs ↦ rows_at options n cs c.after ]
+abbrev pub onto_rows : ParseOptions → Held → List Row → List Row
+onto_rows options h below = row_of options h below ∷ below
+
+-- the lines behind one, by what reads them
+abbrev pub rows_by : ParseOptions → Held → (ℕ → Bool → List Cell → Point → List Row) → List Row
+rows_by options h further = onto_rows options h (elim (from_ending h.cells) [ [] ↦ [] | c ∷ cs ↦ further h.depth (is_text (row_kind options h.cells)) cs c.after ])
+
+-- At most so many lines, where so many quotes are open, and a paragraph or none; behind the last ending stands an empty line.
+abbrev pub rows_at : ParseOptions → ℕ → ℕ → Bool → List Cell → Point → List Row
+rows_at options zero depth open cells p = []
+rows_at options (suc size) depth open cells p = rows_by options (held_at options depth open cells p) (rows_at options size)
 
 -- Events.
+
+-- the ends of so many quotes
+abbrev pub quote_ends : ℕ → Point → List Event
+quote_ends zero p = []
+quote_ends (suc n) p = exit n.BlockQuote p ∷ quote_ends n p
 
 -- the ending of a line
 abbrev pub ending_events : Name → Row → List Event
 ending_events name row = elim row.after [ None ↦ [] | Some q ↦ pair name row.end q ]
 
-abbrev pub row_events_by : RowKind → Row → List Event
-row_events_by BlankRow row = row.inside ++ ending_events n.BlankLineEnding row
-row_events_by HeadingRow row = around n.HeadingAtx row.first row.end row.inside ++ ending_events n.LineEnding row
-row_events_by BreakRow row = around n.ThematicBreak row.first row.end row.inside ++ ending_events n.LineEnding row
-row_events_by TextRow row = enter_link n.Content row.first content_link ∷ exit n.Content row.end ∷ ending_events n.LineEnding row
+-- behind a line: the quotes that end there, and its ending
+abbrev pub tail_events : Name → Row → List Event
+tail_events name row = quote_ends row.leaves row.end ++ ending_events name row
 
--- what flow adds for a line
+abbrev pub ending_of : RowKind → Name
+ending_of BlankRow = n.BlankLineEnding
+ending_of _ = n.LineEnding
+
+-- what flow adds for the rest of a line
+abbrev pub leaf_events : RowKind → Row → List Event
+leaf_events BlankRow row = row.inside
+leaf_events HeadingRow row = around n.HeadingAtx row.first row.end row.inside
+leaf_events BreakRow row = around n.ThematicBreak row.first row.end row.inside
+leaf_events TextRow row = enter_link n.Content row.first content_link ∷ exit n.Content row.end ∷ []
+
+abbrev pub row_events_by : RowKind → Row → List Event
+row_events_by kind row = row.front ++ leaf_events kind row ++ tail_events (ending_of kind) row
+
+-- all events of a line
 abbrev pub row_events : Row → List Event
 row_events row = row_events_by row.kind row
 
@@ -135,7 +241,7 @@ read_title bytes title = title.front ++ read_text bytes title.text ++ title.back
 
 -- the events of a line that is no text, once its parts are read
 abbrev pub single_events_by : List ℕ → RowKind → Row → List Event
-single_events_by bytes HeadingRow row = around n.HeadingAtx row.first row.end (read_title bytes (row_title bytes row)) ++ ending_events n.LineEnding row
+single_events_by bytes HeadingRow row = row.front ++ around n.HeadingAtx row.first row.end (read_title bytes (row_title bytes row)) ++ tail_events n.LineEnding row
 single_events_by bytes kind row = row_events_by kind row
 
 -- Paragraphs.
@@ -145,12 +251,19 @@ pub data Group : Type 0 where
   Single : Row → Group
   Lines : Row → List Row → Group
 
+-- whether a line of text goes on the paragraph of the one before: no quote ends or opens between them
+abbrev pub goes_on : Row → Row → Bool
+goes_on row next = (row.leaves == 0) && (next.opens == 0)
+
+abbrev pub onto_lines : Row → Row → List Row → List Group → List Group
+onto_lines row next rows groups = if goes_on row next then Lines row (next ∷ rows) ∷ groups else Lines row [] ∷ Lines next rows ∷ groups
+
 abbrev pub onto_groups : Row → RowKind → List Group → List Group
-onto_groups row TextRow (Lines first rows ∷ groups) = Lines row (first ∷ rows) ∷ groups
+onto_groups row TextRow (Lines next rows ∷ groups) = onto_lines row next rows groups
 onto_groups row TextRow groups = Lines row [] ∷ groups
 onto_groups row kind groups = Single row ∷ groups
 
--- lines of text that follow one another are a paragraph
+-- lines of text that follow one another are a paragraph, unless quotes end or open between them
 abbrev pub groups : List Row → List Group
 groups [] = []
 groups (row ∷ rows) = onto_groups row row.kind (groups rows)
@@ -168,11 +281,16 @@ abbrev pub chunks_of : Row → List Row → List Chunk
 chunks_of row [] = (record { first = row.first; after = row.end }) ∷ []
 chunks_of row (next ∷ rows) = (record { first = row.first; after = behind_row row }) ∷ chunks_of next rows
 
+-- the text of a paragraph, once it is read: in front of each further line stand the prefixes of its containers
+abbrev pub read_lines : List ℕ → Row → List Row → List Event
+read_lines bytes row [] = plain_chunk bytes (record { first = row.first; after = row.end })
+read_lines bytes row (next ∷ rows) = plain_chunk bytes (record { first = row.first; after = behind_row row }) ++ next.front ++ read_lines bytes next rows
+
 -- the events of a paragraph, once its text is read
 abbrev pub paragraph_events : List ℕ → Row → List Row → List Event
 paragraph_events bytes row rows =
     let last = last_row row rows in
-    around n.Paragraph row.first last.end (plain_events bytes (record { kind = Text; chunks = chunks_of row rows })) ++ ending_events n.LineEnding last
+    row.front ++ around n.Paragraph row.first last.end (read_lines bytes row rows) ++ tail_events n.LineEnding last
 
 abbrev pub group_events : List ℕ → Group → List Event
 group_events bytes (Single row) = single_events_by bytes row.kind row

@@ -8,6 +8,8 @@ use Rattle.md_engine.specs.declared.state.State.{State}
 use Rattle.md_engine.specs.declared.state.State.TheVariants.{Nok}
 use Rattle.md_engine.specs.Scheme.{Scheme, nowhere, of_owners}
 use Rattle.md_engine.specs.World.{World}
+use Rattle.md_containers.specs.Quote as quote
+use Rattle.md_containers.specs.Quote.{quote_scheme}
 use Rattle.md_content.specs.Chunks.{chunk_inside_code, chunk_scheme, chunk_start_went}
 use Rattle.md_leaves.specs.Blank as blank
 use Rattle.md_leaves.specs.Blank.{blank_scheme}
@@ -23,6 +25,16 @@ use Rattle.markdown_blocks.specs.Flow.{flow_scheme}
 
 abbrev pub flow_owner : StateName → Scheme
 flow_owner s.BlankLineStart = blank_scheme
+flow_owner s.BlockQuoteStart = quote_scheme
+flow_owner s.BlockQuoteContStart = quote_scheme
+flow_owner s.BlockQuoteContBefore = quote_scheme
+flow_owner s.BlockQuoteContAfter = quote_scheme
+flow_owner s.DocumentContainerExistingBefore = flow_scheme
+flow_owner s.DocumentContainerExistingAfter = flow_scheme
+flow_owner s.DocumentContainerNewBefore = flow_scheme
+flow_owner s.DocumentContainerNewAfter = flow_scheme
+flow_owner s.DocumentContainersAfter = flow_scheme
+flow_owner s.DocumentFlowEnd = flow_scheme
 flow_owner s.BlankLineAfter = blank_scheme
 flow_owner s.ContentChunkStart = chunk_scheme
 flow_owner s.ContentChunkInside = chunk_scheme
@@ -54,6 +66,16 @@ flow_table_scheme = of_owners flow_owner
 -- `is_name` finds a resolver among those that are registered
 abbrev pub flow_went : (ResolveName → ResolveName → Bool) → StateName → World → Went
 flow_went is_name s.BlankLineStart w = blank.start_went w
+flow_went is_name s.BlockQuoteStart w = quote.start_went w
+flow_went is_name s.BlockQuoteContStart w = quote.cont_start_went w
+flow_went is_name s.BlockQuoteContBefore w = quote.cont_before_went w
+flow_went is_name s.BlockQuoteContAfter w = quote.cont_after_went w
+flow_went is_name s.DocumentContainerExistingBefore w = flow.existing_before_went w
+flow_went is_name s.DocumentContainerExistingAfter w = flow.existing_after_went w
+flow_went is_name s.DocumentContainerNewBefore w = flow.new_before_went w
+flow_went is_name s.DocumentContainerNewAfter w = flow.new_after_went w
+flow_went is_name s.DocumentContainersAfter w = flow.containers_after_went w
+flow_went is_name s.DocumentFlowEnd w = flow.flow_end_went w
 flow_went is_name s.BlankLineAfter w = blank.after_went w
 flow_went is_name s.ContentChunkStart w = chunk_start_went w
 flow_went is_name s.ContentChunkInside w = chunk_inside_code (is_name r.Content) w (ends_line w.current)

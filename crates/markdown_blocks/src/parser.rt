@@ -107,7 +107,7 @@ fn read_flow<'a>(
     ensures { IfOk result (λ read. FlowReads resolved_as bytes.now options.now start (found_in read.1) (world read.0)) }
 {
     let mut tokenizer = Tokenizer::new(alloc, start, bytes, options);
-    let start = State::Next(StateName::FlowStart);
+    let start = State::Next(StateName::DocumentContainerExistingBefore);
     let end = match push::<FlowTable>(&mut tokenizer, bytes.len(), start) {
         State::Error => return Err(Message),
         end => end,

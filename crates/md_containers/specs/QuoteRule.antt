@@ -1,5 +1,5 @@
 -- The rule of the prefix of a block quote, as what is left of it at each state (CommonMark 5.1).
-use Rattle.std.specs.Prelude.{◌≡◌, ◌==◌, if◌then◌else◌, List, [], ◌∷◌, ◌++◌}
+use Rattle.std.specs.Prelude.{◌≡◌, Bool, false, ◌==◌, if◌then◌else◌, List, [], ◌∷◌, ◌++◌}
 use Rattle.md_engine.specs.declared.configuration.ParseOptions.{ParseOptions}
 use Rattle.md_engine.specs.declared.event.Event.{Event}
 use Rattle.md_engine.specs.declared.event.Name.TheVariants.{BlockQuote, BlockQuoteMarker, BlockQuotePrefix, SpaceOrTab}
@@ -64,6 +64,41 @@ marker_events (c ∷ cs) p = enter BlockQuotePrefix p ∷ pair BlockQuoteMarker 
 
 abbrev pub prefix_events : ParseOptions → List Cell → Point → List Event
 prefix_events options cells p = indent_events options cells p ++ marker_events (white_rest (small_indent options) cells) (white_end (small_indent options) cells p)
+
+-- What a prefix takes.
+
+-- whether `>` stands first
+abbrev pub has_marker : List Cell → Bool
+has_marker [] = false
+has_marker (c ∷ cs) = c.byte == 62
+
+-- whether a prefix stands here
+abbrev pub takes_prefix : ParseOptions → List Cell → Bool
+takes_prefix options cells = has_marker (white_rest (small_indent options) cells)
+
+-- what is left behind `>` and one column of whitespace, and where that begins
+abbrev pub behind_rest : List Cell → List Cell
+behind_rest [] = []
+behind_rest (c ∷ cs) = if is_white c.byte then cs else c ∷ cs
+
+abbrev pub behind_end : List Cell → Point → Point
+behind_end [] p = p
+behind_end (c ∷ cs) p = if is_white c.byte then c.after else p
+
+abbrev pub marker_rest : List Cell → List Cell
+marker_rest [] = []
+marker_rest (c ∷ cs) = behind_rest cs
+
+abbrev pub marker_end : List Cell → Point → Point
+marker_end [] p = p
+marker_end (c ∷ cs) p = behind_end cs c.after
+
+-- what is left behind a prefix, and where that begins
+abbrev pub prefix_rest : ParseOptions → List Cell → List Cell
+prefix_rest options cells = marker_rest (white_rest (small_indent options) cells)
+
+abbrev pub prefix_end : ParseOptions → List Cell → Point → Point
+prefix_end options cells p = marker_end (white_rest (small_indent options) cells) (white_end (small_indent options) cells p)
 
 pub record HasQuote (B : Behaviour) (options : ParseOptions) : Type 0 where
   pub white : HasWhite B

@@ -1,25 +1,33 @@
-// The document: what stands in front of its lines, and then these.
+// The document: what stands in front of its lines, and the containers of each.
 //
-//     document ::= [ byte_order_mark ] flow
+//     document ::= [ byte_order_mark ] line *( line_ending line )
+//     line     ::= *prefix *container flow
 //
-// Its table takes the mark, if there is one. Flow reads what follows, by a table of its own.
+// Its table takes the mark, if there is one. The lines that follow are read by the table of flow, which has the states of
+// containers too. On each line the containers that are open are asked from the outermost in whether they go on, then others may
+// open, and flow reads the rest of the line. Only then is it known whether the line goes on the open paragraph, so that all
+// containers stay open although not all went on (CommonMark 5.1, "laziness"). Else those that did not go on end: their ends are
+// put where the line before ended, in front of its ending.
 
 ghost use Rattle.std.specs.Prelude.{◌≡◌, ◌≢◌};
 ghost use Rattle.md_engine.specs.Scheme.{stands};
 ghost use Rattle.md_engine.specs.World.{looks, world};
 ghost use Rattle.md_engine.specs.declared.state.Name.{Name as StateName};
 ghost use Rattle.md_engine.specs.declared.state.State.{State};
+ghost use Rattle.markdown_blocks.specs.Flow.{containers_after_went, existing_after_went, existing_before_went, flow_end_went, goes_on_with, new_after_went, new_before_went};
+ghost use Rattle.markdown_blocks.specs.LineFlags.{ending_name, next_container, stays};
 ghost use Rattle.markdown_blocks.specs.Document.{before_frontmatter_went, document_table_scheme, document_went, start_went};
 ghost use Rattle.md_seam.specs.Went.{IsAt, NeedsNothing};
 
 use crate::resolve;
+use md_engine::event::Name;
 use md_engine::message::Message;
 use md_engine::or_error;
 use md_engine::resolve::Name as ResolveName;
 use md_engine::state::{Name as StateName, State};
 use md_engine::subtokenize::Subresult;
 use md_engine::table::Table;
-use md_engine::tokenizer::Tokenizer;
+use md_engine::tokenizer::{Container, ContainerKind, Flags, Tokenizer};
 use md_leaves::partial_bom;
 
 /// At the start of the text: before a byte order mark, if there is one.
@@ -54,6 +62,182 @@ pub fn before_frontmatter(_tokenizer: &mut Tokenizer) -> State
     State::Ok
 }
 
+/// The outermost container that was not asked yet whether it goes on.
+fn next_container(tokenizer: &Tokenizer) -> Option<Container>
+    ensures { result ≡ next_container (world tokenizer.now).flags }
+{
+    tokenizer
+        .containers
+        .get(tokenizer.flags.continued)
+        .copied()
+}
+
+/// The state in front of the prefix of a container on a further line.
+fn goes_on_with(kind: ContainerKind) -> StateName
+    ensures { result ≡ goes_on_with kind }
+{
+    match kind {
+        ContainerKind::BlockQuote => StateName::BlockQuoteContStart,
+    }
+}
+
+/// At the begin of a line, or behind the prefix of a container that went on: before the next one that is open.
+///
+/// ```markdown
+///   | > a
+/// > | > b
+///     ^
+/// ```
+pub fn container_existing_before(tokenizer: &mut Tokenizer) -> State
+    requires { IsAt NeedsNothing StateName.DocumentContainerExistingBefore (world tokenizer.old) }
+    ensures to { result ≢ State.Error → result ≡ (existing_before_went (world tokenizer.old)).to }
+    ensures world { result ≢ State.Error → world tokenizer.new ≡ (existing_before_went (world tokenizer.old)).world }
+{
+    match next_container(tokenizer) {
+        None => State::Retry(StateName::DocumentContainerNewBefore),
+        Some(container) => {
+            or_error!(tokenizer.attempt(
+                State::Next(StateName::DocumentContainerExistingAfter),
+                State::Next(StateName::DocumentContainerNewBefore)
+            ));
+            State::Retry(goes_on_with(container.kind))
+        }
+    }
+}
+
+/// Behind the prefix of a container that went on.
+///
+/// ```markdown
+///   | > a
+/// > | > b
+///       ^
+/// ```
+pub fn container_existing_after(tokenizer: &mut Tokenizer) -> State
+    requires { IsAt NeedsNothing StateName.DocumentContainerExistingAfter (world tokenizer.old) }
+    ensures to { result ≡ (existing_after_went (world tokenizer.old)).to }
+    ensures world { world tokenizer.new ≡ (existing_after_went (world tokenizer.old)).world }
+{
+    if tokenizer.flags.continued < tokenizer.containers.len() {
+        tokenizer.flags.continued += 1;
+    }
+    State::Retry(StateName::DocumentContainerExistingBefore)
+}
+
+/// Before a container that may open.
+///
+/// ```markdown
+/// > | > a
+///     ^
+/// ```
+pub fn container_new_before(tokenizer: &mut Tokenizer) -> State
+    requires { IsAt NeedsNothing StateName.DocumentContainerNewBefore (world tokenizer.old) }
+    ensures to { result ≢ State.Error → result ≡ (new_before_went (world tokenizer.old)).to }
+    ensures world { result ≢ State.Error → world tokenizer.new ≡ (new_before_went (world tokenizer.old)).world }
+{
+    or_error!(tokenizer.attempt(
+        State::Next(StateName::DocumentContainerNewAfter),
+        State::Next(StateName::DocumentContainersAfter)
+    ));
+    State::Retry(StateName::BlockQuoteStart)
+}
+
+/// Behind the first prefix of a container that opens: those that did not go on end before it.
+///
+/// ```markdown
+/// > | > a
+///       ^
+/// ```
+pub fn container_new_after(tokenizer: &mut Tokenizer) -> State
+    requires { IsAt NeedsNothing StateName.DocumentContainerNewAfter (world tokenizer.old) }
+    ensures to { result ≢ State.Error → result ≡ (new_after_went (world tokenizer.old)).to }
+    ensures world { result ≢ State.Error → world tokenizer.new ≡ (new_after_went (world tokenizer.old)).world }
+{
+    let Flags {
+        continued,
+        line_end,
+        ..
+    } = tokenizer.flags;
+    or_error!(tokenizer.close(continued, line_end));
+    or_error!(tokenizer.open(Container {
+        kind: ContainerKind::BlockQuote
+    }));
+    tokenizer.flags.continued = tokenizer.containers.len();
+    tokenizer.flags.interrupt = false;
+    State::Retry(StateName::DocumentContainerNewBefore)
+}
+
+/// Behind all containers of a line.
+///
+/// ```markdown
+/// > | > a
+///       ^
+/// ```
+pub fn containers_after(tokenizer: &mut Tokenizer) -> State
+    requires { IsAt NeedsNothing StateName.DocumentContainersAfter (world tokenizer.old) }
+    ensures to { result ≡ (containers_after_went (world tokenizer.old)).to }
+    ensures world { world tokenizer.new ≡ (containers_after_went (world tokenizer.old)).world }
+{
+    tokenizer.flags.text_open = tokenizer.flags.interrupt;
+    State::Retry(StateName::FlowStart)
+}
+
+/// How many containers are still open behind a line: all of them if it goes on the open paragraph, else those that went on.
+fn stays(tokenizer: &Tokenizer) -> usize
+    ensures { result ≡ stays (world tokenizer.now).flags }
+{
+    if tokenizer.flags.text_open && tokenizer.flags.interrupt {
+        tokenizer.containers.len()
+    } else {
+        tokenizer.flags.continued
+    }
+}
+
+/// What the ending of a line is called.
+fn ending_name(blank: bool) -> Name
+    ensures { result ≡ ending_name blank }
+{
+    if blank {
+        Name::BlankLineEnding
+    } else {
+        Name::LineEnding
+    }
+}
+
+/// Behind the leaf of a line, at its ending or the end of the text: containers end that did not go on, unless the line goes on the
+/// open paragraph; at the end of the text all do.
+///
+/// ```markdown
+/// > | > a
+///        ^
+/// ```
+pub fn flow_end(tokenizer: &mut Tokenizer) -> State
+    requires { IsAt NeedsNothing StateName.DocumentFlowEnd (world tokenizer.old) }
+    ensures to { result ≢ State.Error → result ≡ (flow_end_went (world tokenizer.old)).to }
+    ensures world { result ≢ State.Error → world tokenizer.new ≡ (flow_end_went (world tokenizer.old)).world }
+{
+    let keep = stays(tokenizer);
+    let line_end = tokenizer.flags.line_end;
+    or_error!(tokenizer.close(keep, line_end));
+    let len = tokenizer.events.len();
+    match tokenizer.current {
+        None => {
+            or_error!(tokenizer.close(0, len));
+            State::Ok
+        }
+        Some(b'\n') => {
+            let name = ending_name(tokenizer.flags.blank);
+            or_error!(tokenizer.enter(name));
+            tokenizer.consume();
+            or_error!(tokenizer.exit(name));
+            tokenizer.flags.blank = false;
+            tokenizer.flags.continued = 0;
+            tokenizer.flags.line_end = len;
+            State::Next(StateName::DocumentContainerExistingBefore)
+        }
+        _ => State::Nok,
+    }
+}
+
 /// Calls a state of the document.
 fn call_state(tokenizer: &mut Tokenizer, name: StateName) -> State
     requires current { (world tokenizer.old).current ≡ looks (world tokenizer.old) }
@@ -74,7 +258,9 @@ fn call_state(tokenizer: &mut Tokenizer, name: StateName) -> State
 pub struct DocumentTable;
 
 impl Table for DocumentTable {
-    ghost use Rattle.markdown_blocks.specs.Document.{DocumentStep};
+    ghost use Rattle.markdown_blocks.specs.Flow.{containers_after_went, existing_after_went, existing_before_went, flow_end_went, goes_on_with, new_after_went, new_before_went};
+ghost use Rattle.markdown_blocks.specs.LineFlags.{ending_name, next_container, stays};
+ghost use Rattle.markdown_blocks.specs.Document.{DocumentStep};
     ghost use Rattle.markdown_blocks.specs.Resolved.{resolved_as};
 
     ghost step = { DocumentStep };

@@ -1,8 +1,8 @@
 // Flow: the leaf blocks of a document or a container (CommonMark 4).
 //
-//     flow ::= *( blank_line | heading_atx | thematic_break | content ) with an ending after each
+//     flow ::= blank_line | heading_atx | thematic_break | content
 //
-// Each line is tried in this order. It adds `BlankLineEnding` behind a blank line, and `LineEnding` behind any other.
+// The rest of a line, behind the prefixes of its containers, is tried in this order. The line then ends in the document.
 
 ghost use Rattle.std.specs.Prelude.{◌≡◌, ◌≢◌};
 ghost use Rattle.md_engine.specs.Scheme.{stands};
@@ -11,12 +11,13 @@ ghost use Rattle.md_engine.specs.declared.resolve.Name.{Name as ResolveName};
 ghost use Rattle.markdown_blocks.specs.States.{flow_table_scheme, flow_went};
 ghost use Rattle.md_engine.specs.declared.state.Name.{Name as StateName};
 ghost use Rattle.md_engine.specs.declared.state.State.{State};
-ghost use Rattle.markdown_blocks.specs.Flow.{after_went, before_content_went, before_heading_atx_went, before_thematic_break_went, blank_line_after_went, blank_line_before_went, ending_went, start_went};
+ghost use Rattle.markdown_blocks.specs.Flow.{after_went, before_content_went, before_heading_atx_went, before_thematic_break_went, blank_line_after_went, blank_line_before_went, start_went};
 ghost use Rattle.md_seam.specs.Went.{IsAt, NeedsNothing};
 
+use crate::construct::document;
 use crate::resolve;
+use md_containers::block_quote;
 use md_content::content;
-use md_engine::event::Name;
 use md_engine::message::Message;
 use md_engine::or_error;
 use md_engine::resolve::Name as ResolveName;
@@ -110,24 +111,6 @@ pub fn before_content(tokenizer: &mut Tokenizer) -> State
     State::Retry(StateName::ContentChunkStart)
 }
 
-/// Takes the ending of a line as a part of this name, if one is here.
-fn ending(tokenizer: &mut Tokenizer, name: Name) -> State
-    requires { (world tokenizer.old).current ≡ looks (world tokenizer.old) }
-    ensures to { result ≢ State.Error → result ≡ (ending_went name (world tokenizer.old)).to }
-    ensures world { result ≢ State.Error → world tokenizer.new ≡ (ending_went name (world tokenizer.old)).world }
-{
-    match tokenizer.current {
-        None => State::Ok,
-        Some(b'\n') => {
-            or_error!(tokenizer.enter(name));
-            tokenizer.consume();
-            or_error!(tokenizer.exit(name));
-            State::Next(StateName::FlowStart)
-        }
-        _ => State::Nok,
-    }
-}
-
 /// Behind a blank line, at its ending or the end of the text.
 ///
 /// ```markdown
@@ -136,13 +119,12 @@ fn ending(tokenizer: &mut Tokenizer, name: Name) -> State
 /// ```
 pub fn blank_line_after(tokenizer: &mut Tokenizer) -> State
     requires { IsAt NeedsNothing StateName.FlowBlankLineAfter (world tokenizer.old) }
-    ensures to { result ≢ State.Error → result ≡ (blank_line_after_went (world tokenizer.old)).to }
-    ensures world { result ≢ State.Error → world tokenizer.new ≡ (blank_line_after_went (world tokenizer.old)).world }
+    ensures to { result ≡ (blank_line_after_went (world tokenizer.old)).to }
+    ensures world { world tokenizer.new ≡ (blank_line_after_went (world tokenizer.old)).world }
 {
-    if tokenizer.current.is_some() {
-        tokenizer.flags.interrupt = false;
-    }
-    ending(tokenizer, Name::BlankLineEnding)
+    tokenizer.flags.interrupt = false;
+    tokenizer.flags.blank = true;
+    State::Retry(StateName::DocumentFlowEnd)
 }
 
 /// Behind any other line, at its ending or the end of the text.
@@ -151,12 +133,12 @@ pub fn blank_line_after(tokenizer: &mut Tokenizer) -> State
 /// > | ***
 ///        ^
 /// ```
-pub fn after(tokenizer: &mut Tokenizer) -> State
-    requires { IsAt NeedsNothing StateName.FlowAfter (world tokenizer.old) }
-    ensures to { result ≢ State.Error → result ≡ (after_went (world tokenizer.old)).to }
-    ensures world { result ≢ State.Error → world tokenizer.new ≡ (after_went (world tokenizer.old)).world }
+pub fn after(_tokenizer: &mut Tokenizer) -> State
+    requires { IsAt NeedsNothing StateName.FlowAfter (world _tokenizer.old) }
+    ensures to { result ≡ (after_went (world _tokenizer.old)).to }
+    ensures world { world _tokenizer.new ≡ (after_went (world _tokenizer.old)).world }
 {
-    ending(tokenizer, Name::LineEnding)
+    State::Retry(StateName::DocumentFlowEnd)
 }
 
 /// Calls a state of flow.
@@ -169,8 +151,20 @@ fn call_state(tokenizer: &mut Tokenizer, name: StateName) -> State
     match name {
         StateName::BlankLineStart => blank_line::start(tokenizer),
         StateName::BlankLineAfter => blank_line::after(tokenizer),
+        StateName::BlockQuoteStart => block_quote::start(tokenizer),
+        StateName::BlockQuoteContStart => block_quote::cont_start(tokenizer),
+        StateName::BlockQuoteContBefore => block_quote::cont_before(tokenizer),
+        StateName::BlockQuoteContAfter => block_quote::cont_after(tokenizer),
         StateName::ContentChunkStart => content::chunk_start(tokenizer),
         StateName::ContentChunkInside => content::chunk_inside(tokenizer),
+        StateName::DocumentContainerExistingBefore => {
+            document::container_existing_before(tokenizer)
+        }
+        StateName::DocumentContainerExistingAfter => document::container_existing_after(tokenizer),
+        StateName::DocumentContainerNewBefore => document::container_new_before(tokenizer),
+        StateName::DocumentContainerNewAfter => document::container_new_after(tokenizer),
+        StateName::DocumentContainersAfter => document::containers_after(tokenizer),
+        StateName::DocumentFlowEnd => document::flow_end(tokenizer),
         StateName::FlowStart => start(tokenizer),
         StateName::FlowBlankLineBefore => blank_line_before(tokenizer),
         StateName::FlowBeforeHeadingAtx => before_heading_atx(tokenizer),

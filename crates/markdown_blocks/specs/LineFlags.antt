@@ -1,0 +1,41 @@
+-- What the document knows of its containers, and how each step of a line changes it.
+use Rattle.std.specs.Prelude.{ℕ, suc, Bool, true, false, ◌&&◌, nat_lt, if◌then◌else◌, List, [], ◌∷◌, ◌++◌, length, slice_get, Option}
+use Rattle.md_engine.specs.declared.event.Name.{Name}
+use Rattle.md_engine.specs.declared.event.Name.TheVariants.{BlankLineEnding, LineEnding}
+use Rattle.md_engine.specs.declared.tokenizer.Container.{Container}
+use Rattle.md_engine.specs.declared.tokenizer.ContainerKind.TheVariants.{BlockQuote}
+use Rattle.md_engine.specs.World.{Flags}
+
+-- the outermost container that was not asked yet whether it goes on
+abbrev pub next_container : Flags → Option Container
+next_container g = slice_get g.containers g.continued
+
+-- one more goes on
+abbrev pub went_on : Flags → Flags
+went_on g = record g { continued = if nat_lt g.continued (length g.containers) then suc g.continued else g.continued }
+
+-- a quote opens, where those that did not go on have ended: no paragraph is open in it
+abbrev pub with_quote : Flags → Flags
+with_quote g = record g { containers = g.containers ++ record { kind = BlockQuote } ∷ []; continued = length (g.containers ++ record { kind = BlockQuote } ∷ []); interrupt = false }
+
+-- behind the containers of a line
+abbrev pub begun_line : Flags → Flags
+begun_line g = record g { text_open = g.interrupt }
+
+-- behind a blank line no paragraph is open
+abbrev pub blanked : Flags → Flags
+blanked g = record g { interrupt = false; blank = true }
+
+-- how many containers are still open behind a line: all of them behind a line of the paragraph that is open (CommonMark 5.1,
+-- "laziness"), and else those that went on
+abbrev pub stays : Flags → ℕ
+stays g = if g.text_open && g.interrupt then length g.containers else g.continued
+
+-- the ending of a line, by whether it is blank
+abbrev pub ending_name : Bool → Name
+ending_name true = BlankLineEnding
+ending_name false = LineEnding
+
+-- the next line begins, and so many events stood before the ending of this one
+abbrev pub next_line : ℕ → Flags → Flags
+next_line len g = record g { blank = false; continued = 0; line_end = len }
