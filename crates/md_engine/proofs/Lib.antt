@@ -3,6 +3,7 @@ pub mod Powers
 pub mod Points
 pub mod Falls
 pub mod Local
+pub mod Closing
 pub mod Loops
 pub mod Keeps
 pub mod StepOf
