@@ -38,6 +38,7 @@ use Rattle.markdown_blocks.specs.Unread.{joined_groups, linked, titled_group, ti
 use Rattle.md_seam.proofs.FeedLines.{past_text-whole, slice-inside}
 use Rattle.markdown_blocks.proofs.JoinedLemmas.{EachEnds, EachNoContent, HasNoContent, behind-is, ending-is, ending-no_content, events-no_content, joined-rows, no_content-unwanted}
 use Rattle.markdown_blocks.proofs.LineKinds.{heading-kind, no_ending-parts}
+use Rattle.markdown_blocks.proofs.FrontFacts.{Fronts}
 use Rattle.markdown_blocks.proofs.RowFacts.{AreRows, IsEnding, IsRow, first-is, line-text}
 use Rattle.markdown_blocks.proofs.SubstitutedLemmas.{Becomes, Rest, Unwanted, becomes-append, becomes-around, becomes-same, no_links-unwanted, part-becomes, passes, places}
 use Rattle.markdown_blocks.proofs.TitleFacts.{back-unlinked, front-unlinked, heading-resolved}
@@ -49,7 +50,11 @@ abbrev pub IsParagraph : ParseOptions → List ℕ → Row → List Row → Type
 IsParagraph options bytes row [] = (line : List ℕ) × (is : IsRow options bytes line row) × (row.kind ≡ TextRow)
 IsParagraph options bytes row (next ∷ rows) =
     (line : List ℕ) × (is : IsRow options bytes line row) × (text : row.kind ≡ TextRow)
-    × (q : Point) × (after : row.after ≡ Some q) × (ending : IsEnding bytes row.end q) × (first : next.first ≡ q) × IsParagraph options bytes next rows
+    × (q : Point) × (after : row.after ≡ Some q) × (ending : IsEnding bytes row.end q) × (front : Fronts bytes 0 q next.first next.front) × IsParagraph options bytes next rows
+
+-- what stands in front of a line are prefixes and begins of quotes
+abbrev pub HasFront : List ℕ → Row → Type 0
+HasFront bytes row = (p : Point) × Fronts bytes row.opens p row.first row.front
 
 -- a line has an ending if more follows
 abbrev pub EndsBeforeGroups : Row → List Group → Type 0
@@ -62,12 +67,13 @@ pub record IsSingle (options : ParseOptions) (bytes : List ℕ) (row : Row) : Ty
   pub is : IsRow options bytes line row
   pub other : row.kind ≢ TextRow
   pub quiet : HasNoContent row
+  pub front : HasFront bytes row
 
 -- groups that are such
 abbrev pub AreGroups : ParseOptions → List ℕ → List Group → Type 0
 AreGroups options bytes [] = Unit {0}
 AreGroups options bytes (Single row ∷ gs) = IsSingle options bytes row × AreGroups options bytes gs
-AreGroups options bytes (Lines row rows ∷ gs) = IsParagraph options bytes row rows × EndsBeforeGroups (last_row row rows) gs × AreGroups options bytes gs
+AreGroups options bytes (Lines row rows ∷ gs) = IsParagraph options bytes row rows × EndsBeforeGroups (last_row row rows) gs × HasFront bytes row × AreGroups options bytes gs
 
 -- the first line of groups begins here
 abbrev FirstAt : Point → List Group → Type 0

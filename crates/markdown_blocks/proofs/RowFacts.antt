@@ -41,29 +41,29 @@ pub record IsRow (options : ParseOptions) (bytes line : List ℕ) (row : Row) : 
   pub heading : row.kind ≡ HeadingRow → row.inside ≡ line_runs Apart line row.first
 
 -- a line from a point on, where so many quotes are open, and a paragraph or none: its containers, and its rest as a row
-pub record IsLine (options : ParseOptions) (bytes : List ℕ) (depth : ℕ) (open : Bool) (p : Point) (line : List ℕ) (row : Row) : Type 0 where
-  pub is : IsRow options bytes (rest_line (quoted options depth open (rest_from p line)).rest) row
+pub record IsLine (options : ParseOptions) (bytes : List ℕ) (depth : ℕ) (going : Bool) (p : Point) (line : List ℕ) (row : Row) : Type 0 where
+  pub is : IsRow options bytes (rest_line (quoted options depth going (rest_from p line)).rest) row
   -- a tab that is cut at the begin of the rest, if there is one
-  pub cut : Cut (quoted options depth open (rest_from p line)).rest.spaces row.first
+  pub cut : Cut (quoted options depth going (rest_from p line)).rest.spaces row.first
   pub front : Fronts bytes row.opens p row.first row.front
-  pub opens : row.opens ≡ (quoted options depth open (rest_from p line)).opens
-  pub closes : row.closes ≡ (quoted options depth open (rest_from p line)).closes
+  pub opens : row.opens ≡ (quoted options depth going (rest_from p line)).opens
+  pub closes : row.closes ≡ (quoted options depth going (rest_from p line)).closes
   -- where the line begins no tab is cut
   pub whole : p.vs ≡ 0
   pub column : 1 ≤ p.column
 
 -- how many quotes are open behind a line
 abbrev pub depth_behind : ParseOptions → ℕ → Bool → Point → List ℕ → ℕ
-depth_behind options depth open p line = (quoted options depth open (rest_from p line)).depth
+depth_behind options depth going p line = (quoted options depth going (rest_from p line)).depth
 
 -- These lines, from this point to the end of the text, where so many quotes are open, and a paragraph or none.
 abbrev pub AreRows : ParseOptions → List ℕ → ℕ → Bool → Point → List (List ℕ) → List Row → Type 0
-AreRows options bytes depth open p (line ∷ []) (row ∷ []) =
-    (is : IsLine options bytes depth open p line row) × (leaves : row.leaves ≡ depth_behind options depth open p line) × (last : row.after ≡ None) × (row.end.index ≡ length bytes)
-AreRows options bytes depth open p (line ∷ next ∷ lines) (row ∷ below ∷ rows) =
-    (is : IsLine options bytes depth open p line row) × (leaves : row.leaves ≡ below.closes) × (q : Point) × (after : row.after ≡ Some q) × (ending : IsEnding bytes row.end q)
-    × AreRows options bytes (depth_behind options depth open p line) (is_text row.kind) q (next ∷ lines) (below ∷ rows)
-AreRows options bytes depth open p _ _ = ⊥
+AreRows options bytes depth going p (line ∷ []) (row ∷ []) =
+    (is : IsLine options bytes depth going p line row) × (leaves : row.leaves ≡ depth_behind options depth going p line) × (last : row.after ≡ None) × (row.end.index ≡ length bytes)
+AreRows options bytes depth going p (line ∷ next ∷ lines) (row ∷ below ∷ rows) =
+    (is : IsLine options bytes depth going p line row) × (leaves : row.leaves ≡ below.closes) × (q : Point) × (after : row.after ≡ Some q) × (ending : IsEnding bytes row.end q)
+    × AreRows options bytes (depth_behind options depth going p line) (is_text row.kind) q (next ∷ lines) (below ∷ rows)
+AreRows options bytes depth going p _ _ = ⊥
 
 -- a slice is cut at a place inside
 pub slice-split : (bytes : List ℕ) (a b c : ℕ) → a ≤ b → b ≤ c → slice_range bytes a c ≡ slice_range bytes a b ++ slice_range bytes b c

@@ -51,10 +51,10 @@ abbrev pub quoted_by : ℕ → ℕ → Prefixed → Quoted
 quoted_by depth keep new = record { closes = depth - keep; opens = new.many; depth = keep + new.many; rest = new.rest }
 
 abbrev pub quoted_of : ParseOptions → ℕ → Bool → ℕ → Prefixed → Quoted
-quoted_of options depth open went new = quoted_by depth (if is_lazy open new.many (line_kind options (rest_line new.rest)) then depth else went) new
+quoted_of options depth going went new = quoted_by depth (if is_lazy going new.many (line_kind options (rest_line new.rest)) then depth else went) new
 
 abbrev pub quoted_behind : ParseOptions → ℕ → Bool → Prefixed → Quoted
-quoted_behind options depth open went = quoted_of options depth open went.many (quotes_new options (length went.rest.bytes) went.rest)
+quoted_behind options depth going went = quoted_of options depth going went.many (quotes_new options (length went.rest.bytes) went.rest)
 
 unfoldable pub quoted : ParseOptions → ℕ → Bool → Rest → Quoted
-quoted options depth open r = quoted_behind options depth open (quotes_on options depth r)
+quoted options depth going r = quoted_behind options depth going (quotes_on options depth r)

@@ -108,17 +108,17 @@ in_front events f = record f { events = events ++ f.events; many = suc f.many }
 -- each of so many open quotes is asked whether it goes on, until one does not
 abbrev pub went_front : ParseOptions → ℕ → List Cell → Point → Front
 went_front options zero cells p = no_front cells p
-went_front options (suc n) cells p =
+went_front options (suc size) cells p =
     if takes_prefix options cells
-    then in_front (prefix_events options cells p) (went_front options n (prefix_rest options cells) (prefix_end options cells p))
+    then in_front (prefix_events options cells p) (went_front options size (prefix_rest options cells) (prefix_end options cells p))
     else no_front cells p
 
 -- quotes open as often as they do, at most so many
 abbrev pub new_front : ParseOptions → ℕ → List Cell → Point → Front
 new_front options zero cells p = no_front cells p
-new_front options (suc n) cells p =
+new_front options (suc size) cells p =
     if options.constructs.block_quote && takes_prefix options cells
-    then in_front (enter n.BlockQuote p ∷ prefix_events options cells p) (new_front options n (prefix_rest options cells) (prefix_end options cells p))
+    then in_front (enter n.BlockQuote p ∷ prefix_events options cells p) (new_front options size (prefix_rest options cells) (prefix_end options cells p))
     else no_front cells p
 
 -- The containers of a line: those before it, whether a paragraph is open, and what goes on and opens.
@@ -141,16 +141,16 @@ held_by depth keep went new = record { front = went.events ++ new.events; opens 
 
 -- whether a line goes on the open paragraph, whatever containers go on (CommonMark 5.1, "laziness")
 abbrev pub is_lazy : Bool → ℕ → RowKind → Bool
-is_lazy open opens kind = open && (opens == 0) && is_text kind
+is_lazy going opens kind = going && (opens == 0) && is_text kind
 
 abbrev pub held_of : ParseOptions → ℕ → Bool → Front → Front → Held
-held_of options depth open went new = held_by depth (if is_lazy open new.many (row_kind options new.cells) then depth else went.many) went new
+held_of options depth going went new = held_by depth (if is_lazy going new.many (row_kind options new.cells) then depth else went.many) went new
 
 abbrev pub held_behind : ParseOptions → ℕ → Bool → Front → Held
-held_behind options depth open went = held_of options depth open went (new_front options (length went.cells) went.cells went.point)
+held_behind options depth going went = held_of options depth going went (new_front options (length went.cells) went.cells went.point)
 
 unfoldable pub held_at : ParseOptions → ℕ → Bool → List Cell → Point → Held
-held_at options depth open cells p = held_behind options depth open (went_front options depth cells p)
+held_at options depth going cells p = held_behind options depth going (went_front options depth cells p)
 
 -- The lines.
 
@@ -181,15 +181,15 @@ rows_by options h further = onto_rows options h (elim (from_ending h.cells) [ []
 
 -- At most so many lines, where so many quotes are open, and a paragraph or none; behind the last ending stands an empty line.
 abbrev pub rows_at : ParseOptions → ℕ → ℕ → Bool → List Cell → Point → List Row
-rows_at options zero depth open cells p = []
-rows_at options (suc size) depth open cells p = rows_by options (held_at options depth open cells p) (rows_at options size)
+rows_at options zero depth going cells p = []
+rows_at options (suc size) depth going cells p = rows_by options (held_at options depth going cells p) (rows_at options size)
 
 -- Events.
 
 -- the ends of so many quotes
 abbrev pub quote_ends : ℕ → Point → List Event
 quote_ends zero p = []
-quote_ends (suc n) p = exit n.BlockQuote p ∷ quote_ends n p
+quote_ends (suc size) p = exit n.BlockQuote p ∷ quote_ends size p
 
 -- the ending of a line
 abbrev pub ending_events : Name → Row → List Event
