@@ -4,9 +4,9 @@ use Rattle.md_engine.specs.declared.event.Name.TheVariants.{BlockQuote, BlockQuo
 use Rattle.md_engine.specs.declared.state.Name.{Name as StateName}
 use Rattle.md_engine.specs.declared.state.Name.TheVariants.{BlockQuoteStart, BlockQuoteContStart, BlockQuoteContBefore, BlockQuoteContAfter}
 use Rattle.md_engine.specs.declared.state.State.TheVariants.{Ok, Nok, Next, Retry}
-use Rattle.md_engine.specs.Scheme.{Scheme, Spot}
+use Rattle.md_engine.specs.Scheme.{After, Scheme, Spot}
 use Rattle.md_engine.specs.World.{World}
-use Rattle.md_seam.specs.Spaces.{is_current, rest_ready, sees_white, small_indent, white_then}
+use Rattle.md_seam.specs.Spaces.{is_current, later_ready, rest_ready, sees_white, small_indent, white_then}
 use Rattle.md_seam.specs.Went.{Went, entered, exited, taken}
 
 -- by whether quotes are on
@@ -52,5 +52,10 @@ abbrev pub quote_tries : StateName → ℕ
 quote_tries BlockQuoteContBefore = 4
 quote_tries _ = 1
 
+-- the prefix ends behind `>`, and so behind the point where it begins
+abbrev pub quote_ready : StateName → Spot → After → Type 0
+quote_ready BlockQuoteContAfter x K = rest_ready x K
+quote_ready _ x K = later_ready x K
+
 abbrev pub quote_scheme : Scheme
-quote_scheme = record { ready = λ n x K. rest_ready x K; level = λ n. 1; rank = quote_rank; tries = quote_tries }
+quote_scheme = record { ready = quote_ready; level = λ n. 1; rank = quote_rank; tries = quote_tries }

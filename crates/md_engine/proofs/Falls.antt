@@ -10,8 +10,8 @@ use Rattle.md_engine.specs.declared.tokenizer.Scratch.{Scratch}
 use Rattle.md_engine.specs.World.{Setting, World}
 use Rattle.md_engine.specs.Place.{seen_at}
 use Rattle.md_engine.specs.Run.{IsEnd, Leaves, goes_back, left, next_of, plain}
-use Rattle.md_engine.specs.Scheme.{After, Ends, Grown, Grows, Reaches, Resumes, Scheme, Spot, Tries, after_all, after_frame, base, cells_before, frame_level, frame_number, frame_rank, frames_work, holds, moved_to, seen, spot, spot_at, stands, state_level, state_number, state_rank, state_work, work}
-use Rattle.md_engine.proofs.Points.{grown-same, grown-then, stays, then_reaches}
+use Rattle.md_engine.specs.Scheme.{After, Ends, EndsLater, Grown, Grows, Passes, Reaches, Resumes, Scheme, Spot, Tries, TriesLater, after_all, after_frame, base, cells_before, frame_level, frame_number, frame_rank, frames_work, holds, moved_to, seen, spot, spot_at, stands, state_level, state_number, state_rank, state_work, work}
+use Rattle.md_engine.proofs.Points.{grown-same, grown-then, passes-reaches, passes_then, stays, then_passes, then_reaches}
 use Rattle.md_engine.proofs.Powers.{weighs}
 
 pub number-small : (T : Scheme) (n : StateName) (x : Spot) → state_number T (Next n) x < base x.setting.limit
@@ -26,6 +26,30 @@ later_at P Q x K q t s g r e = record {
 
 pub later : (P Q : Scratch → Type 0) (x : Spot) (K : After) (q : Point) (s : Scratch) → Reaches x.setting.limit x.point q → Ends P Q x K → Ends P Q (moved_to x q s) K
 later P Q x K q s r e = later_at P Q x K q x.setting s (grown-same x.setting) r e
+
+-- the same of a construct that accepts only behind the point where it begins
+pub passing_at : (P Q : Scratch → Type 0) (x : Spot) (K : After) (q : Point) (t : Setting) (s : Scratch) → Grown x.setting t → Reaches t.limit x.point q → EndsLater P Q x K → EndsLater P Q (spot_at t q s) K
+passing_at P Q x K q t s g r e = record {
+  ok = λ v p u is up way. e.ok v p u is (grown-then x.setting t u g up) (then_passes t.limit u.limit x.point q p up.limit r way);
+  nok = λ v p u is up. e.nok v p u is (grown-then x.setting t u g up);
+}
+
+pub passing : (P Q : Scratch → Type 0) (x : Spot) (K : After) (q : Point) (s : Scratch) → Reaches x.setting.limit x.point q → EndsLater P Q x K → EndsLater P Q (moved_to x q s) K
+passing P Q x K q s r e = passing_at P Q x K q x.setting s (grown-same x.setting) r e
+
+-- behind that point it may accept everywhere
+pub passed_at : (P Q : Scratch → Type 0) (x : Spot) (K : After) (q : Point) (t : Setting) (s : Scratch) → Grown x.setting t → Passes t.limit x.point q → EndsLater P Q x K → Ends P Q (spot_at t q s) K
+passed_at P Q x K q t s g r e = record {
+  ok = λ v p u is up way. e.ok v p u is (grown-then x.setting t u g up) (passes_then t.limit u.limit x.point q p up.limit r way);
+  nok = λ v p u is up. e.nok v p u is (grown-then x.setting t u g up);
+}
+
+pub passed : (P Q : Scratch → Type 0) (x : Spot) (K : After) (q : Point) (s : Scratch) → Passes x.setting.limit x.point q → EndsLater P Q x K → Ends P Q (moved_to x q s) K
+passed P Q x K q s r e = passed_at P Q x K q x.setting s (grown-same x.setting) r e
+
+-- what may end everywhere may end later
+pub ends-later : (P Q : Scratch → Type 0) (x : Spot) (K : After) → Ends P Q x K → EndsLater P Q x K
+ends-later P Q x K e = record { ok = λ s q t is up way. e.ok s q t is up (passes-reaches t.limit x.point q way); nok = e.nok }
 
 -- what is seen stays, when more may be read
 pub seen_grows : (x : Spot) (t : Setting) (s : Scratch) (b : ℕ) → Grown x.setting t → seen x ≡ Some b → seen (spot_at t x.point s) ≡ Some b
@@ -53,12 +77,18 @@ resumes T f st x K p same r h l k = record { stands = h; level = l; falls = go s
     go (Retry n) (inl e) k = let less = k (sym e) in rw (same, e) (omega arith)
     go (Retry n) (inr lt) k = rw same (omega (arith, lt.0, lt.1))
 
+-- what is tried refuses as is owed
+refused : (T : Scheme) (f : Frame) (Q : Scratch → Type 0) (x : Spot) (K : After) → f.point ≡ x.point → ((s : Scratch) (t : Setting) → Q s → Grown x.setting t → holds T f.nok (spot_at t x.point s) K) →
+    state_level T f.nok ≤ frame_level T f → ((s : Scratch) (t : Setting) → Q s → Grown x.setting t → state_rank T f.nok (spot_at t x.point s) < frame_rank T f + 1) →
+    (s : Scratch) (t : Setting) → Q s → Grown x.setting t → Resumes T f f.nok (spot_at t f.point s) K
+refused T f Q x K same h level rank s t is up =
+    let P' : Point → Type 0 = λ p. Resumes T f f.nok (spot_at t p s) K in
+    subst P' (sym same) (resumes T f f.nok (spot_at t x.point s) K x.point same (stays t.limit x.point) (h s t is up) level (λ e. rank s t is up))
+
 pub tries : (T : Scheme) (f : Frame) (P Q : Scratch → Type 0) (x : Spot) (K : After) → f.point ≡ x.point → Tries T f P Q x K → Ends P Q x (after_frame T f K)
 tries T f P Q x K same h = record {
   ok = λ s q t is up way. go f.is_check s q t is up way (h.ok s q t is up way);
-  nok = λ s q t is up.
-      let P' : Point → Type 0 = λ p. Resumes T f f.nok (spot_at t p s) K in
-      subst P' (sym same) (resumes T f f.nok (spot_at t x.point s) K x.point same (stays t.limit x.point) (h.nok s t is up) h.nok_level (λ e. h.nok_rank s t is up));
+  nok = λ s q t is up. refused T f Q x K same h.nok h.nok_level h.nok_rank s t is up;
 }
   where
     go : (b : Bool) (s : Scratch) (q : Point) (t : Setting) → P s → Grown x.setting t → Reaches t.limit x.point q → holds T f.ok (cond b (spot_at t x.point s) (spot_at t q s)) K → Resumes T f f.ok (cond b (spot_at t f.point s) (spot_at t q s)) K
@@ -67,6 +97,17 @@ tries T f P Q x K same h = record {
         subst P' (sym same) (resumes T f f.ok (spot_at t x.point s) K x.point same (stays t.limit x.point) k h.ok_level (λ e. h.ok_rank s t is up))
     go false s q t is up way k = resumes T f f.ok (spot_at t q s) K x.point same way k h.ok_level (λ e.
         let P' : Point → Type 0 = λ p. state_rank T f.ok (spot_at t p s) < frame_rank T f + 1 in subst P' (sym e) (h.ok_rank s t is up))
+
+pub tries_later : (T : Scheme) (f : Frame) (P Q : Scratch → Type 0) (x : Spot) (K : After) → f.point ≡ x.point → TriesLater T f P Q x K → EndsLater P Q x (after_frame T f K)
+tries_later T f P Q x K same h = record {
+  ok = λ s q t is up way. go f.is_check h.moves_on s q t way (h.ok s q t is up way);
+  nok = λ s q t is up. refused T f Q x K same h.nok h.nok_level h.nok_rank s t is up;
+}
+  where
+    go : (b : Bool) → b ≡ false → (s : Scratch) (q : Point) (t : Setting) → Passes t.limit x.point q → holds T f.ok (spot_at t q s) K → Resumes T f f.ok (cond b (spot_at t f.point s) (spot_at t q s)) K
+    go true e s q t way k = absurd (cc)
+    go false e s q t way k = resumes T f f.ok (spot_at t q s) K x.point same (passes-reaches t.limit x.point q way) k h.ok_level (λ e.
+        let none : cells_before q ≡ cells_before x.point = ap cells_before e in absurd (omega (arith, none, way.cells)))
 
 -- more of the text may be read, between two pushes
 pub stands_grows : (T : Scheme) (w : World) (n : StateName) (t : Setting) (c : Option ℕ) → Grows T → stands T w (Next n) → Grown w.setting t → stands T (record w { setting = t; current = c }) (Next n)

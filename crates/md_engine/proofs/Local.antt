@@ -8,8 +8,8 @@ use Rattle.md_engine.specs.declared.state.State.TheVariants.{Error, Ok, Nok, Nex
 use Rattle.md_engine.specs.declared.tokenizer.Frame.{Frame}
 use Rattle.md_engine.specs.declared.tokenizer.Scratch.{Scratch}
 use Rattle.md_engine.specs.World.{World, after}
-use Rattle.md_engine.specs.Scheme.{Reaches, after_frame, Spot, spot, moved_to, After, Scheme, state_level, state_rank, state_number, keyed, frame_level, frame_rank, frame_number, base, frames_work, work, holds, after_all, Ends, Tries, Good, Fits, FitsState, of_owners}
-use Rattle.md_engine.proofs.Falls.{later, tries}
+use Rattle.md_engine.specs.Scheme.{Reaches, after_frame, Spot, spot, moved_to, After, Scheme, state_level, state_rank, state_number, keyed, frame_level, frame_rank, frame_number, base, frames_work, work, holds, after_all, Ends, EndsLater, Tries, TriesLater, Good, Fits, FitsState, of_owners}
+use Rattle.md_engine.proofs.Falls.{later, tries, tries_later}
 use Rattle.md_engine.proofs.Points.{cells-fall, grown-same, stays}
 use Rattle.md_engine.proofs.Powers.{weighs, weighs_with}
 
@@ -53,6 +53,10 @@ accepts T n w P Q events s e is = (e.ok s w.point w.setting is (grown-same w.set
 pub refuses : (T : Scheme) (n : StateName) (w : World) (P Q : Scratch → Type 0) (events : List Event) (s : Scratch) → Ends P Q (spot w) (after_all T w.frames) → Q s →
     Good T n w Nok (record w { events = events; scratch = s })
 refuses T n w P Q events s e is = (e.nok s w.point w.setting is (grown-same w.setting), omega (arith, ends-falls T w n))
+
+pub refuses_later : (T : Scheme) (n : StateName) (w : World) (P Q : Scratch → Type 0) (events : List Event) (s : Scratch) → EndsLater P Q (spot w) (after_all T w.frames) → Q s →
+    Good T n w Nok (record w { events = events; scratch = s })
+refuses_later T n w P Q events s e is = (e.nok s w.point w.setting is (grown-same w.setting), omega (arith, ends-falls T w n))
 
 holds_by : (T own : Scheme) (st : State) (x : Spot) (K : After) → FitsState T own st → holds own st x K → holds T st x K
 holds_by T own Ok x K f h = h
@@ -108,18 +112,27 @@ tries_by T own f P Q x K a b t =
       nok_rank = λ s v is up. rw (r, rank_by T own f.nok _ b) (t.nok_rank s v is up);
     }
 
--- an attempt at another construct, of a lower level, here or behind the cell that is here
-pub begins_at : (T own inner : Scheme) (n m : StateName) (w : World) (P Q : Scratch → Type 0) (events : List Event) (q : Point) (s : Scratch) (f : Frame) → Reaches w.setting.limit w.point q →
+tries_later_by : (T own : Scheme) (f : Frame) (P Q : Scratch → Type 0) (x : Spot) (K : After) → FitsState T own f.ok → FitsState T own f.nok → TriesLater own f P Q x K → TriesLater T f P Q x K
+tries_later_by T own f P Q x K a b t =
+    let low = keyed_by T own (λ (S : Scheme). S.level) f.nok f.ok b a (λ n h. h.level) in
+    let r = keyed_by T own (λ (S : Scheme). S.tries) f.nok f.ok b a (λ n h. h.tries) in
+    record {
+      moves_on = t.moves_on;
+      ok = λ s q v is up way. holds_by T own f.ok _ K a (t.ok s q v is up way);
+      ok_level = rw (low, level_by T own f.ok a) t.ok_level;
+      nok = λ s v is up. holds_by T own f.nok _ K b (t.nok s v is up);
+      nok_level = rw (low, level_by T own f.nok b) t.nok_level;
+      nok_rank = λ s v is up. rw (r, rank_by T own f.nok _ b) (t.nok_rank s v is up);
+    }
+
+-- an attempt at another construct, of a lower level, that is ready there
+begins_ready : (T own inner : Scheme) (n m : StateName) (w : World) (events : List Event) (q : Point) (s : Scratch) (f : Frame) →
     Fits T own n → Fits T inner m → FitsState T own f.ok → FitsState T own f.nok → f.point ≡ w.point →
-    Tries own f P Q (moved_to (spot w) w.point s) (after_all T w.frames) →
-    ((K : After) → Ends P Q (moved_to (spot w) q s) K → inner.ready m (moved_to (spot w) q s) K) →
+    inner.ready m (moved_to (spot w) q s) (after_frame T f (after_all T w.frames)) →
     inner.level m < own.level n → frame_level own f ≤ own.level n → frame_rank own f < own.rank n (spot w) % 64 →
     Good T n w (Next m) (record w { events = events; frames = f ∷ w.frames; point = q; scratch = s })
-begins_at T own inner n m w P Q events q s f way fn fm fo fk same t r low le lt =
-    let x : Spot = moved_to (spot w) w.point s in
+begins_ready T own inner n m w events q s f fn fm fo fk same r low le lt =
     let y : Spot = moved_to (spot w) q s in
-    let e = tries T f P Q x (after_all T w.frames) same (tries_by T own f P Q x (after_all T w.frames) fo fk t) in
-    let e2 : Ends P Q y (after_frame T f (after_all T w.frames)) = later P Q x (after_frame T f (after_all T w.frames)) q s way e in
     let a = fm.level in let b = fn.level in let d = fn.rank (spot w) in
     let l : frame_level T f ≡ frame_level own f = keyed_by T own (λ (S : Scheme). S.level) f.nok f.ok fk fo (λ n h. h.level) in
     let k : frame_rank T f ≡ frame_rank own f = ap (λ (r : ℕ). r % 64) (keyed_by T own (λ (S : Scheme). S.tries) f.nok f.ok fk fo (λ n h. h.tries)) in
@@ -129,7 +142,20 @@ begins_at T own inner n m w P Q events q s f way fn fm fo fk same t r low le lt 
     let number : frame_number T w.setting.limit f < state_number T (Next n) (spot w) = rw same (omega (arith, less)) in
     let small : state_number T (Next m) y < base w.setting.limit = omega arith in
     let all = weighs_with w.setting.limit (state_number T (Next m) y) (frame_number T w.setting.limit f) (state_number T (Next n) (spot w)) (T.level m) (frame_level T f) (T.level n) number under small lower in
-    (fm.ready y _ (r _ e2), omega (arith, all))
+    (fm.ready y _ r, omega (arith, all))
+
+-- here or behind the cell that is here
+pub begins_at : (T own inner : Scheme) (n m : StateName) (w : World) (P Q : Scratch → Type 0) (events : List Event) (q : Point) (s : Scratch) (f : Frame) → Reaches w.setting.limit w.point q →
+    Fits T own n → Fits T inner m → FitsState T own f.ok → FitsState T own f.nok → f.point ≡ w.point →
+    Tries own f P Q (moved_to (spot w) w.point s) (after_all T w.frames) →
+    ((K : After) → Ends P Q (moved_to (spot w) q s) K → inner.ready m (moved_to (spot w) q s) K) →
+    inner.level m < own.level n → frame_level own f ≤ own.level n → frame_rank own f < own.rank n (spot w) % 64 →
+    Good T n w (Next m) (record w { events = events; frames = f ∷ w.frames; point = q; scratch = s })
+begins_at T own inner n m w P Q events q s f way fn fm fo fk same t r low le lt =
+    let x : Spot = moved_to (spot w) w.point s in
+    let e = tries T f P Q x (after_all T w.frames) same (tries_by T own f P Q x (after_all T w.frames) fo fk t) in
+    let e2 : Ends P Q (moved_to (spot w) q s) (after_frame T f (after_all T w.frames)) = later P Q x (after_frame T f (after_all T w.frames)) q s way e in
+    begins_ready T own inner n m w events q s f fn fm fo fk same (r _ e2) low le lt
 
 pub begins_try : (T own inner : Scheme) (n m : StateName) (w : World) (P Q : Scratch → Type 0) (events : List Event) (s : Scratch) (f : Frame) →
     Fits T own n → Fits T inner m → FitsState T own f.ok → FitsState T own f.nok → f.point ≡ w.point →
@@ -138,3 +164,15 @@ pub begins_try : (T own inner : Scheme) (n m : StateName) (w : World) (P Q : Scr
     inner.level m < own.level n → frame_level own f ≤ own.level n → frame_rank own f < own.rank n (spot w) % 64 →
     Good T n w (Next m) (record w { events = events; frames = f ∷ w.frames; scratch = s })
 begins_try T own inner n m w P Q events s f = begins_at T own inner n m w P Q events w.point s f (stays w.setting.limit w.point)
+
+-- an attempt here at a construct that accepts only behind the point where it begins
+pub begins_later : (T own inner : Scheme) (n m : StateName) (w : World) (P Q : Scratch → Type 0) (events : List Event) (s : Scratch) (f : Frame) →
+    Fits T own n → Fits T inner m → FitsState T own f.ok → FitsState T own f.nok → f.point ≡ w.point →
+    TriesLater own f P Q (moved_to (spot w) w.point s) (after_all T w.frames) →
+    ((K : After) → EndsLater P Q (moved_to (spot w) w.point s) K → inner.ready m (moved_to (spot w) w.point s) K) →
+    inner.level m < own.level n → frame_level own f ≤ own.level n → frame_rank own f < own.rank n (spot w) % 64 →
+    Good T n w (Next m) (record w { events = events; frames = f ∷ w.frames; scratch = s })
+begins_later T own inner n m w P Q events s f fn fm fo fk same t r low le lt =
+    let x : Spot = moved_to (spot w) w.point s in
+    let e = tries_later T f P Q x (after_all T w.frames) same (tries_later_by T own f P Q x (after_all T w.frames) fo fk t) in
+    begins_ready T own inner n m w events w.point s f fn fm fo fk same (r _ e) low le lt

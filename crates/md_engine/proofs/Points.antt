@@ -5,7 +5,7 @@ use Rattle.std.proofs.lemmas.Bool.{eqb-false}
 use Rattle.std.proofs.lemmas.Bool.Decides.{nat_tests}
 use Rattle.md_engine.specs.declared.event.Point.{Point}
 use Rattle.md_engine.specs.Place.{begun_at, is_ending, is_pair}
-use Rattle.md_engine.specs.Scheme.{Grown, Reaches, cells_before, cells_left}
+use Rattle.md_engine.specs.Scheme.{Grown, Passes, Reaches, cells_before, cells_left}
 use Rattle.md_engine.specs.World.{Setting, after, line_begun}
 
 -- a point that lies so much later
@@ -56,6 +56,25 @@ then_reaches limit l p q r le a b = record { cells = go a.cells b.cells; before 
     go (inl e) (inr lt) = inr (rw e lt)
     go (inr lt) (inl k) = let P : Point → Type 0 = λ t. (cells_before p < cells_before t) × (p.index < l) in let h : P q = (lt.0, omega (arith, lt.1)) in inr (subst P k h)
     go (inr lt) (inr k) = inr (omega (arith, lt.0, k.0), omega (arith, lt.1))
+
+-- behind what stands here
+pub takes_past : (x : Setting) (p : Point) → p.index < x.limit → Passes x.limit p (after x p)
+takes_past x p lt = let more = cells-grow x p in record { cells = omega (arith, more); inside = lt }
+
+pub passes-reaches : (limit : ℕ) (p q : Point) → Passes limit p q → Reaches limit p q
+passes-reaches limit p q h = record { cells = inr (h.cells, h.inside); before = omega (arith, h.cells) }
+
+-- what is passed from a later point, or from the same, is passed
+pub then_passes : (limit l : ℕ) (p q r : Point) → limit ≤ l → Reaches limit p q → Passes l q r → Passes l p r
+then_passes limit l p q r le a b = go a.cells
+  where
+    go : (p ≡ q) ⊎ ((cells_before p < cells_before q) × (p.index < limit)) → Passes l p r
+    go (inl e) = rw e b
+    go (inr lt) = record { cells = omega (arith, lt.0, b.cells); inside = omega (arith, lt.1) }
+
+-- a point that is passed stays so
+pub passes_then : (limit l : ℕ) (p q r : Point) → limit ≤ l → Passes limit p q → Reaches l q r → Passes l p r
+passes_then limit l p q r le a b = record { cells = omega (arith, a.cells, b.before); inside = omega (arith, a.inside) }
 
 -- the setting itself
 pub grown-same : (x : Setting) → Grown x x

@@ -2,7 +2,7 @@
 --
 -- A construct says what each of its states needs, and how far it is from taking what stands here. What follows an attempt
 -- is told to it as an `After`: what is asked where it ends. So no construct looks at the attempts around it.
-use Rattle.std.specs.Prelude.{◌≡◌, ℕ, zero, suc, ◌+◌, ◌-◌, ◌*◌, ◌%◌, ◌<◌, ◌≤◌, ◌⊎◌, if◌then◌else◌, List, [], ◌∷◌, Option}
+use Rattle.std.specs.Prelude.{◌≡◌, ℕ, zero, suc, ◌+◌, ◌-◌, ◌*◌, ◌%◌, ◌<◌, ◌≤◌, ◌⊎◌, false, if◌then◌else◌, List, [], ◌∷◌, Option}
 use Rattle.md_engine.specs.declared.event.Point.{Point}
 use Rattle.md_engine.specs.declared.state.Name.{Name as StateName}
 use Rattle.md_engine.specs.declared.state.State.{State}
@@ -145,9 +145,19 @@ pub record Reaches (limit : ℕ) (p q : Point) : Type 0 where
   pub cells : (p ≡ q) ⊎ ((cells_before p < cells_before q) × (p.index < limit))
   pub before : cells_before p ≤ cells_before q
 
+-- a later point
+pub record Passes (limit : ℕ) (p q : Point) : Type 0 where
+  pub cells : cells_before p < cells_before q
+  pub inside : p.index < limit
+
 -- wherever a construct ends with such scratch, one may go on
 pub record Ends (P Q : Scratch → Type 0) (x : Spot) (K : After) : Type 0 where
   pub ok : (s : Scratch) (q : Point) (t : Setting) → P s → Grown x.setting t → Reaches t.limit x.point q → K.ok (spot_at t q s)
+  pub nok : (s : Scratch) (q : Point) (t : Setting) → Q s → Grown x.setting t → K.nok (spot_at t q s)
+
+-- the same of a construct that accepts only behind the point where it begins
+pub record EndsLater (P Q : Scratch → Type 0) (x : Spot) (K : After) : Type 0 where
+  pub ok : (s : Scratch) (q : Point) (t : Setting) → P s → Grown x.setting t → Passes t.limit x.point q → K.ok (spot_at t q s)
   pub nok : (s : Scratch) (q : Point) (t : Setting) → Q s → Grown x.setting t → K.nok (spot_at t q s)
 
 -- what an attempt owes when it begins: what it goes on with is ready, and below what it sets aside
@@ -155,6 +165,16 @@ pub record Tries (T : Scheme) (f : Frame) (P Q : Scratch → Type 0) (x : Spot) 
   pub ok : (s : Scratch) (q : Point) (t : Setting) → P s → Grown x.setting t → Reaches t.limit x.point q → holds T f.ok (if f.is_check then spot_at t x.point s else spot_at t q s) K
   pub ok_level : state_level T f.ok ≤ frame_level T f
   pub ok_rank : (s : Scratch) (t : Setting) → P s → Grown x.setting t → state_rank T f.ok (spot_at t x.point s) < frame_rank T f + 1
+  pub nok : (s : Scratch) (t : Setting) → Q s → Grown x.setting t → holds T f.nok (spot_at t x.point s) K
+  pub nok_level : state_level T f.nok ≤ frame_level T f
+  pub nok_rank : (s : Scratch) (t : Setting) → Q s → Grown x.setting t → state_rank T f.nok (spot_at t x.point s) < frame_rank T f + 1
+
+-- what an attempt that is no check owes, where what it tries accepts only behind the point where it begins: there so much less is
+-- left that what it goes on with may have any rank
+pub record TriesLater (T : Scheme) (f : Frame) (P Q : Scratch → Type 0) (x : Spot) (K : After) : Type 0 where
+  pub moves_on : f.is_check ≡ false
+  pub ok : (s : Scratch) (q : Point) (t : Setting) → P s → Grown x.setting t → Passes t.limit x.point q → holds T f.ok (spot_at t q s) K
+  pub ok_level : state_level T f.ok ≤ frame_level T f
   pub nok : (s : Scratch) (t : Setting) → Q s → Grown x.setting t → holds T f.nok (spot_at t x.point s) K
   pub nok_level : state_level T f.nok ≤ frame_level T f
   pub nok_rank : (s : Scratch) (t : Setting) → Q s → Grown x.setting t → state_rank T f.nok (spot_at t x.point s) < frame_rank T f + 1

@@ -10,14 +10,14 @@ use Rattle.md_engine.specs.declared.state.State.TheVariants.{Nok, Next, Ok}
 use Rattle.md_engine.specs.declared.state.State.{State}
 use Rattle.md_engine.specs.declared.event.Name.TheVariants.{SpaceOrTab}
 use Rattle.md_engine.specs.declared.tokenizer.Scratch.{Scratch}
-use Rattle.md_engine.specs.Scheme.{After, Ends, Fits, Good, Grown, Reaches, Scheme, Spot, after_all, seen, spot, spot_at, stands, state_number, work}
+use Rattle.md_engine.specs.Scheme.{After, Ends, EndsLater, Fits, Good, Grown, Reaches, Scheme, Spot, after_all, seen, spot, spot_at, stands, state_number, work}
 use Rattle.md_engine.specs.Run.{plain}
 use Rattle.md_engine.specs.World.{Setting, World, after}
-use Rattle.md_engine.proofs.Falls.{later, later_at}
+use Rattle.md_engine.proofs.Falls.{later, later_at, passing_at}
 use Rattle.md_engine.proofs.Local.{accepts, begins_try, consumes, refuses, turns}
 use Rattle.md_engine.proofs.Points.{cells-grow, grown-same, stays, takes}
 use Rattle.md_engine.proofs.Powers.{weighs}
-use Rattle.md_seam.specs.Spaces.{IsRest, after_code, asking, calmed, inside_code, rest_ready, start_code, white_ready, white_scheme, white_then}
+use Rattle.md_seam.specs.Spaces.{IsRest, after_code, asking, calmed, inside_code, later_ready, rest_ready, start_code, white_ready, white_scheme, white_then}
 use Rattle.md_seam.specs.Went.{Went, entered, exited}
 
 -- what a state does keeps what the table needs, and falls; no state changes the setting
@@ -59,6 +59,9 @@ ends-grow P Q x K t e up = later_at P Q x K x.point t x.scratch up (stays t.limi
 
 pub rest-grows : (x : Spot) (K : After) (t : Setting) → rest_ready x K → Grown x.setting t → rest_ready (record x { setting = t }) K
 rest-grows x K t r up = (r.0, ends-grow _ _ x K t r.1 up)
+
+pub later-grows : (x : Spot) (K : After) (t : Setting) → later_ready x K → Grown x.setting t → later_ready (record x { setting = t }) K
+later-grows x K t r up = (r.0, passing_at _ _ x K x.point t x.scratch up (stays t.limit x.point) r.1)
 
 -- at rest no whitespace is asked for
 pub rest-calm : (s : Scratch) → IsRest s → IsRest (calmed s)
@@ -103,24 +106,44 @@ good_after T w false has r e =
     asked : 0 < w.scratch.whitespace.min
     asked = grind (arith, nat_tests)
 
--- an attempt at whitespace that goes on with a state of the construct, or refuses as the construct does
-pub white_try : (T own : Scheme) (name next : StateName) (w : World) (events : List Event) (s : Scratch) (min max : ℕ) (P Q : Scratch → Type 0) → WhiteFits T → Fits T own name → Fits T own next →
-    s.whitespace.size ≡ 0 → (0 < min → Q (calmed s)) → Ends P Q (spot w) (after_all T w.frames) →
+-- an attempt at whitespace that goes on with a state of the construct, or refuses where the construct may
+white_else : (T own : Scheme) (name next : StateName) (w : World) (events : List Event) (s : Scratch) (min max : ℕ) → WhiteFits T → Fits T own name → Fits T own next →
+    s.whitespace.size ≡ 0 → ((t : Setting) → 0 < min → Grown w.setting t → (after_all T w.frames).nok (spot_at t w.point (calmed s))) →
     ((q : Point) (t : Setting) → Grown w.setting t → Reaches t.limit w.point q → own.ready next (spot_at t q (calmed s)) (after_all T w.frames)) →
     own.level next ≤ own.level name → 0 < own.level name →
     ((t : Setting) → Grown w.setting t → own.rank next (spot_at t w.point (calmed s)) % 64 < own.tries next % 64) → own.tries next % 64 < own.rank name (spot w) % 64 →
     Does T name w (white_then (record w { events = events; scratch = s }) min max (Next next) Nok)
-white_try T own name next w events s min max P Q white fn fx none calm ends r le pos low lt = (
+white_else T own name next w events s min max white fn fx none refuse r le pos low lt = (
   begins_try T own white_scheme name n.SpaceOrTabStart w (λ t. t ≡ calmed s) (λ t. (t ≡ calmed s) × (0 < min)) events (asking min max 0 s)
       (record { ok = Next next; nok = Nok; is_check = false; events_len = length events; point = w.point }) fn white.start fx tt refl
       (record {
         ok = λ t q v is up way. rw is (r q v up way);
         ok_level = omega arith;
         ok_rank = λ t v is up. rw is (omega (arith, low v up));
-        nok = λ t v is up. rw is.0 (ends.nok (calmed s) w.point v (calm is.1) up);
+        nok = λ t v is up. rw is.0 (refuse v is.1 up);
         nok_level = omega arith;
         nok_rank = λ t v is up. omega arith;
       })
       (λ K e. (omega arith, e)) pos le lt,
   refl,
 )
+
+-- the same, where it refuses as the construct does
+pub white_try : (T own : Scheme) (name next : StateName) (w : World) (events : List Event) (s : Scratch) (min max : ℕ) (P Q : Scratch → Type 0) → WhiteFits T → Fits T own name → Fits T own next →
+    s.whitespace.size ≡ 0 → (0 < min → Q (calmed s)) → Ends P Q (spot w) (after_all T w.frames) →
+    ((q : Point) (t : Setting) → Grown w.setting t → Reaches t.limit w.point q → own.ready next (spot_at t q (calmed s)) (after_all T w.frames)) →
+    own.level next ≤ own.level name → 0 < own.level name →
+    ((t : Setting) → Grown w.setting t → own.rank next (spot_at t w.point (calmed s)) % 64 < own.tries next % 64) → own.tries next % 64 < own.rank name (spot w) % 64 →
+    Does T name w (white_then (record w { events = events; scratch = s }) min max (Next next) Nok)
+white_try T own name next w events s min max P Q white fn fx none calm ends =
+    white_else T own name next w events s min max white fn fx none (λ t some up. ends.nok (calmed s) w.point t (calm some) up)
+
+-- and the construct accepts only behind the point where it begins
+pub white_try_later : (T own : Scheme) (name next : StateName) (w : World) (events : List Event) (s : Scratch) (min max : ℕ) (P Q : Scratch → Type 0) → WhiteFits T → Fits T own name → Fits T own next →
+    s.whitespace.size ≡ 0 → (0 < min → Q (calmed s)) → EndsLater P Q (spot w) (after_all T w.frames) →
+    ((q : Point) (t : Setting) → Grown w.setting t → Reaches t.limit w.point q → own.ready next (spot_at t q (calmed s)) (after_all T w.frames)) →
+    own.level next ≤ own.level name → 0 < own.level name →
+    ((t : Setting) → Grown w.setting t → own.rank next (spot_at t w.point (calmed s)) % 64 < own.tries next % 64) → own.tries next % 64 < own.rank name (spot w) % 64 →
+    Does T name w (white_then (record w { events = events; scratch = s }) min max (Next next) Nok)
+white_try_later T own name next w events s min max P Q white fn fx none calm ends =
+    white_else T own name next w events s min max white fn fx none (λ t some up. ends.nok (calmed s) w.point t (calm some) up)

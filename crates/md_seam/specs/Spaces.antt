@@ -9,7 +9,7 @@ use Rattle.md_engine.specs.declared.tokenizer.Scratch.{Scratch}
 use Rattle.md_engine.specs.declared.tokenizer.TheConstants.Scratch.{REST}
 use Rattle.md_engine.specs.declared.configuration.ParseOptions.{ParseOptions}
 use Rattle.md_engine.specs.World.{World}
-use Rattle.md_engine.specs.Scheme.{Spot, After, Scheme, Ends, cells_before}
+use Rattle.md_engine.specs.Scheme.{Spot, After, Scheme, Ends, EndsLater, cells_before}
 use Rattle.md_seam.specs.Rest.{is_white}
 use Rattle.md_seam.specs.Went.{Went, entered, exited, taken, tried}
 
@@ -96,3 +96,7 @@ IsRest s = s ≡ REST
 
 abbrev pub rest_ready : Spot → After → Type 0
 rest_ready x K = IsRest x.scratch × Ends IsRest IsRest x K
+
+-- one that accepts only behind the point where it begins
+abbrev pub later_ready : Spot → After → Type 0
+later_ready x K = IsRest x.scratch × EndsLater IsRest IsRest x K
