@@ -5,11 +5,11 @@ use Rattle.md_program.specs.Listing.{Listing}
 use Rattle.md_seam.specs.Meaning.{tree}
 use Rattle.md_seam.specs.Outline.{outline}
 
--- what is asked for, as far as it is there: ATX headings and breaks alone
+-- what is asked for, as far as it is there: block quotes, ATX headings and breaks alone
 abbrev pub built_from : ParseOptions → ParseOptions
 built_from options = record {
   constructs = record {
-    block_quote = false;
+    block_quote = options.constructs.block_quote;
     code_fenced = false;
     code_indented = false;
     definition = false;

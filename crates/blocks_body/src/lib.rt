@@ -32,7 +32,7 @@ const NONE: Constructs = Constructs {
     mdx_jsx_text: false,
 };
 
-/// The parser of blocks. Of the constructs it has ATX headings and thematic breaks, and turns the others off.
+/// The parser of blocks. Of the constructs it has block quotes, ATX headings and thematic breaks, and turns the others off.
 pub struct Blocks;
 
 impl Body for Blocks {
@@ -47,6 +47,7 @@ impl Body for Blocks {
     fn built(options: ParseOptions) -> ParseOptions {
         ParseOptions {
             constructs: Constructs {
+                block_quote: options.constructs.block_quote,
                 heading_atx: options.constructs.heading_atx,
                 thematic_break: options.constructs.thematic_break,
                 ..NONE

@@ -38,6 +38,7 @@ fn printed(alloc: Global, text: &str, is_on: bool) -> Result<String, Message>
 {
     let options = ParseOptions {
         constructs: Constructs {
+            block_quote: is_on,
             heading_atx: is_on,
             thematic_break: is_on,
             ..NONE
@@ -121,8 +122,44 @@ fn reads_texts(rt: HostRuntime) {
 }
 
 #[test]
-fn reads_texts_without_headings_and_breaks(rt: HostRuntime) {
-    check(&rt, rt.alloc(), "***\n\n# a", false, "p|***|p|# a|");
+fn reads_quotes(rt: HostRuntime) {
+    for (text, want) in [
+        (">", "q"),
+        (">a\n>\n>b", "qp|a|p|b|"),
+        ("> > a\n> b", "qqp|a||b|"),
+        ("> a\n***", "qp|a|b"),
+        ("> a\n> # b\nc", "qp|a|#|b|p|c|"),
+        ("> # a\nb", "q#|a|p|b|"),
+        ("> a\nb", "qp|a||b|"),
+        (">a\nb\n>c", "qp|a||b||c|"),
+        ("> a\n\nb", "qp|a|p|b|"),
+        (">\n> a", "qp|a|"),
+        ("> > a\nb\n> c", "qqp|a||b||c|"),
+        ("> a\n    b", "qp|a||b|"),
+        (">     ", "q"),
+        (">\t> a", "qqp|a|"),
+        (">\ta\n>\t\tb", "qp|a||b|"),
+        ("> # a\n>\n> b", "q#|a|p|b|"),
+        (" > a\n  > b\n   > c", "qp|a||b||c|"),
+        ("\u{feff}> a\r\n> b\rc", "qp|a||b||c|"),
+        ("a\n> b\n\n> c", "p|a|qp|b|qp|c|"),
+        ("> a\n>> b\n> c\n***", "qp|a|qp|b||c|b"),
+    ] {
+        if text.len() <= usize::MAX / 8 {
+            check(&rt, rt.alloc(), text, true, want);
+        }
+    }
+}
+
+#[test]
+fn reads_texts_without_constructs(rt: HostRuntime) {
+    check(
+        &rt,
+        rt.alloc(),
+        "***\n\n# a\n> b",
+        false,
+        "p|***|p|# a||> b|",
+    );
 }
 
 // So many times the same text.

@@ -336,6 +336,13 @@ list -
   item
 
 CommonMark 5.1 | commonmark | block_quote
+">\t> a"
+quote
+  quote
+    paragraph
+      | a
+
+CommonMark 5.1 | commonmark | block_quote
 "> \ta"
 quote
   paragraph
