@@ -1,5 +1,6 @@
 #!/usr/bin/env python3
-"""Measures the built program `blocks` on 1, 2, 4 and 8 MB of paragraphs and breaks, and on 10,000 to 80,000 headings.
+"""Measures the built program `blocks` on 1, 2, 4 and 8 MB of paragraphs and breaks, on 10,000 to 80,000 headings, on 1, 2, 4 and 8
+MB of quotes, and on 1,000 to 8,000 lines in 1,000 quotes.
 
 `rt run` in crates/blocks builds it as crates/blocks/out/blocks. Each line of the report has the size of the text, the time
 from the start of the process to its end, the text read in a second, and the most memory that the process held (at least
@@ -19,6 +20,8 @@ MEGABYTE = 1_000_000
 PARAGRAPH = "Some words of a paragraph, which goes on for a line or two,\nand *ends* here.\n\n"
 BREAK = "* * *\n\n"
 HEADING = "## A heading of a few # words ##\n"
+QUOTE = "> Some words of a quote, which goes on for a line or two,\n> and *ends* here\nor on a lazy line.\n>\n> > # a\n> > b\n\n"
+DEEP = ">" * 1_000 + " a\n"
 
 
 def write_paragraphs(target: BinaryIO, size: int) -> None:
@@ -33,6 +36,20 @@ def write_headings(target: BinaryIO, count: int) -> None:
     """Writes so many headings."""
     for _ in range(count):
         target.write(HEADING.encode())
+
+
+def write_quotes(target: BinaryIO, size: int) -> None:
+    """Writes quotes, one in the other, cut to `size` bytes."""
+    part = QUOTE.encode()
+    for _ in range(size // len(part)):
+        target.write(part)
+    target.write(part[: size % len(part)])
+
+
+def write_deep(target: BinaryIO, count: int) -> None:
+    """Writes so many lines, each in 1,000 quotes."""
+    for _ in range(count):
+        target.write(DEEP.encode())
 
 
 def measure(program: Path, write: Callable[[BinaryIO, int], None], size: int) -> tuple[float, int]:
@@ -63,6 +80,14 @@ def main() -> None:
         seconds, kilobytes = measure(program, write_headings, count)
         speed = count * len(HEADING) / MEGABYTE / seconds
         print(f"{count} headings: {seconds:.3f} s, {speed:.2f} MB/s, {kilobytes / 1024:.0f} MiB at most")
+    for megabytes in (1, 2, 4, 8):
+        seconds, kilobytes = measure(program, write_quotes, megabytes * MEGABYTE)
+        speed = megabytes / seconds
+        print(f"{megabytes} MB of quotes: {seconds:.2f} s, {speed:.2f} MB/s, {kilobytes / 1024:.0f} MiB at most")
+    for count in (1_000, 2_000, 4_000, 8_000):
+        seconds, kilobytes = measure(program, write_deep, count)
+        speed = count * len(DEEP) / MEGABYTE / seconds
+        print(f"{count} lines in 1,000 quotes: {seconds:.2f} s, {speed:.2f} MB/s, {kilobytes / 1024:.0f} MiB at most")
 
 
 if __name__ == "__main__":
