@@ -1,5 +1,5 @@
 -- The ends of lines are put where their chunks end, one event after another.
-use Rattle.std.proofs.Common.{◌≡◌, ℕ, suc, ◌+◌, ◌<◌, ◌≤◌, Bool, true, false, cond, List, [], ◌∷◌, ◌++◌, length, get_or, set, take, drop, refl, sym, ◌∙◌, ap, add-one, append_assoc, drop-cons, arith}
+use Rattle.std.proofs.Common.{◌≡◌, ℕ, suc, ◌+◌, ◌<◌, ◌≤◌, true, false, List, [], ◌∷◌, ◌++◌, length, get_or, set, take, drop, refl, sym, ◌∙◌, ap, add-one, append_assoc, drop-cons, arith}
 use Rattle.std.proofs.lemmas.List.{drop_all, drop-set-lt, take_more, take_more_set}
 use Rattle.std.proofs.lemmas.List.Elements.{All-set}
 use Rattle.md_engine.specs.declared.event.Event.{Event}
@@ -17,7 +17,7 @@ pub record Settling (chunks : List Chunk) (all : List Event) (i k : ℕ) (events
   pub settled : take i events ++ settled (drop k chunks) (drop i events) ≡ settled chunks all
 
 -- an event that no line ends with is kept
-settled-other : (chunks : List Chunk) (e : Event) (es : List Event) → is_data_end e ≡ false → settled chunks (e ∷ es) ≡ e ∷ settled chunks es
+pub settled-other : (chunks : List Chunk) (e : Event) (es : List Event) → is_data_end e ≡ false → settled chunks (e ∷ es) ≡ e ∷ settled chunks es
 settled-other [] e [] h = refl
 settled-other [] e (f ∷ es) h = refl
 settled-other (chunk ∷ chunks) e es h = rw h refl
