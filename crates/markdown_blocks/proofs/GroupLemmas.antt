@@ -215,7 +215,7 @@ single-unwanted options bytes wants row is w = no_content-unwanted wants (row_ev
 -- a reader of content gives for each paragraph of a text its lines, whose text is not read yet
 abbrev pub ReadsContent : ParseOptions → List ℕ → Readings → Type 0
 ReadsContent options bytes reads =
-    (row : Row) (rows : List Row) → IsParagraph options bytes row rows → (answer : List Event) → reads content.Content (chunks_of row rows) answer → answer ≡ unread_paragraph row rows
+    (row : Row) (rows : List Row) → IsParagraph options bytes row rows → (answer : List Event) → reads content.Content (chunks_of row rows) answer → answer ≡ around n.Paragraph row.first (last_row row rows).end (linked n.Data text_link (chunks_of row rows))
 
 groups-content : (options : ParseOptions) (bytes : List ℕ) (wants : Content → Bool) (reads : Readings) → wants content.Content ≡ true → wants content.Text ≡ false → ReadsContent options bytes reads →
     (gs : List Group) → AreGroups options bytes gs → (left out : List Event) → Substituted wants reads left 0 (joined_groups gs) out → out ≡ unread_groups gs

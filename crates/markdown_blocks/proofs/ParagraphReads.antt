@@ -1,28 +1,34 @@
--- A paragraph over the cells of its lines is these lines, whose text is not read yet.
+-- A paragraph over the cells of its lines is these lines, whose text is not read yet. Each ends behind its ending, and the next
+-- begins behind the prefixes of its containers.
 use Rattle.std.proofs.Common.{◌≡◌, ℕ, zero, suc, ◌+◌, ◌-◌, ◌^◌, ◌<◌, ◌≤◌, Bool, true, false, cond, List, [], ◌∷◌, ◌++◌, length, drop, refl, ap, sym, ◌∙◌, subst, append_assoc, append-nil, drop-drop, length-append, length-drop, arith}
-use Rattle.std.specs.Prelude.{◌==◌, Some, nat_le, slice_get}
+use Rattle.std.specs.Prelude.{◌==◌, ◌&&◌, Option, Some, nat_le, nat_lt, slice_get, slice_index}
+use Rattle.std.proofs.lemmas.Bool.{eqb-true, or_parts}
 use Rattle.std.proofs.lemmas.Bool.Decides.{nat_tests}
 use Rattle.md_engine.specs.declared.configuration.ParseOptions.{ParseOptions}
 use Rattle.md_engine.specs.declared.event.Event.{Event}
 use Rattle.md_engine.specs.declared.event.Name.TheVariants as n
 use Rattle.md_engine.specs.declared.event.Point.{Point}
+use Rattle.md_engine.specs.declared.tokenizer.Line.{Line}
 use Rattle.md_engine.specs.Meaning.{Cell}
+use Rattle.md_engine.specs.Place.{begun_at, is_ending, next_point, seen_at}
 use Rattle.md_engine.specs.TextFeed.{text_feed}
-use Rattle.md_engine.specs.World.{Setting, World, fresh, line_begun, skipping}
-use Rattle.md_content.specs.ContentReads.{content_events, end_of, first_of, paragraph_over, part_world, skipping_all}
+use Rattle.md_engine.specs.World.{Setting, World, after, fresh, line_begun, skipping}
+use Rattle.md_content.specs.ContentReads.{content_events, end_of, first_of, paragraph_over, part_world, settled, skipping_all}
 use Rattle.md_content.specs.Paragraph.{text_link}
 use Rattle.md_content.specs.ParagraphRule.{line_events}
 use Rattle.md_content.proofs.ContentReadsLemmas.{skipping-same}
+use Rattle.md_content.proofs.SettledLemmas.{settled-none, settled-other}
 use Rattle.md_seam.specs.declared.inline.Chunk.{Chunk}
 use Rattle.md_seam.specs.Ahead.{point_after}
 use Rattle.md_seam.specs.Places.{past_byte, past_text}
 use Rattle.md_seam.specs.Nested.{around, enter, enter_link, exit}
-use Rattle.md_seam.proofs.FeedLines.{HasEnding, HasLine, NoFeed, begun-same, cell, ending-feed, ending-some, feed-none, line-feed, no_feed-spread, past_ending, point_after-append, spread, spread-end}
-use Rattle.markdown_blocks.specs.Rows.{Row, TextRow, chunks_of, last_row}
-use Rattle.markdown_blocks.specs.Unread.{linked, unread_paragraph}
+use Rattle.md_seam.proofs.FeedLines.{HasEnding, at-next, begun-none, cell, columns_more, ending-feed, ending-some, feed-next, feed-none, next_column, past-next, past_ending, point_after-append, tab-end, tab-feed, tab_cells, tab_end, tab_end-last, tab_end-next, tab_end-stop}
+use Rattle.md_seam.proofs.TextsLemmas.{Ending, EndsBefore, NoEnding, ending_bytes}
+use Rattle.markdown_blocks.specs.Rows.{Row, TextRow, behind_row, chunks_of, last_row}
+use Rattle.markdown_blocks.specs.Unread.{linked}
+use Rattle.markdown_blocks.proofs.FrontLemmas.{fronts-grow, fronts-line}
 use Rattle.markdown_blocks.proofs.GroupLemmas.{IsParagraph, ReadsContent, piece, row-line, text-some}
-use Rattle.markdown_blocks.proofs.JoinedLemmas.{behind-is}
-use Rattle.markdown_blocks.proofs.RowFacts.{IsEnding, IsRow}
+use Rattle.markdown_blocks.proofs.RowFacts.{IsRow}
 
 -- Where the lines stand.
 
@@ -45,53 +51,105 @@ ends-grow options bytes row [] h = omega arith
 ends-grow options bytes row (next ∷ rows) h =
     let more = ends-grow options bytes next rows h.7 in
     let line = (first-row options bytes next rows h.7).1 in
-    let first = ap (λ (p : Point). p.index) h.6 in
+    let front = fronts-grow bytes 0 h.3 next.first next.front h.6 in
     omega (arith, h.5.size, line.size)
 
 last-within : (options : ParseOptions) (bytes : List ℕ) (row : Row) (rows : List Row) → IsParagraph options bytes row rows → (last_row row rows).end.index ≤ length bytes
 last-within options bytes row [] h = row-within options bytes h.0 row h.1 h.2
 last-within options bytes row (next ∷ rows) h = last-within options bytes next rows h.7
 
-same-point : (a b c d a' b' c' d' : ℕ) → a ≡ a' → b ≡ b' → c ≡ c' → d ≡ d' → ◌≡◌ {A = Point} (record { line = a; column = b; index = c; vs = d }) (record { line = a'; column = b'; index = c'; vs = d' })
-same-point a b c d a' b' c' d' p q r s = rw (p, q, r, s) refl
-
-ending-past : (bytes : List ℕ) (p q : Point) → (is : IsEnding bytes p q) → q ≡ past_ending is.ending p
-ending-past bytes p q is = same-point q.line q.column q.index q.vs _ _ _ _ is.line is.column is.size is.whole
-
 -- What is fed of them.
-
-line_events-append : (xs ys : List Cell) (p : Point) → NoFeed xs → line_events (xs ++ ys) p ≡ line_events ys (point_after xs p)
-line_events-append [] ys p h = refl
-line_events-append (c ∷ xs) ys p h = rw h.0 (line_events-append xs ys c.after h.1)
 
 -- what is read of two points of a text is the same
 record SameRest (x : Setting) (p q : Point) : Type 0 where
   lines : line_events (text_feed x p) p ≡ line_events (text_feed x q) q
   end : point_after (text_feed x p) p ≡ point_after (text_feed x q) q
 
--- in a line stand no events
+same-then : (x : Setting) (p q r : Point) → SameRest x p q → SameRest x q r → SameRest x p r
+same-then x p q r h k = record { lines = h.lines ∙ k.lines; end = h.end ∙ k.end }
+
+-- in the columns of a tab stand no events
+tab-events : (line : Line) (n byte : ℕ) (p q : Point) (cells : List Cell) → (byte == 10) ≡ false → line_events (tab_cells line n byte p ++ cells) q ≡ line_events cells (tab_end n p)
+tab-events line zero byte p q cells e = rw e (ap (line_events cells) (tab_end-last p))
+tab-events line (suc n) byte p q cells e = rw e (tab-events line n 32 (next_column p) (next_column p) cells refl ∙ ap (line_events cells) (tab_end-next n p))
+
+-- so it is of a byte of a line, also of a tab from any of its columns on
+byte-read : (x : Setting) (b : ℕ) (p : Point) → x.limit < 2 ^ 61 → p.index < x.limit → slice_index x.bytes p.index ≡ b → is_ending b ≡ false → 1 ≤ p.column → SameRest x p (past_byte b p)
+byte-read x b p small lt is e one = go (b == 9) refl
+  where
+    go : (t : Bool) → (b == 9) ≡ t → SameRest x p (past_byte b p)
+    go true k =
+        let tab : b ≡ 9 = eqb-true b 9 k in
+        let byte = seen_at x.bytes p in
+        let columns = columns_more p in
+        let cells = text_feed x (tab_end columns p) in
+        let seen : (byte == 10) ≡ false = rw (is ∙ tab) (white (nat_lt 0 p.vs)) in
+        let feed : text_feed x p ≡ tab_cells x.line columns byte p ++ cells = tab-feed x columns p small lt (is ∙ tab) refl in
+        let same : SameRest x p (tab_end columns p) = record {
+          lines = ap (λ (l : List Cell). line_events l p) feed ∙ tab-events x.line columns byte p p cells seen;
+          end = ap (λ (l : List Cell). point_after l p) feed ∙ point_after-append (tab_cells x.line columns byte p) cells p ∙ ap (point_after cells) (tab-end x.line columns byte p p);
+        } in
+        subst (λ (c : ℕ). SameRest x p (past_byte c p)) (sym tab) (subst (SameRest x p) (tab_end-stop p one) same)
+      where
+        white : (t : Bool) → (cond t 32 9 == 10) ≡ false
+        white true = refl
+        white false = refl
+    go false k =
+        let column : p.column + 1 ≡ p.column - 1 + 1 + 1 = omega arith in
+        let step : after x p ≡ past_byte b p = rw (is, e, k) (ap (λ (c : ℕ). let q : Point = record { line = p.line; column = c; index = p.index + 1; vs = 0 } in q) column) in
+        let seen : seen_at x.bytes p ≡ b = rw (is, e, k) refl in
+        let feed : text_feed x p ≡ cell b (past_byte b p) x.line ∷ text_feed x (past_byte b p) =
+        feed-next x p small lt
+        ∙ ap (λ (q : Point). cell (seen_at x.bytes p) q x.line ∷ text_feed x q) step
+        ∙ ap (λ (c : ℕ). cell c (past_byte b p) x.line ∷ text_feed x (past_byte b p)) seen in
+        let other : (b == 10) ≡ false = (or_parts (b == 10) (b == 13) e).0 in
+        record {
+          lines = ap (λ (l : List Cell). line_events l p) feed ∙ rw other refl;
+          end = ap (λ (l : List Cell). point_after l p) feed;
+        }
+
+-- and of a line, which may begin within a tab
+text-read : (x : Setting) (line rest : List ℕ) (p : Point) → x.limit < 2 ^ 61 → drop p.index x.bytes ≡ line ++ rest → NoEnding line → p.index + length line ≤ x.limit → 1 ≤ p.column → SameRest x p (past_text line p)
+text-read x [] rest p small text none le one = record { lines = refl; end = refl }
+text-read x (b ∷ bs) rest p small text none le one =
+    let within : p.index + suc (length bs) ≤ x.limit = le in
+    same-then x p (past_byte b p) (past_text bs (past_byte b p))
+    (byte-read x b p small (omega arith) (at-next p.index x.bytes b (bs ++ rest) text) none.0 one)
+    (text-read x bs rest (past_byte b p) small (past-next p.index x.bytes b (bs ++ rest) text) none.1 (omega arith) (omega arith))
+
 line-read : (options : ParseOptions) (bytes line : List ℕ) (x : Setting) (row : Row) → IsRow options bytes line row → x.limit < 2 ^ 61 → x.bytes ≡ bytes → row.end.index ≤ x.limit → SameRest x row.first row.end
 line-read options bytes line x row is small same within =
-    let has : HasLine x line (drop row.end.index bytes) row.first = record {
-      small = small;
-      text = ap (drop row.first.index) same ∙ row-line options bytes line row is;
-      no_ending = is.no_ending;
-      within = omega (arith, is.size);
-      whole = is.first_whole;
-      column = is.first_column;
-    } in
-    let feed : text_feed x row.first ≡ spread x.line line row.first ++ text_feed x row.end = line-feed x line (drop row.end.index bytes) row.first has ∙ ap (λ (q : Point). spread x.line line row.first ++ text_feed x q) (sym is.end) in
-    let ends : point_after (spread x.line line row.first) row.first ≡ row.end = spread-end x.line line row.first is.first_column ∙ sym is.end in
-    record {
-      lines =
-          ap (λ (l : List Cell). line_events l row.first) feed
-          ∙ line_events-append (spread x.line line row.first) (text_feed x row.end) row.first (no_feed-spread x.line line row.first is.no_ending)
-          ∙ ap (line_events (text_feed x row.end)) ends;
-      end =
-          ap (λ (l : List Cell). point_after l row.first) feed
-          ∙ point_after-append (spread x.line line row.first) (text_feed x row.end) row.first
-          ∙ ap (point_after (text_feed x row.end)) ends;
-    }
+    subst (SameRest x row.first) (sym is.end)
+    (text-read x line (drop row.end.index bytes) row.first small (ap (drop row.first.index) same ∙ row-line options bytes line row is) is.no_ending (omega (arith, is.size)) is.first_column)
+
+-- an ending is fed as one line feed, which leads to where the next line begins
+ending-leads : (x : Setting) (ending : Ending) (rest : List ℕ) (p q : Point) → x.limit < 2 ^ 61 → drop p.index x.bytes ≡ ending_bytes ending ++ rest → EndsBefore ending rest → p.index < x.limit → line_begun x (past_ending ending p) ≡ q →
+    text_feed x p ≡ cell 10 q x.line ∷ text_feed x q
+ending-leads x ending rest p q small text before lt begun =
+    let y : Setting = record x { skips = [] } in
+    let has : HasEnding y ending rest p = record { small = small; text = text; before = before; within = lt; begun = begun-none y (past_ending ending p) refl } in
+    let one : ◌≡◌ {A = List Cell} (cell (seen_at x.bytes p) (after y p) x.line ∷ text_feed y (after y p)) (cell 10 (past_ending ending p) x.line ∷ text_feed y (past_ending ending p)) =
+    sym (feed-next y p small lt) ∙ ending-feed y ending rest p has in
+    let first : ◌≡◌ {A = Cell} (cell (seen_at x.bytes p) (after y p) x.line) (cell 10 (past_ending ending p) x.line) = cc in
+    let seen : seen_at x.bytes p ≡ 10 = ap (λ (c : Cell). c.byte) first in
+    let step : after y p ≡ past_ending ending p = ap (λ (c : Cell). c.after) first in
+    let stands : is_ending (slice_index x.bytes p.index) ≡ true = seen-ends (slice_index x.bytes p.index) (nat_lt 0 p.vs) seen in
+    let next : next_point x.bytes p ≡ past_ending ending p =
+    sym (begun-none y (next_point x.bytes p) refl)
+    ∙ sym (ap (λ (t : Bool). cond t (line_begun y (next_point x.bytes p)) (next_point x.bytes p)) stands)
+    ∙ step in
+    feed-next x p small lt
+    ∙ ap (λ (b : ℕ). cell b (after x p) x.line ∷ text_feed x (after x p)) seen
+    ∙ ap (λ (r : Point). cell 10 r x.line ∷ text_feed x r)
+    (ap (λ (t : Bool). cond t (line_begun x (next_point x.bytes p)) (next_point x.bytes p)) stands ∙ ap (line_begun x) next ∙ begun)
+  where
+    seen-ends : (b : ℕ) (cut : Bool) → cond (is_ending b) 10 (cond ((b == 9) && cut) 32 b) ≡ 10 → is_ending b ≡ true
+    seen-ends b cut h = go (is_ending b) ((b == 9) && cut) refl refl
+      where
+        go : (t s : Bool) → is_ending b ≡ t → ((b == 9) && cut) ≡ s → is_ending b ≡ true
+        go true s e f = e
+        go false true e f = let no : false ≡ true = ap (λ (c : ℕ). c == 10) (rw (e, f) at h) in cc
+        go false false e f = let ten : b ≡ 10 = rw (e, f) at h in ap is_ending ten
 
 -- where lines begin
 abbrev firsts : List Row → List Point
@@ -122,39 +180,47 @@ past_text-line (b ∷ bs) p = past_text-line bs (past_byte b p)
 -- the next line is the one behind it
 next-line : (options : ParseOptions) (bytes : List ℕ) (row next : Row) (rows : List Row) → IsParagraph options bytes row (next ∷ rows) → next.first.line ≡ row.first.line + 1
 next-line options bytes row next rows h =
-    let first = ap (λ (p : Point). p.line) h.6 in
+    let front = fronts-line bytes 0 h.3 next.first next.front h.6 in
     let end = ap (λ (p : Point). p.line) h.1.end ∙ past_text-line h.0 row.first in
     omega (arith, h.5.line)
 
-lines-read : (options : ParseOptions) (bytes : List ℕ) (x : Setting) (k : ℕ) (row : Row) (rows : List Row) → IsParagraph options bytes row rows → AreRead x bytes k row rows →
-    (enter_link n.Data row.first text_link ∷ line_events (text_feed x row.first) row.first ≡ linked n.Data text_link (chunks_of row rows)) × (point_after (text_feed x row.first) row.first ≡ (last_row row rows).end)
-lines-read options bytes x k row [] h r =
+-- behind the ending of a line the next one begins, behind the prefixes in front of it
+begun-next : (x : Setting) (p s : Point) → slice_get x.skips (s.line - x.first_line) ≡ Some s → p.line ≡ s.line → p.index ≤ s.index → line_begun x p ≡ s
+begun-next x p s at line le =
+    let some : slice_get x.skips (p.line - x.first_line) ≡ Some s = ap (λ (l : ℕ). slice_get x.skips (l - x.first_line)) line ∙ at in
+    let further : nat_le p.index s.index ≡ true = grind (arith, nat_tests) in
+    ap (λ (o : Option Point). begun_at o p) some ∙ ap (λ (t : Bool). cond t s p) further
+
+-- each line is one part, which ends where its chunk does
+lines-read : (options : ParseOptions) (bytes : List ℕ) (x : Setting) (k : ℕ) (row : Row) (rows : List Row) (behind : List Event) → IsParagraph options bytes row rows → AreRead x bytes k row rows →
+    (settled (chunks_of row rows) (enter_link n.Data row.first text_link ∷ line_events (text_feed x row.first) row.first ++ behind) ≡ linked n.Data text_link (chunks_of row rows) ++ behind)
+    × (point_after (text_feed x row.first) row.first ≡ (last_row row rows).end)
+lines-read options bytes x k row [] behind h r =
     let read = line-read options bytes h.0 x row h.1 r.small r.bytes_are (omega (arith, r.limit)) in
-    let none : text_feed x row.end ≡ [] = feed-none x row.end r.small (omega (arith, r.limit)) in
-    (ap (λ (l : List Event). enter_link n.Data row.first text_link ∷ l) (read.lines ∙ ap (λ (l : List Cell). line_events l row.end) none), read.end ∙ ap (λ (l : List Cell). point_after l row.end) none)
-lines-read options bytes x k row (next ∷ rows) h r =
+    let none : text_feed x row.end ≡ [] = feed-none x row.end r.small (omega (arith, r.limit)) in (
+      ap (λ (l : List Event). settled (chunks_of row []) (enter_link n.Data row.first text_link ∷ l ++ behind)) (read.lines ∙ ap (λ (l : List Cell). line_events l row.end) none)
+          ∙ ap (λ (l : List Event). enter_link n.Data row.first text_link ∷ exit n.Data row.end ∷ l) (settled-none behind),
+      read.end ∙ ap (λ (l : List Cell). point_after l row.end) none,
+    )
+lines-read options bytes x k row (next ∷ rows) behind h r =
     let grow = ends-grow options bytes next rows h.7 in
     let line = (first-row options bytes next rows h.7).1 in
-    let first = ap (λ (p : Point). p.index) h.6 in
+    let front = fronts-grow bytes 0 h.3 next.first next.front h.6 in
+    let same = fronts-line bytes 0 h.3 next.first next.front h.6 in
     let some = ending-some h.5.ending in
     let number = next-line options bytes row next rows h in
     let within : row.end.index < x.limit = omega (arith, r.limit, h.5.size, line.size) in
     let read = line-read options bytes h.0 x row h.1 r.small r.bytes_are (omega arith) in
-    let past : next.first ≡ past_ending h.5.ending row.end = h.6 ∙ ending-past bytes row.end h.3 h.5 in
-    let behind : drop (k + 1) x.skips ≡ next.first ∷ firsts rows = drop-next k x.skips row.first (next.first ∷ firsts rows) r.skips in
-    let at : slice_get x.skips (next.first.line - x.first_line) ≡ Some next.first = ap (slice_get x.skips) (omega (arith, r.line)) ∙ get-at (k + 1) x.skips next.first (firsts rows) behind in
-    let has : HasEnding x h.5.ending (drop h.3.index bytes) row.end = record {
-      small = r.small;
-      text = ap (drop row.end.index) r.bytes_are ∙ piece bytes row.end.index h.3.index (omega (arith, h.5.size)) ∙ ap (λ (l : List ℕ). l ++ drop h.3.index bytes) h.5.text;
-      before = h.5.before;
-      within = within;
-      begun = subst (λ (q : Point). line_begun x q ≡ q) past (begun-same x next.first at);
-    } in
-    let feed : text_feed x row.end ≡ cell 10 next.first x.line ∷ text_feed x next.first = ending-feed x h.5.ending (drop h.3.index bytes) row.end has ∙ ap (λ (q : Point). cell 10 q x.line ∷ text_feed x q) (sym past) in
-    let below : AreRead x bytes (k + 1) next rows = record { small = r.small; bytes_are = r.bytes_are; limit = r.limit; skips = behind; line = omega (arith, r.line) } in
-    let more = lines-read options bytes x (k + 1) next rows h.7 below in (
-      ap (λ (l : List Event). enter_link n.Data row.first text_link ∷ l) (read.lines ∙ ap (λ (l : List Cell). line_events l row.end) feed ∙ ap (λ (l : List Event). exit n.Data next.first ∷ l) more.0)
-          ∙ ap (λ (q : Point). enter_link n.Data row.first text_link ∷ exit n.Data q ∷ linked n.Data text_link (chunks_of next rows)) (sym (behind-is row h.3 h.4 ∙ sym h.6)),
+    let skips : drop (k + 1) x.skips ≡ next.first ∷ firsts rows = drop-next k x.skips row.first (next.first ∷ firsts rows) r.skips in
+    let at : slice_get x.skips (next.first.line - x.first_line) ≡ Some next.first = ap (slice_get x.skips) (omega (arith, r.line)) ∙ get-at (k + 1) x.skips next.first (firsts rows) skips in
+    let text : drop row.end.index x.bytes ≡ ending_bytes h.5.ending ++ drop h.3.index bytes =
+    ap (drop row.end.index) r.bytes_are ∙ piece bytes row.end.index h.3.index (omega (arith, h.5.size)) ∙ ap (λ (l : List ℕ). l ++ drop h.3.index bytes) h.5.text in
+    let begun : line_begun x (past_ending h.5.ending row.end) ≡ next.first = begun-next x (past_ending h.5.ending row.end) next.first at (omega (arith, h.5.line)) (omega (arith, h.5.size)) in
+    let feed : text_feed x row.end ≡ cell 10 next.first x.line ∷ text_feed x next.first = ending-leads x h.5.ending (drop h.3.index bytes) row.end next.first r.small text h.5.before within begun in
+    let below : AreRead x bytes (k + 1) next rows = record { small = r.small; bytes_are = r.bytes_are; limit = r.limit; skips = skips; line = omega (arith, r.line) } in
+    let more = lines-read options bytes x (k + 1) next rows behind h.7 below in (
+      ap (λ (l : List Event). settled (chunks_of row (next ∷ rows)) (enter_link n.Data row.first text_link ∷ l ++ behind)) (read.lines ∙ ap (λ (l : List Cell). line_events l row.end) feed)
+          ∙ ap (λ (l : List Event). enter_link n.Data row.first text_link ∷ exit n.Data (behind_row row) ∷ l) more.0,
       read.end ∙ ap (λ (l : List Cell). point_after l row.end) feed ∙ more.1,
     )
 
@@ -221,15 +287,18 @@ part-read options under bytes small row rows h =
     record { small = omega arith; bytes_are = ap (λ (w : World). w.setting.bytes) same; limit = end; skips = skips-are start chunks ∙ begins-are row rows; line = omega arith }
 
 -- A part of content that is lines of a text is read as a paragraph of these lines.
-pub paragraph-reads : (options under : ParseOptions) (bytes : List ℕ) → length bytes < 2 ^ 61 → (row : Row) (rows : List Row) → IsParagraph options bytes row rows → content_events bytes under (chunks_of row rows) ≡ unread_paragraph row rows
+pub paragraph-reads : (options under : ParseOptions) (bytes : List ℕ) → length bytes < 2 ^ 61 → (row : Row) (rows : List Row) → IsParagraph options bytes row rows →
+    content_events bytes under (chunks_of row rows) ≡ around n.Paragraph row.first (last_row row rows).end (linked n.Data text_link (chunks_of row rows))
 unfolding content_events
 paragraph-reads options under bytes small row rows h =
     let chunks = chunks_of row rows in
     let x = (part_world bytes under chunks).setting in
+    let end : List Event = exit n.Paragraph (point_after (text_feed x row.first) row.first) ∷ [] in
     let at : (part_world bytes under chunks).point ≡ row.first = skips-here options bytes (fresh bytes under (first_of chunks)) row rows h (first-is row rows) in
-    let read = lines-read options bytes x 0 row rows h (part-read options under bytes small row rows h) in
-    ap (λ (p : Point). paragraph_over (text_feed x p) p) at
-    ∙ ap (λ (l : List Event). enter n.Paragraph row.first ∷ l ++ exit n.Paragraph (point_after (text_feed x row.first) row.first) ∷ []) read.0
+    let read = lines-read options bytes x 0 row rows end h (part-read options under bytes small row rows h) in
+    ap (λ (p : Point). settled chunks (paragraph_over (text_feed x p) p)) at
+    ∙ settled-other chunks (enter n.Paragraph row.first) (enter_link n.Data row.first text_link ∷ line_events (text_feed x row.first) row.first ++ end) refl
+    ∙ ap (λ (l : List Event). enter n.Paragraph row.first ∷ l) read.0
     ∙ ap (λ (p : Point). around n.Paragraph row.first p (linked n.Data text_link chunks)) read.1
 
 -- what the reader of content gives for the paragraphs of a text

@@ -14,7 +14,7 @@ use Rattle.md_engine.specs.Run.Resolved.{More, NoneYet}
 use Rattle.md_engine.specs.Scheme.{stands}
 use Rattle.md_engine.specs.TextFeed.{text_feed}
 use Rattle.md_engine.specs.World.{Setting, World, fresh, reads_to, skipping}
-use Rattle.md_content.specs.ContentReads.{content_events, end_of, first_of, paragraph_over, skipping_all}
+use Rattle.md_content.specs.ContentReads.{content_events, end_of, first_of, paragraph_over, settled, skipping_all}
 use Rattle.md_content.specs.ParagraphRule.{content_behaves, inside_paragraph, paragraph_at, paragraph_line}
 use Rattle.md_content.specs.States.{ContentStep, content_scheme}
 use Rattle.md_content.proofs.ContentRuns.{content_outcome, content_push}
@@ -80,7 +80,7 @@ pub part-read : (bytes : List ℕ) (options : ParseOptions) (chunks : List Chunk
     length chunks ≤ i → skipping_all w (drop i chunks) ≡ skipping_all (fresh bytes options (first_of chunks)) chunks → end ≡ end_of chunks → end < 2 ^ 61 →
     Runs ContentStep false (Next ParagraphStart) (reads_to w end) s w' → w'.setting ≡ (reads_to w end).setting →
     ((n : ResolveName) (old : World) (m : Option Found) (v : World) → R n old m v → v ≡ old) → Flushes ContentStep R s w' true found new →
-    new.events ≡ content_events bytes options chunks
+    settled chunks new.events ≡ content_events bytes options chunks
 unfolding content_events over
 part-read bytes options chunks i w w' end s R found new le skips last small run kept same f =
     let begun : w ≡ skipping_all (fresh bytes options (first_of chunks)) chunks = skipping-all chunks i w _ le skips in
@@ -94,5 +94,8 @@ part-read bytes options chunks i w w' end s R found new le skips last small run 
     ap (λ (x : Setting). comes_to content_behaves (text_feed x) s w') kept ∙ sym pushed.0 ∙ part-comes-to feed w frames events in
     let h : over (feed w.point) w ≡ here f.at = content_outcome R s w' true found new (over (feed w.point) w) (rw kept small) pushed.1 at_end f in
     let resolved : new ≡ record f.at { resolvers = [] } = resolved-same R _ _ _ _ same f.resolved in
-    let is : paragraph_over (feed w.point) w.point ≡ content_events bytes options chunks = rw (begun, last) refl in
-    ap (λ (x : World). x.events) resolved ∙ sym (ap (λ (x : Here). x.events) h) ∙ is
+    let is : settled chunks (paragraph_over (feed w.point) w.point) ≡ content_events bytes options chunks = ap (settled chunks) (place _ _ begun last) in
+    ap (λ (x : World). settled chunks x.events) resolved ∙ sym (ap (λ (x : Here). settled chunks x.events) h) ∙ is
+  where
+    place : (v : World) (m : ℕ) → w ≡ v → end ≡ m → paragraph_over (text_feed (reads_to w end).setting w.point) w.point ≡ paragraph_over (text_feed (reads_to v m).setting v.point) v.point
+    place v m e f = rw (e, f) refl

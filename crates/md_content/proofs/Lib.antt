@@ -4,3 +4,4 @@ pub mod ContentSteps
 pub mod ContentRuns
 pub mod JoinedLemmas
 pub mod ContentReadsLemmas
+pub mod SettledLemmas

@@ -1,5 +1,5 @@
 -- What a part of content is read as: a paragraph over the text of its chunks.
-use Rattle.std.specs.Prelude.{◌≡◌, ℕ, Bool, true, false, List, [], ◌∷◌, ◌++◌}
+use Rattle.std.specs.Prelude.{◌≡◌, ℕ, Bool, true, false, ◌&&◌, if◌then◌else◌, List, [], ◌∷◌, ◌++◌}
 use Rattle.md_engine.specs.declared.configuration.ParseOptions.{ParseOptions}
 use Rattle.md_engine.specs.declared.event.Content.{Content}
 use Rattle.md_engine.specs.declared.event.Content.TheVariants as content
@@ -14,8 +14,9 @@ use Rattle.md_content.specs.Paragraph.{text_link}
 use Rattle.md_content.specs.ParagraphRule.{line_events}
 use Rattle.md_seam.specs.declared.inline.Chunk.{Chunk}
 use Rattle.md_seam.specs.Ahead.{point_after}
-use Rattle.md_seam.specs.Nested.{enter, enter_link, exit}
+use Rattle.md_seam.specs.Nested.{enter, enter_link, exit, is_exit}
 use Rattle.md_seam.specs.Substituted.{Readings}
+use Rattle.md_seam.specs.Tiles.{is_data}
 
 -- where the first chunk begins
 abbrev pub first_of : List Chunk → Point
@@ -41,11 +42,21 @@ part_world bytes options chunks = reads_to (skipping_all (fresh bytes options (f
 abbrev pub paragraph_over : List Cell → Point → List Event
 paragraph_over cells p = enter parts.Paragraph p ∷ enter_link parts.Data p text_link ∷ line_events cells p ++ exit parts.Paragraph (point_after cells p) ∷ []
 
+-- whether a line of what was read ends here
+abbrev pub is_data_end : Event → Bool
+is_data_end e = is_exit e.kind && is_data e.name
+
+-- each line ends where its chunk does: the prefixes of containers in front of the next one belong to no line (CommonMark 5.1)
+abbrev pub settled : List Chunk → List Event → List Event
+settled chunks [] = []
+settled [] (e ∷ es) = e ∷ es
+settled (chunk ∷ chunks) (e ∷ es) = if is_data_end e then record e { point = chunk.after } ∷ settled chunks es else e ∷ settled (chunk ∷ chunks) es
+
 -- the events of a part
 unfoldable pub content_events : List ℕ → ParseOptions → List Chunk → List Event
 content_events bytes options chunks =
     let w = part_world bytes options chunks in
-    paragraph_over (text_feed w.setting w.point) w.point
+    settled chunks (paragraph_over (text_feed w.setting w.point) w.point)
 
 -- What the reader of content reads, and as what.
 

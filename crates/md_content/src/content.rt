@@ -4,6 +4,9 @@
 //
 // Each line first stands as one linked `Content`. When all lines are known, those that follow one another are joined and
 // read as one.
+//
+// The prefixes of containers in front of a line belong to no line of the content (CommonMark 5.1). So each line begins
+// behind those in front of it, and ends behind its ending, before those of the next line: its end is that of its chunk.
 
 ghost use Rattle.std.specs.Prelude.{◌≡◌, ◌≢◌, ℕ, ◌+◌, ◌<◌, ◌&&◌, true, IfOk, List, [], length, drop};
 ghost use Rattle.std.specs.Option.{option_map};
@@ -13,7 +16,7 @@ ghost use Rattle.md_engine.specs.declared.state.Name.{Name as StateName};
 ghost use Rattle.md_engine.specs.declared.state.State.{State};
 ghost use Rattle.md_content.specs.States.{content_went};
 ghost use Rattle.md_content.specs.Chunks.{chunk_inside_code, chunk_start_went};
-ghost use Rattle.md_content.specs.ContentReads.{content_events};
+ghost use Rattle.md_content.specs.ContentReads.{content_events, is_data_end, settled};
 ghost use Rattle.md_content.specs.Joined.{content_behind, goes_on, is_content, joined, joined_with};
 ghost use Rattle.md_content.specs.Resolves.{Resolves, is_all_read};
 ghost use Rattle.md_seam.specs.Nested.{is_enter};
@@ -167,7 +170,40 @@ impl ContentReader<'_> {
             state => state,
         };
         flush::<ContentTable>(&mut tokenizer, state, true)?;
-        Ok(tokenizer.events)
+        let mut events = tokenizer.events;
+        settle(&mut events, chunks);
+        Ok(events)
+    }
+}
+
+/// Whether a line of what is read of content ends here.
+fn ends_line_of_data(event: &Event) -> bool
+    ensures { result ≡ is_data_end event.now }
+{
+    matches!(event.kind, Kind::Exit) && matches!(event.name, Name::Data)
+}
+
+/// Has each line of what was read end where its chunk ends.
+///
+/// The tokenizer goes from the ending of a line at once to the begin of the next chunk, which may lie behind prefixes of
+/// containers. These belong to no line, so a line that was read ends before them.
+///
+/// ```markdown
+/// > | > a
+/// > | > b
+///     ^ here the first line has ended
+///       ^ here the second begins
+/// ```
+fn settle(events: &mut [Event], chunks: &[Chunk])
+    ensures settled { events.new ≡ settled chunks.now events.old }
+    ensures placed { (bytes : List ℕ) → AreChunks bytes chunks.now → ArePlaced bytes events.old → ArePlaced bytes events.new }
+{
+    let mut line = 0;
+    for event in events.iter_mut() {
+        if line < chunks.len() && ends_line_of_data(event) {
+            event.point = chunks[line].after;
+            line += 1;
+        }
     }
 }
 

@@ -1,7 +1,10 @@
-use Rattle.std.proofs.Common.{ap, arith, ◌≡◌, ◌∙◌, ◌-◌, suc, length}
+use Rattle.std.proofs.Common.{ap, sym, subst, arith, ◌≡◌, ◌∙◌, ◌-◌, ℕ, suc, List, ◌++◌, length, take, drop}
+use Rattle.std.proofs.Math.Seq.{take-append_seam}
+use Rattle.md_engine.specs.declared.event.Event.{Event}
 use Rattle.md_engine.specs.World.{Setting, World, fresh, world}
-use Rattle.md_content.specs.ContentReads.{first_of, skipping_all}
+use Rattle.md_content.specs.ContentReads.{first_of, settled, skipping_all}
 use Rattle.md_content.proofs.ContentReadsLemmas.{end-at, first-at, part-read, small-at, skipping-more}
+use Rattle.md_seam.specs.Parts.{ArePlaced}
 use Rattle.md_seam.proofs.Settings.{flushes-setting}
 use Rattle.md_content.proofs.content.ContentReader.read_part.Goals as goal
 
@@ -38,7 +41,13 @@ returns c =
     let pushed = c.push.ensures.setting c.in_default.not-Error in
     let same : c.flush.new.tokenizer.bytes.now ≡ c.args.self.now.bytes.now = ap (λ (x : Setting). x.bytes) kept ∙ ap (λ (x : Setting). x.bytes) pushed ∙ c.loop-chunk.invariant.bytes in
     let count : length c.args.chunks.now ≡ suc (length c.args.chunks.now - 1) = omega (arith, c.requires.some) in
+    let read = part-read _ _ _ _ _ _ _ _ _ _ _ c.loop-chunk-test.false c.loop-chunk.invariant.skips (end-at _ _ _ count) (small-at _ _ _ _ c.requires (omega arith)) (c.push.ensures.runs c.in_default.not-Error) pushed (λ n old m v r. r.1) c.in_ok-flush.ensures in
+    let sound = rw same at c.flush.new.tokenizer.sound.right in
+    let back = written c.settle.new.events c.flush.new.tokenizer.events.items c.flush.new.tokenizer.events.len (c.settle.auto.events ∙ c.deref_mut.ensures.len) in
     record {
-      placed = rw same at c.flush.new.tokenizer.sound.right;
-      events = part-read _ _ _ _ _ _ _ _ _ _ _ c.loop-chunk-test.false c.loop-chunk.invariant.skips (end-at _ _ _ count) (small-at _ _ _ _ c.requires (omega arith)) (c.push.ensures.runs c.in_default.not-Error) pushed (λ n old m v r. r.1) c.in_ok-flush.ensures;
+      placed = subst (ArePlaced c.args.self.now.bytes.now) (sym back) (c.settle.ensures.placed c.args.self.now.bytes.now c.requires (subst (ArePlaced c.args.self.now.bytes.now) (sym c.deref_mut.ensures.value) sound));
+      events = back ∙ c.settle.ensures.settled ∙ ap (settled c.args.chunks.now) c.deref_mut.ensures.value ∙ read;
     }
+  where
+    written : (new items : List Event) (n : ℕ) → length new ≡ n → take n (new ++ drop (length new) items) ≡ new
+    written new items n is = rw (← is) (take-append_seam new (drop (length new) items))
