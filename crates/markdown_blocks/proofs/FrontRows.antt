@@ -12,7 +12,7 @@ use Rattle.md_engine.specs.declared.event.Name.TheVariants as n
 use Rattle.md_engine.specs.declared.event.Point.{Point}
 use Rattle.md_engine.specs.declared.tokenizer.Line.{Line}
 use Rattle.md_engine.specs.Meaning.{Cell}
-use Rattle.md_containers.specs.QuoteRule.{behind_end, behind_events, behind_rest, has_marker, indent_events, marker_end, marker_events, marker_rest, prefix_end, prefix_events, prefix_rest, takes_prefix}
+use Rattle.md_containers.specs.QuoteRule.{behind_end, behind_events, behind_rest, has_marker, marker_end, marker_events, marker_rest, prefix_end, prefix_events, prefix_rest, takes_prefix}
 use Rattle.md_containers.proofs.QuoteLines.{quote-no_ending}
 use Rattle.md_seam.specs.Ahead.{begins_white, white_end, white_rest}
 use Rattle.md_seam.specs.Containers.{Taken, opens_quote, quote_taken}
@@ -20,17 +20,17 @@ use Rattle.md_seam.specs.Inline.{pair_unless_empty}
 use Rattle.md_seam.specs.Lines.{begins_with}
 use Rattle.md_seam.specs.Nested.{enter, exit, pair}
 use Rattle.md_seam.specs.Places.{at_or_before, past_byte, past_text, same_place}
-use Rattle.md_seam.specs.Rest.{Rest, behind, behind_indent, has_small_indent, indent, is_blank, is_white, lose, tab_columns, white_columns, without_column}
+use Rattle.md_seam.specs.Rest.{Rest, behind, behind_indent, indent, is_blank, is_white, lose, tab_columns, white_columns, without_column}
 use Rattle.md_seam.specs.Spaces.{small_indent}
 use Rattle.md_seam.specs.State.{InQuote}
-use Rattle.md_seam.proofs.FeedLines.{Stops, behind_last, byte-one, byte_cells, cell, columns_more, next_column, past-next, slice-front, spread, tab_cells}
+use Rattle.md_seam.proofs.FeedLines.{Stops, behind_last, byte-one, cell, columns_more, next_column, past-next, slice-front, spread, tab_cells}
 use Rattle.md_seam.proofs.InlineLemmas.{same-refl}
 use Rattle.md_seam.proofs.NestedLemmas.{at_or_before-refl, at_or_before-trans}
 use Rattle.md_seam.proofs.PlainSteps.{range-none}
 use Rattle.md_seam.proofs.RestCells.{Bare, HasColumn, RestAt, bare, bare-cells, bare-same, cells_by, column-end, column-first, indent-length, indent-taken, past_cut, past_rest, rest_cells, white-end, white-length, without_first}
 use Rattle.md_seam.proofs.TextsLemmas.{NoEnding}
-use Rattle.markdown_blocks.specs.Fronted.{Prefixed, Quoted, no_prefix, one_more, quoted, quoted_by, quotes_new, quotes_on, rest_line}
-use Rattle.markdown_blocks.specs.Rows.{Front, Held, RowKind, held_at, held_by, in_front, is_lazy, line_kind, new_front, no_front, row_kind, went_front}
+use Rattle.markdown_blocks.specs.Fronted.{Prefixed, Quoted, no_prefix, one_more, quoted, quoted_behind, quoted_by, quotes_new, quotes_on, rest_line}
+use Rattle.markdown_blocks.specs.Rows.{Front, Held, RowKind, held_at, held_behind, held_by, in_front, is_lazy, line_kind, new_front, no_front, row_kind, went_front}
 use Rattle.markdown_blocks.proofs.FrontFacts.{Behind, Begins, Fronts, Goes, IsPrefix}
 use Rattle.markdown_blocks.proofs.LineKinds.{no_limit}
 use Rattle.markdown_blocks.proofs.RestRows.{kind-rest}
@@ -564,3 +564,61 @@ new-is options line text past (suc room) (suc size) r stop p off is h k short so
         subst (λ (o : Option Taken). HasNew line text past p (past_rest r p) stop cells (new_front options (suc room) cells p) (elim o [ None ↦ no_prefix r | Some t ↦ one_more (quotes_new options size t.rest) ])) (sym e)
         (subst (λ (x : Bool). HasNew line text past p (past_rest r p) stop cells (cond x (in_front (enter n.BlockQuote p ∷ prefix_events options cells p) (new_front options room left q)) (no_front cells p)) (one_more (quotes_new options size t.rest))) (sym has.0)
         (new-more options line text past room size r t.rest stop cells p prefix further))
+
+-- The containers of a line.
+
+-- by its cells and by its bytes
+pub record HasHeld (line : Line) (text past : List ℕ) (p end : Point) (stop cells : List Cell) (h : Held) (q : Quoted) : Type 0 where
+  pub closes : h.closes ≡ q.closes
+  pub opens : h.opens ≡ q.opens
+  pub depth : h.depth ≡ q.depth
+  pub fed : h.cells ≡ rest_cells line q.rest h.point ++ stop
+  pub stands : RestAt text past q.rest h.point
+  pub ends : past_rest q.rest h.point ≡ end
+  pub no_ending : NoEnding q.rest.bytes
+  pub front : Fronts text h.opens p h.point h.front
+  pub shorter : length h.cells ≤ length cells
+
+held-by : (line : Line) (text past : List ℕ) (p end : Point) (stop cells : List Cell) (depth keep : ℕ) (went new : Front) (on more : Prefixed) → HasWent line text past p end stop cells went on →
+    HasNew line text past went.point (past_rest on.rest went.point) stop went.cells new more → HasHeld line text past p end stop cells (held_by depth keep went new) (quoted_by depth keep more)
+held-by line text past p end stop cells depth keep went new on more a b = record {
+  closes = refl;
+  opens = b.front.many;
+  depth = ap (λ (k : ℕ). keep + k) b.front.many;
+  fed = b.front.fed;
+  stands = b.front.stands;
+  ends = b.front.ends ∙ a.front.ends;
+  no_ending = b.front.no_ending;
+  front = a.fronts new.many new.point new.events b.fronts;
+  shorter = let le = a.front.shorter in let ge = b.front.shorter in omega arith;
+}
+
+held-behind : (options : ParseOptions) (line : Line) (text past : List ℕ) (p end : Point) (stop cells : List Cell) (depth : ℕ) (going : Bool) (went : Front) (on : Prefixed) → options.constructs.code_indented ≡ false → Stops stop → length cells < 2 ^ 63 →
+    HasWent line text past p end stop cells went on → HasHeld line text past p end stop cells (held_behind options depth going went) (quoted_behind options depth going on)
+held-behind options line text past p end stop cells depth going went on off k short is =
+    let le = is.front.shorter in
+    let size = ap length is.front.fed in
+    let new : Front = new_front options (length went.cells) went.cells went.point in
+    let more : Prefixed = quotes_new options (length on.rest.bytes) on.rest in
+    let opened : HasNew line text past went.point (past_rest on.rest went.point) stop went.cells new more =
+    subst (λ (l : List Cell). HasNew line text past went.point (past_rest on.rest went.point) stop l (new_front options (length l) l went.point) more) (sym is.front.fed)
+    (new-is options line text past (length (rest_cells line on.rest went.point ++ stop)) (length on.rest.bytes) on.rest stop went.point off is.front.stands is.front.no_ending k (omega (arith, le, size, short)) (omega arith) (omega arith)) in
+    let shorter = opened.front.shorter in
+    let few = ap length opened.front.fed in
+    let column = opened.front.stands.column in
+    let kind : row_kind options new.cells ≡ line_kind options (rest_line more.rest) =
+    ap (row_kind options) opened.front.fed
+    ∙ kind-rest options line more.rest new.point stop off (omega (arith, le, shorter, few, short)) opened.front.no_ending k (omega (arith, column)) opened.front.stands.cut in
+    let same : cond (is_lazy going new.many (row_kind options new.cells)) depth went.many ≡ cond (is_lazy going more.many (line_kind options (rest_line more.rest))) depth on.many =
+    ap₂ (λ (m : ℕ) (r : RowKind). cond (is_lazy going m r) depth went.many) opened.front.many kind
+    ∙ ap (λ (m : ℕ). cond (is_lazy going more.many (line_kind options (rest_line more.rest))) depth m) is.front.many in
+    subst (λ (keep : ℕ). HasHeld line text past p end stop cells (held_behind options depth going went) (quoted_by depth keep more)) same
+    (held-by line text past p end stop cells depth (cond (is_lazy going new.many (row_kind options new.cells)) depth went.many) went new on more is opened)
+
+-- which quotes go on and open on a line, what stands in front of it, and what is left of it
+pub held-is : (options : ParseOptions) (line : Line) (text past : List ℕ) (depth : ℕ) (going : Bool) (r : Rest) (stop : List Cell) (p : Point) → options.constructs.code_indented ≡ false → RestAt text past r p → NoEnding r.bytes → Stops stop → length (rest_cells line r p ++ stop) < 2 ^ 63 →
+    HasHeld line text past p (past_rest r p) stop (rest_cells line r p ++ stop) (held_at options depth going (rest_cells line r p ++ stop) p) (quoted options depth going r)
+unfolding held_at quoted
+held-is options line text past depth going r stop p off is h k short =
+    held-behind options line text past p (past_rest r p) stop (rest_cells line r p ++ stop) depth going (went_front options depth (rest_cells line r p ++ stop) p) (quotes_on options depth r) off k short
+    (went-is options line text past depth r stop p off is h k short)

@@ -1,6 +1,6 @@
 -- The rest of a line that begins within a cut tab is read as if that tab stood there whole: its first cell is fed as a space and
 -- not as the tab, and nothing tells the two apart.
-use Rattle.std.proofs.Common.{◌≡◌, ℕ, zero, suc, ◌^◌, ◌<◌, ◌≤◌, Bool, true, false, cond, ◌&&◌, List, [], ◌∷◌, ◌++◌, length, drop, refl, sym, ap, ◌∙◌, subst, arith}
+use Rattle.std.proofs.Common.{◌≡◌, ℕ, zero, suc, ◌^◌, ◌<◌, ◌≤◌, Bool, true, false, cond, ◌&&◌, List, ◌∷◌, ◌++◌, length, drop, refl, sym, ap, ◌∙◌, arith}
 use Rattle.md_engine.specs.declared.configuration.ParseOptions.{ParseOptions}
 use Rattle.md_engine.specs.declared.event.Event.{Event}
 use Rattle.md_engine.specs.declared.event.Name.TheVariants as n
@@ -20,7 +20,7 @@ use Rattle.md_seam.proofs.RestCells.{Cut, RestAt, cells_by, past_cut, past_rest,
 use Rattle.md_seam.proofs.RestCells as cells
 use Rattle.md_seam.proofs.TextsLemmas.{NoEnding}
 use Rattle.markdown_blocks.specs.Fronted.{cut_tab, rest_line}
-use Rattle.markdown_blocks.specs.Rows.{BlankRow, BreakRow, HeadingRow, Row, RowKind, TextRow, first_cell, inside_of, is_break, line_kind, row_kind}
+use Rattle.markdown_blocks.specs.Rows.{BlankRow, BreakRow, HeadingRow, Row, RowKind, TextRow, first_cell, inside_of, line_kind, row_kind}
 use Rattle.markdown_blocks.proofs.LineKinds.{kind-spread, spread-rest}
 
 -- What does not tell a space from a tab in the first cell has the same value on the rest of a line and on its bytes.
