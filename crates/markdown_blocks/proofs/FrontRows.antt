@@ -285,15 +285,15 @@ marker-is line text past r stop p is e k = go r.spaces r.bytes is (bare r e)
 
 -- The whole prefix, where indented code is off.
 
-pub record HasPrefix (options : ParseOptions) (line : Line) (text past : List ℕ) (end : Point) (stop cells : List Cell) (p : Point) (left : Rest) : Type 0 where
-  pub takes : takes_prefix options cells ≡ true
-  pub fed : prefix_rest options cells ≡ rest_cells line left (prefix_end options cells p) ++ stop
-  pub stands : RestAt text past left (prefix_end options cells p)
-  pub ends : past_rest left (prefix_end options cells p) ≡ end
-  pub prefix : IsPrefix text p (prefix_end options cells p) (prefix_events options cells p)
-  pub shorter : length (prefix_rest options cells) < length cells
+record HasPrefix (options : ParseOptions) (line : Line) (text past : List ℕ) (end : Point) (stop cells : List Cell) (p : Point) (left : Rest) : Type 0 where
+  takes : takes_prefix options cells ≡ true
+  fed : prefix_rest options cells ≡ rest_cells line left (prefix_end options cells p) ++ stop
+  stands : RestAt text past left (prefix_end options cells p)
+  ends : past_rest left (prefix_end options cells p) ≡ end
+  prefix : IsPrefix text p (prefix_end options cells p) (prefix_events options cells p)
+  shorter : length (prefix_rest options cells) < length cells
 
-abbrev pub PrefixIs : ParseOptions → Line → (text past : List ℕ) → Point → (stop cells : List Cell) → Point → Option Taken → Type 0
+abbrev PrefixIs : ParseOptions → Line → (text past : List ℕ) → Point → (stop cells : List Cell) → Point → Option Taken → Type 0
 PrefixIs options line text past end stop cells p (Some taken) = HasPrefix options line text past end stop cells p taken.rest
 PrefixIs options line text past end stop cells p None = takes_prefix options cells ≡ false
 
@@ -302,9 +302,9 @@ unfolding quote_taken
 small options r off = rw off refl
 
 -- a prefix stands on the cells of a line where it does on its bytes
-pub prefix-is : (options : ParseOptions) (line : Line) (text past : List ℕ) (r : Rest) (stop : List Cell) (p : Point) → options.constructs.code_indented ≡ false → RestAt text past r p → Stops stop → length (rest_cells line r p ++ stop) < 2 ^ 63 →
+prefix-agrees : (options : ParseOptions) (line : Line) (text past : List ℕ) (r : Rest) (stop : List Cell) (p : Point) → options.constructs.code_indented ≡ false → RestAt text past r p → Stops stop → length (rest_cells line r p ++ stop) < 2 ^ 63 →
     PrefixIs options line text past (past_rest r p) stop (rest_cells line r p ++ stop) p (quote_taken options r)
-prefix-is options line text past r stop p off is k short =
+prefix-agrees options line text past r stop p off is k short =
     let no = no_limit options off in
     let size : length cells ≡ length (rest_cells line r p) + length stop = length-append (rest_cells line r p) stop in
     let most = indent-length line text past r p is in
@@ -379,7 +379,7 @@ record HasWent (line : Line) (text past : List ℕ) (p end : Point) (stop cells 
 went-is : (options : ParseOptions) (line : Line) (text past : List ℕ) (depth : ℕ) (r : Rest) (stop : List Cell) (p : Point) → options.constructs.code_indented ≡ false → RestAt text past r p → NoEnding r.bytes → Stops stop → length (rest_cells line r p ++ stop) < 2 ^ 63 →
     HasWent line text past p (past_rest r p) stop (rest_cells line r p ++ stop) (went_front options depth (rest_cells line r p ++ stop) p) (quotes_on options depth r)
 went-is options line text past zero r stop p off is h k short = record { front = front-none line text past r stop p is h; fronts = λ opens q es fs. fs }
-went-is options line text past (suc depth) r stop p off is h k short = go (quote_taken options r) refl (prefix-is options line text past r stop p off is k short) (λ (s : Rest) (u : Point) (at : RestAt text past s u) (none : NoEnding s.bytes) (few : length (rest_cells line s u ++ stop) < 2 ^ 63). went-is options line text past depth s stop u off at none k few)
+went-is options line text past (suc depth) r stop p off is h k short = go (quote_taken options r) refl (prefix-agrees options line text past r stop p off is k short) (λ (s : Rest) (u : Point) (at : RestAt text past s u) (none : NoEnding s.bytes) (few : length (rest_cells line s u ++ stop) < 2 ^ 63). went-is options line text past depth s stop u off at none k few)
   where
     cells : List Cell
     cells = rest_cells line r p ++ stop
@@ -478,7 +478,7 @@ opens-is options line text past r stop p off is k short = go options.constructs.
     on (Some t) b e has = (ap₂ (λ (x y : Bool). x && y) b has.takes, e, has)
 
     go : (t : Bool) → options.constructs.block_quote ≡ t → OpensIs options line text past r stop cells p (cond t (quote_taken options r) None)
-    go true b = on (quote_taken options r) b refl (prefix-is options line text past r stop p off is k short)
+    go true b = on (quote_taken options r) b refl (prefix-agrees options line text past r stop p off is k short)
     go false b = ap (λ (x : Bool). x && takes_prefix options cells) b
 
 -- none opens here
