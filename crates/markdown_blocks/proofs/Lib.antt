@@ -12,6 +12,8 @@ pub mod HeadingSpread
 pub mod LineKinds
 pub mod HeadingLines
 pub mod HeadingRuns
+pub mod RestRows
+pub mod FrontRows
 pub mod RowLemmas
 pub mod FlowRows
 pub mod FlowReads

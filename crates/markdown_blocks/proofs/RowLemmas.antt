@@ -21,21 +21,25 @@ use Rattle.md_leaves.specs.HeadingRule.{is_heading_line}
 use Rattle.md_seam.specs.Ahead.{begins_white, from_ending, line_bytes, line_cells, line_end, point_after, white_end, white_rest}
 use Rattle.md_seam.specs.Nested.{Balanced, Forward, Matches, enter, exit, last_point, open_after, pair}
 use Rattle.md_seam.specs.Places.{at_or_before, past_byte, past_text, same_place}
-use Rattle.md_seam.specs.Rest.{is_blank, is_white, trim_start}
+use Rattle.md_seam.specs.Rest.{Rest, is_blank, is_white, trim_start}
 use Rattle.md_seam.specs.Spaces.{small_indent}
 use Rattle.md_seam.specs.Texts.{split_lines}
-use Rattle.md_seam.proofs.FeedLines.{HasEnding, HasLine, Stops, before-byte, before-column, behind_last, begun-none, byte-end, byte_cells, cell, columns_more, drop-past, ending-feed, ending-some, feed-none, front-within, is-ending, line-feed, next_column, past_ending, past_text-column, past_text-whole, slice-front, spread, spread-end, tab_cells}
+use Rattle.md_seam.proofs.FeedLines.{HasEnding, HasLine, Stops, before-byte, before-column, behind_last, begun-none, byte-end, byte_cells, cell, columns_more, drop-past, ending-feed, ending-some, feed-none, front-within, is-ending, line-feed, next_column, past_ending, past_text-column, slice-front, spread, spread-end, tab_cells}
 use Rattle.md_seam.proofs.AheadLemmas.{none-end, white-line_end}
 use Rattle.md_seam.proofs.InlineLemmas.{past-index, same-refl, before-text, past_text-append}
 use Rattle.md_seam.proofs.NestedLemmas.{at_or_before-refl, at_or_before-trans, balanced-append, balanced-none}
+use Rattle.md_seam.proofs.RestCells.{RestAt, rest_cells}
 use Rattle.md_seam.proofs.SpelledLemmas.{Quiet, Roles, roles-append}
 use Rattle.md_seam.proofs.TextsLemmas.{Both, Ending, EndsBefore, LineFeed, NoEnding, Return, ending_bytes, split-line, split-next}
 use Rattle.markdown_blocks.specs.FlowReads.{text_cells, text_rows, text_setting}
-use Rattle.markdown_blocks.specs.Rows.{BlankRow, BreakRow, HeadingRow, Row, RowKind, TextRow, after_ending, break_inside, first_cell, inside_of, is_break, row_at, row_kind, rows_at}
+use Rattle.markdown_blocks.specs.Fronted.{Quoted, quoted, rest_from, rest_line}
+use Rattle.markdown_blocks.specs.Rows.{BlankRow, BreakRow, HeadingRow, Held, Row, RowKind, TextRow, after_ending, break_inside, closes_before, first_cell, held_at, inside_of, is_break, is_text, onto_rows, row_kind, row_of, rows_at, rows_by}
+use Rattle.markdown_blocks.proofs.FrontRows.{HasHeld, held-is}
 use Rattle.markdown_blocks.proofs.HeadingRuns.{heading-runs}
-use Rattle.markdown_blocks.proofs.LineKinds.{kind-spread, no_ending-trim, small-end, small-rest, spread-line, spread-line_end, spread-rest, white_front}
+use Rattle.markdown_blocks.proofs.LineKinds.{kind-spread, no_ending-trim, small-end, small-rest, spread-line, spread-line_end, white_front}
 use Rattle.markdown_blocks.proofs.PiecesLemmas.{Shut, Tiled, shut-exit, tiled-append, tiled-enter, tiled-none, tiled-pair}
-use Rattle.markdown_blocks.proofs.RowFacts.{AreRows, IsEnding, IsInside, IsRow}
+use Rattle.markdown_blocks.proofs.RestRows.{rest-ending, rest-length, rest-no_ending, rest-past, rest-row, rest-text, rest-whole, row_with}
+use Rattle.markdown_blocks.proofs.RowFacts.{AreRows, IsEnding, IsInside, IsLine, IsRow, depth_behind}
 use Rattle.markdown_blocks.proofs.TitleNests.{either, Spans, spans-append}
 
 -- Points go forward.
@@ -263,15 +267,15 @@ inside-row options line bytes p rest off short h k one TextRow other = inside-no
 none-inside : (options : ParseOptions) (cells : List Cell) (p : Point) (kind : RowKind) → kind ≡ TextRow → inside_of options cells p kind ≡ []
 none-inside options cells p kind e = ap (inside_of options cells p) e
 
--- The row of a line.
-pub is-row : (options : ParseOptions) (bytes : List ℕ) (said : Line) (line behind : List ℕ) (p : Point) (rest : List Cell) → options.constructs.code_indented ≡ false → length (spread said line p ++ rest) < 2 ^ 63 →
-    NoEnding line → Stops rest → 1 ≤ p.column → p.vs ≡ 0 → drop p.index bytes ≡ line ++ behind →
-    IsRow options bytes line (row_at options (spread said line p ++ rest) p)
-is-row options bytes said line behind p rest off short h k one vs text =
+-- The row of a line, also where it begins within a tab.
+is-row : (options : ParseOptions) (bytes : List ℕ) (row : Row) (said : Line) (line behind : List ℕ) (p : Point) (rest : List Cell) → options.constructs.code_indented ≡ false → length (spread said line p ++ rest) < 2 ^ 63 →
+    NoEnding line → Stops rest → 1 ≤ p.column → (past_text line p).vs ≡ 0 → drop p.index bytes ≡ line ++ behind →
+    IsRow options bytes line (row_with options row (spread said line p ++ rest) p)
+is-row options bytes row said line behind p rest off short h k one vs text =
     let cells = spread said line p ++ rest in
     let end : line_end cells p ≡ past_text line p = spread-line_end said line p rest h k one in
     let index : (line_end cells p).index ≡ p.index + length line = ap (λ (q : Point). q.index) end ∙ past-index line p in
-    let quiet : row_kind options cells ≢ HeadingRow → IsInside (row_at options cells p) = λ other.
+    let quiet : row_kind options cells ≢ HeadingRow → IsInside (row_with options row cells p) = λ other.
     let inside = inside-row options said line p rest off short h k one (row_kind options cells) other in
     record {
       quiet = inside.quiet;
@@ -286,13 +290,25 @@ is-row options bytes said line behind p rest off short h k one vs text =
       text = slice-front bytes p.index (line_end cells p).index line behind text index;
       size = index;
       end = end;
-      first_whole = vs;
       first_column = one;
-      end_whole = ap (λ (q : Point). q.vs) end ∙ past_text-whole line p vs;
+      end_whole = ap (λ (q : Point). q.vs) end ∙ vs;
       inside = quiet;
       no_inside = none-inside options cells p (row_kind options cells);
       heading = λ is. ap (inside_of options cells p) is ∙ heading-runs options said line p rest off short h k one;
     }
+
+-- the row of what is left of a line behind its prefixes
+pub held-row : (options : ParseOptions) (bytes behind : List ℕ) (said : Line) (r : Rest) (stop : List Cell) (h : Held) (below : List Row) → options.constructs.code_indented ≡ false → h.cells ≡ rest_cells said r h.point ++ stop → length h.cells < 2 ^ 63 →
+    RestAt bytes behind r h.point → NoEnding r.bytes → Stops stop → IsRow options bytes (rest_line r) (row_of options h below)
+held-row options bytes behind said r stop h below off fed short is none k =
+    let row = row_of options h below in
+    let p = h.point in
+    let one : 1 ≤ p.column = let column = is.column in omega (arith, column) in
+    let size = ap length fed in
+    let long = rest-length said r p stop one is.cut in
+    subst (λ (l : List Cell). IsRow options bytes (rest_line r) (row_with options row l p)) (sym fed)
+    (subst (IsRow options bytes (rest_line r)) (sym (rest-row options row said r p stop one is.cut))
+    (is-row options bytes row said (rest_line r) behind p stop off (omega (arith, short, size, long)) (rest-no_ending r none) k one (rest-whole r p is.cut) (rest-text bytes behind r p is)))
 
 -- The first line of a text.
 
@@ -340,64 +356,100 @@ pub record HasLines (x : Setting) (p : Point) : Type 0 where
   pub whole : p.vs ≡ 0
   pub column : 1 ≤ p.column
 
-rows-last : (options : ParseOptions) (n : ℕ) (cells : List Cell) (p : Point) → from_ending cells ≡ [] → rows_at options (suc n) cells p ≡ row_at options cells p ∷ []
-rows-last options n cells p e = ap (λ (l : List Cell). row_at options cells p ∷ elim l [ [] ↦ [] | c ∷ cs ↦ rows_at options n cs c.after ]) e
+-- A line, and what is left behind it.
 
-rows-next : (options : ParseOptions) (n : ℕ) (cells : List Cell) (p : Point) (c : Cell) (cs : List Cell) → from_ending cells ≡ c ∷ cs → rows_at options (suc n) cells p ≡ row_at options cells p ∷ rows_at options n cs c.after
-rows-next options n cells p c cs e = ap (λ (l : List Cell). row_at options cells p ∷ elim l [ [] ↦ [] | c ∷ cs ↦ rows_at options n cs c.after ]) e
+-- the rows of a text whose first line has these containers
+rows-last : (options : ParseOptions) (h : Held) (further : ℕ → Bool → List Cell → Point → List Row) → from_ending h.cells ≡ [] → rows_by options h further ≡ row_of options h [] ∷ []
+rows-last options h further e = ap (λ (l : List Cell). onto_rows options h (elim l [ [] ↦ [] | c ∷ cs ↦ further h.depth (is_text (row_kind options h.cells)) cs c.after ])) e
+
+rows-next : (options : ParseOptions) (h : Held) (further : ℕ → Bool → List Cell → Point → List Row) (c : Cell) (cs : List Cell) → from_ending h.cells ≡ c ∷ cs → rows_by options h further ≡ onto_rows options h (further h.depth (is_text (row_kind options h.cells)) cs c.after)
+rows-next options h further c cs e = ap (λ (l : List Cell). onto_rows options h (elim l [ [] ↦ [] | c ∷ cs ↦ further h.depth (is_text (row_kind options h.cells)) cs c.after ])) e
+
+-- a line with its containers
+record HasRow (options : ParseOptions) (bytes : List ℕ) (depth : ℕ) (going : Bool) (p : Point) (line : List ℕ) (stop : List Cell) (h : Held) : Type 0 where
+  is : (below : List Row) → IsLine options bytes depth going p line (row_of options h below)
+  depth_is : h.depth ≡ depth_behind options depth going p line
+  end : line_end h.cells h.point ≡ past_text line p
+  stops : from_ending h.cells ≡ stop
+
+has-row : (options : ParseOptions) (bytes behind : List ℕ) (said : Line) (depth : ℕ) (going : Bool) (line : List ℕ) (p : Point) (stop : List Cell) → options.constructs.code_indented ≡ false → length (spread said line p ++ stop) < 2 ^ 63 →
+    NoEnding line → Stops stop → p.vs ≡ 0 → 1 ≤ p.column → drop p.index bytes ≡ line ++ behind → HasRow options bytes depth going p line stop (held_at options depth going (spread said line p ++ stop) p)
+has-row options bytes behind said depth going line p stop off short none k whole one text =
+    let r : Rest = rest_from p line in
+    let h : Held = held_at options depth going (spread said line p ++ stop) p in
+    let q : Quoted = quoted options depth going r in
+    let at : RestAt bytes behind r p = record { column = omega arith; cut = whole; text_is = text } in
+    let held : HasHeld said bytes behind p (past_text line p) stop (spread said line p ++ stop) h q = held-is options said bytes behind depth going r stop p off at none k short in
+    let le = held.shorter in
+    let few : length h.cells < 2 ^ 63 = omega (arith, le, short) in
+    let is : (below : List Row) → IsRow options bytes (rest_line q.rest) (row_of options h below) = λ below. held-row options bytes behind said q.rest stop h below off held.fed few held.stands held.no_ending k in
+    let first : 1 ≤ h.point.column = let column = held.stands.column in omega (arith, column) in
+    record {
+      is = λ below. record { is = is below; cut = held.stands.cut; front = held.front; opens = held.opens; closes = held.closes; whole = whole; column = one };
+      depth_is = held.depth;
+      end = (is []).end ∙ rest-past q.rest h.point first held.stands.cut ∙ held.ends;
+      stops = ap from_ending held.fed ∙ rest-ending said q.rest h.point stop first held.stands.cut held.no_ending k;
+    }
 
 -- one line more
-rows-onto : (options : ParseOptions) (bytes line : List ℕ) (row : Row) (p q : Point) (lines : List (List ℕ)) (rows : List Row) → IsRow options bytes line row → row.first ≡ p → row.after ≡ Some q → IsEnding bytes row.end q →
-    AreRows options bytes q lines rows → AreRows options bytes p (line ∷ lines) (row ∷ rows)
-rows-onto options bytes line row p q [] [] is first after ending h = absurd h
-rows-onto options bytes line row p q [] (below ∷ rows) is first after ending h = absurd h
-rows-onto options bytes line row p q (next ∷ []) [] is first after ending h = absurd h
-rows-onto options bytes line row p q (next ∷ further ∷ lines) [] is first after ending h = absurd h
-rows-onto options bytes line row p q (next ∷ lines) (below ∷ rows) is first after ending h = (is, first, q, after, ending, h)
+rows-onto : (options : ParseOptions) (bytes line : List ℕ) (depth : ℕ) (going : Bool) (row : Row) (p q : Point) (lines : List (List ℕ)) (rows : List Row) → IsLine options bytes depth going p line row → row.leaves ≡ closes_before (depth_behind options depth going p line) rows →
+    row.after ≡ Some q → IsEnding bytes row.end q → AreRows options bytes (depth_behind options depth going p line) (is_text row.kind) q lines rows → AreRows options bytes depth going p (line ∷ lines) (row ∷ rows)
+rows-onto options bytes line depth going row p q [] [] is leaves after ending h = absurd h
+rows-onto options bytes line depth going row p q [] (below ∷ rows) is leaves after ending h = absurd h
+rows-onto options bytes line depth going row p q (next ∷ []) [] is leaves after ending h = absurd h
+rows-onto options bytes line depth going row p q (next ∷ further ∷ lines) [] is leaves after ending h = absurd h
+rows-onto options bytes line depth going row p q (next ∷ lines) (below ∷ rows) is leaves after ending h = (is, leaves, q, after, ending, h)
 
 -- the last line
-last-rows : (options : ParseOptions) (n : ℕ) (bytes : List ℕ) (said : Line) (line : List ℕ) (p : Point) (cells : List Cell) → options.constructs.code_indented ≡ false → length cells < 2 ^ 63 →
+last-rows : (options : ParseOptions) (n : ℕ) (bytes : List ℕ) (said : Line) (depth : ℕ) (going : Bool) (line : List ℕ) (p : Point) (cells : List Cell) → options.constructs.code_indented ≡ false → length cells < 2 ^ 63 →
     NoEnding line → p.index ≤ length bytes → p.vs ≡ 0 → 1 ≤ p.column → drop p.index bytes ≡ line → cells ≡ spread said line p ++ [] →
-    AreRows options bytes p (split_lines (drop p.index bytes)) (rows_at options (suc n) cells p)
-last-rows options n bytes said line p cells off short none index vs one text fed =
+    AreRows options bytes depth going p (split_lines (drop p.index bytes)) (rows_at options (suc n) depth going cells p)
+last-rows options n bytes said depth going line p cells off short none index vs one text fed =
     let whole = spread said line p ++ [] in
     let joined : drop p.index bytes ≡ line ++ [] = text ∙ sym (append-nil line) in
     let small : length whole < 2 ^ 63 = let same = ap length fed in omega arith in
-    let is = is-row options bytes said line [] p [] off small none tt one vs joined in
+    let h : Held = held_at options depth going whole p in
+    let has : HasRow options bytes depth going p line [] h = has-row options bytes [] said depth going line p [] off small none tt vs one joined in
     let size = front-within bytes p.index line [] joined index in
-    let all : (line_end whole p).index ≡ length bytes = let end = is.size in omega arith in
-    let last : from_ending whole ≡ [] = spread-rest said line p [] none tt in
-    let rows : AreRows options bytes p (line ∷ []) (row_at options whole p ∷ []) = (is, refl, ap after_ending last, all) in
+    let end = ap (λ (q : Point). q.index) has.end in
+    let past = past-index line p in
+    let all : (line_end h.cells h.point).index ≡ length bytes = omega (arith, end, past, size) in
+    let rows : AreRows options bytes depth going p (line ∷ []) (row_of options h [] ∷ []) = (has.is [], has.depth_is, ap after_ending has.stops, all) in
     let split : split_lines (drop p.index bytes) ≡ line ∷ [] = ap split_lines text ∙ split-line line none in
-    subst (λ (cs : List Cell). AreRows options bytes p (split_lines (drop p.index bytes)) (rows_at options (suc n) cs p)) (sym fed)
-    (subst (λ (l : List Row). AreRows options bytes p (split_lines (drop p.index bytes)) l) (sym (rows-last options n whole p last))
-    (subst (λ (l : List (List ℕ)). AreRows options bytes p l (row_at options whole p ∷ [])) (sym split) rows))
+    subst (λ (cs : List Cell). AreRows options bytes depth going p (split_lines (drop p.index bytes)) (rows_at options (suc n) depth going cs p)) (sym fed)
+    (subst (λ (l : List Row). AreRows options bytes depth going p (split_lines (drop p.index bytes)) l) (sym (rows-last options h (rows_at options n) has.stops))
+    (subst (λ (l : List (List ℕ)). AreRows options bytes depth going p l (row_of options h [] ∷ [])) (sym split) rows))
 
 -- a line with its ending, before others
-next-rows : (options : ParseOptions) (n : ℕ) (bytes : List ℕ) (said : Line) (line : List ℕ) (ending : Ending) (rest : List ℕ) (p q : Point) (cells more : List Cell) → options.constructs.code_indented ≡ false → length cells < 2 ^ 63 →
+next-rows : (options : ParseOptions) (n : ℕ) (bytes : List ℕ) (said : Line) (depth : ℕ) (going : Bool) (line : List ℕ) (ending : Ending) (rest : List ℕ) (p q : Point) (cells more : List Cell) → options.constructs.code_indented ≡ false → length cells < 2 ^ 63 →
     NoEnding line → EndsBefore ending rest → p.vs ≡ 0 → 1 ≤ p.column → drop p.index bytes ≡ line ++ ending_bytes ending ++ rest → drop q.index bytes ≡ rest → IsEnding bytes (past_text line p) q →
-    cells ≡ spread said line p ++ cell 10 q said ∷ more → AreRows options bytes q (split_lines (drop q.index bytes)) (rows_at options n more q) →
-    AreRows options bytes p (split_lines (drop p.index bytes)) (rows_at options (suc n) cells p)
-next-rows options n bytes said line ending rest p q cells more off short none before vs one text left is_ending fed below =
+    cells ≡ spread said line p ++ cell 10 q said ∷ more → ((depth : ℕ) (going : Bool) → AreRows options bytes depth going q (split_lines (drop q.index bytes)) (rows_at options n depth going more q)) →
+    AreRows options bytes depth going p (split_lines (drop p.index bytes)) (rows_at options (suc n) depth going cells p)
+next-rows options n bytes said depth going line ending rest p q cells more off short none before vs one text left is_ending fed further =
     let stop = cell 10 q said ∷ more in
     let whole = spread said line p ++ stop in
     let small : length whole < 2 ^ 63 = let same = ap length fed in omega arith in
-    let is = is-row options bytes said line (ending_bytes ending ++ rest) p stop off small none refl one vs (text ∙ append_assoc line (ending_bytes ending) rest) in
-    let next : from_ending whole ≡ stop = spread-rest said line p stop none refl in
-    let ends : IsEnding bytes (line_end whole p) q = subst (λ (r : Point). IsEnding bytes r q) (sym is.end) is_ending in
-    let rows : AreRows options bytes p (line ∷ split_lines (drop q.index bytes)) (row_at options whole p ∷ rows_at options n more q) =
-    rows-onto options bytes line (row_at options whole p) p q (split_lines (drop q.index bytes)) (rows_at options n more q) is refl (ap after_ending next) ends below in
-    let split : split_lines (drop p.index bytes) ≡ line ∷ split_lines (drop q.index bytes) =
+    let h : Held = held_at options depth going whole p in
+    let has : HasRow options bytes depth going p line stop h = has-row options bytes (ending_bytes ending ++ rest) said depth going line p stop off small none refl vs one (text ∙ append_assoc line (ending_bytes ending) rest) in
+    let below : List Row = rows_at options n h.depth (is_text (row_kind options h.cells)) more q in
+    let row : Row = row_of options h below in
+    let lines : List (List ℕ) = split_lines (drop q.index bytes) in
+    let ends : IsEnding bytes (line_end h.cells h.point) q = subst (λ (r : Point). IsEnding bytes r q) (sym has.end) is_ending in
+    let those : AreRows options bytes (depth_behind options depth going p line) (is_text row.kind) q lines below =
+    subst (λ (d : ℕ). AreRows options bytes d (is_text row.kind) q lines below) has.depth_is (further h.depth (is_text row.kind)) in
+    let rows : AreRows options bytes depth going p (line ∷ lines) (row ∷ below) =
+    rows-onto options bytes line depth going row p q lines below (has.is below) (ap (λ (d : ℕ). closes_before d below) has.depth_is) (ap after_ending has.stops) ends those in
+    let split : split_lines (drop p.index bytes) ≡ line ∷ lines =
     ap split_lines text ∙ split-next line ending rest none before ∙ ap (λ (l : List ℕ). line ∷ split_lines l) (sym left) in
-    subst (λ (cs : List Cell). AreRows options bytes p (split_lines (drop p.index bytes)) (rows_at options (suc n) cs p)) (sym fed)
-    (subst (λ (l : List Row). AreRows options bytes p (split_lines (drop p.index bytes)) l) (sym (rows-next options n whole p (cell 10 q said) more next))
-    (subst (λ (l : List (List ℕ)). AreRows options bytes p l (row_at options whole p ∷ rows_at options n more q)) (sym split) rows))
+    subst (λ (cs : List Cell). AreRows options bytes depth going p (split_lines (drop p.index bytes)) (rows_at options (suc n) depth going cs p)) (sym fed)
+    (subst (λ (l : List Row). AreRows options bytes depth going p (split_lines (drop p.index bytes)) l) (sym (rows-next options h (rows_at options n) (cell 10 q said) more has.stops))
+    (subst (λ (l : List (List ℕ)). AreRows options bytes depth going p l (row ∷ below)) (sym split) rows))
 
 -- The rows from the start of a line on are the lines that are left of the text.
-pub rows-are : (options : ParseOptions) (n : ℕ) (x : Setting) (p : Point) → options.constructs.code_indented ≡ false → HasLines x p → length (text_feed x p) < n →
-    AreRows options x.bytes p (split_lines (drop p.index x.bytes)) (rows_at options n (text_feed x p) p)
-rows-are options zero x p off h short = absurd (omega arith)
-rows-are options (suc n) x p off h short = go (first_line (drop p.index x.bytes)) (λ (q : Point) (k : HasLines x q) (fewer : length (text_feed x q) < n). rows-are options n x q off k fewer)
+pub rows-are : (options : ParseOptions) (n : ℕ) (x : Setting) (depth : ℕ) (going : Bool) (p : Point) → options.constructs.code_indented ≡ false → HasLines x p → length (text_feed x p) < n →
+    AreRows options x.bytes depth going p (split_lines (drop p.index x.bytes)) (rows_at options n depth going (text_feed x p) p)
+rows-are options zero x depth going p off h short = absurd (omega arith)
+rows-are options (suc n) x depth going p off h short = go (first_line (drop p.index x.bytes)) (λ (q : Point) (k : HasLines x q) (fewer : length (text_feed x q) < n) (d : ℕ) (g : Bool). rows-are options n x d g q off k fewer)
   where
     small : x.limit < 2 ^ 61
     small = let limit = h.limit in let size = h.small in omega arith
@@ -406,8 +458,8 @@ rows-are options (suc n) x p off h short = go (first_line (drop p.index x.bytes)
     few = (text-follows x x.limit true small (omega arith) (λ e. refl)).short p
 
     go : NoEnding (drop p.index x.bytes) ⊎ HasNext (drop p.index x.bytes) →
-        ((q : Point) → HasLines x q → length (text_feed x q) < n → AreRows options x.bytes q (split_lines (drop q.index x.bytes)) (rows_at options n (text_feed x q) q)) →
-        AreRows options x.bytes p (split_lines (drop p.index x.bytes)) (rows_at options (suc n) (text_feed x p) p)
+        ((q : Point) → HasLines x q → length (text_feed x q) < n → (d : ℕ) (g : Bool) → AreRows options x.bytes d g q (split_lines (drop q.index x.bytes)) (rows_at options n d g (text_feed x q) q)) →
+        AreRows options x.bytes depth going p (split_lines (drop p.index x.bytes)) (rows_at options (suc n) depth going (text_feed x p) p)
     go (inl none) more =
         let line = drop p.index x.bytes in
         let joined : drop p.index x.bytes ≡ line ++ [] = sym (append-nil line) in
@@ -415,7 +467,7 @@ rows-are options (suc n) x p off h short = go (first_line (drop p.index x.bytes)
         let limit = h.limit in
         let index = past-index line p in
         let has : HasLine x line [] p = record { small = small; text = joined; no_ending = none; within = omega arith; whole = h.whole; column = h.column } in
-        last-rows options n x.bytes x.line line p (text_feed x p) off few none h.index h.whole h.column refl
+        last-rows options n x.bytes x.line depth going line p (text_feed x p) off few none h.index h.whole h.column refl
         (line-feed x line [] p has ∙ ap (λ (l : List Cell). spread x.line line p ++ l) (feed-none x (past_text line p) small (omega arith)))
     go (inr h') more =
         let line = h'.line in
@@ -434,11 +486,11 @@ rows-are options (suc n) x p off h short = go (first_line (drop p.index x.bytes)
         let fed : text_feed x p ≡ spread x.line line p ++ cell 10 q x.line ∷ text_feed x q = line-feed x line (ending_bytes h'.ending ++ h'.rest) p has ∙ ap (λ (l : List Cell). spread x.line line p ++ l) (ending-feed x h'.ending h'.rest end stop) in
         let long = ap length fed ∙ length-append (spread x.line line p) (cell 10 q x.line ∷ text_feed x q) in
         let lines : HasLines x q = record { small = h.small; limit = h.limit; skips = h.skips; index = omega arith; whole = refl; column = omega arith } in
-        next-rows options n x.bytes x.line line h'.ending h'.rest p q (text_feed x p) (text_feed x q) off few h'.no_ending h'.before h.whole h.column h'.joined left
+        next-rows options n x.bytes x.line depth going line h'.ending h'.rest p q (text_feed x p) (text_feed x q) off few h'.no_ending h'.before h.whole h.column h'.joined left
         (is-ending x.bytes h'.ending h'.rest end behind h'.before) fed (more q lines (omega arith))
 
 -- So are those that a new tokenizer reads to the end of a text.
 pub fresh-rows : (options : ParseOptions) (bytes : List ℕ) (p : Point) → options.constructs.code_indented ≡ false → length bytes < 2 ^ 61 → p.index ≤ length bytes → p.vs ≡ 0 → 1 ≤ p.column →
-    AreRows options bytes p (split_lines (drop p.index bytes)) (text_rows options bytes p)
-fresh-rows options bytes p off small index whole column = rows-are options (suc (length (text_cells bytes options p))) (text_setting bytes options p) p off
+    AreRows options bytes 0 false p (split_lines (drop p.index bytes)) (text_rows options bytes p)
+fresh-rows options bytes p off small index whole column = rows-are options (suc (length (text_cells bytes options p))) (text_setting bytes options p) 0 false p off
     (record { small = small; limit = refl; skips = refl; index = index; whole = whole; column = column }) (omega arith)
