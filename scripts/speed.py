@@ -1,6 +1,6 @@
 #!/usr/bin/env python3
 """Measures the built program `blocks` on 1, 2, 4 and 8 MB of paragraphs and breaks, on 10,000 to 80,000 headings, on 1, 2, 4 and 8
-MB of quotes, and on 1,000 to 8,000 lines in 1,000 quotes.
+MB of quotes, and on 500 to 4,000 lines in 1,000 quotes.
 
 `rt run` in crates/blocks builds it as crates/blocks/out/blocks. Each line of the report has the size of the text, the time
 from the start of the process to its end, the text read in a second, and the most memory that the process held (at least
@@ -84,7 +84,7 @@ def main() -> None:
         seconds, kilobytes = measure(program, write_quotes, megabytes * MEGABYTE)
         speed = megabytes / seconds
         print(f"{megabytes} MB of quotes: {seconds:.2f} s, {speed:.2f} MB/s, {kilobytes / 1024:.0f} MiB at most")
-    for count in (1_000, 2_000, 4_000, 8_000):
+    for count in (500, 1_000, 2_000, 4_000):
         seconds, kilobytes = measure(program, write_deep, count)
         speed = count * len(DEEP) / MEGABYTE / seconds
         print(f"{count} lines in 1,000 quotes: {seconds:.2f} s, {speed:.2f} MB/s, {kilobytes / 1024:.0f} MiB at most")

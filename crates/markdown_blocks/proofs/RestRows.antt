@@ -17,7 +17,6 @@ use Rattle.md_seam.specs.Rest.{Rest, is_blank}
 use Rattle.md_seam.specs.Spaces.{any_size, small_indent}
 use Rattle.md_seam.proofs.FeedLines.{Stops, behind_last, cell, columns_more, next_column, past_text-whole, spread, tab_cells, tab_end, tab_end-stop}
 use Rattle.md_seam.proofs.RestCells.{Cut, RestAt, cells_by, past_cut, past_rest, rest_cells}
-use Rattle.md_seam.proofs.RestCells as cells
 use Rattle.md_seam.proofs.TextsLemmas.{NoEnding}
 use Rattle.markdown_blocks.specs.Fronted.{cut_tab, rest_line}
 use Rattle.markdown_blocks.specs.Rows.{BlankRow, BreakRow, HeadingRow, Row, RowKind, TextRow, first_cell, inside_of, line_kind, row_kind}
@@ -131,8 +130,4 @@ rest-whole r p = go r.spaces
 
 -- and its bytes in the text
 pub rest-text : (text past : List ℕ) (r : Rest) (p : Point) → RestAt text past r p → drop p.index text ≡ rest_line r ++ past
-rest-text text past r p is = is.text_is ∙ go r.spaces
-  where
-    go : (spaces : ℕ) → cells.cut_tab spaces ++ r.bytes ++ past ≡ cut_tab spaces ++ r.bytes ++ past
-    go zero = refl
-    go (suc k) = refl
+rest-text text past r p is = is.text_is

@@ -3,6 +3,7 @@ use Rattle.std.specs.Prelude.{ℕ, zero, suc, ◌+◌, ◌-◌, Bool, ◌&&◌, 
 use Rattle.md_engine.specs.declared.configuration.ParseOptions.{ParseOptions}
 use Rattle.md_engine.specs.declared.event.Point.{Point}
 use Rattle.md_seam.specs.Containers.{Taken, opens_quote, quote_taken}
+pub use Rattle.md_seam.specs.Rest.{cut_tab}
 use Rattle.md_seam.specs.Rest.{Rest}
 use Rattle.markdown_blocks.specs.Rows.{is_lazy, line_kind}
 
@@ -28,10 +29,6 @@ quotes_new options zero r = no_prefix r
 quotes_new options (suc n) r = elim (opens_quote options r) [ None ↦ no_prefix r | Some t ↦ one_more (quotes_new options n t.rest) ]
 
 -- as the rest of a line stands in the text: a tab that is cut is counted among its bytes
-abbrev pub cut_tab : ℕ → List ℕ
-cut_tab zero = []
-cut_tab (suc n) = 9 ∷ []
-
 abbrev pub rest_line : Rest → List ℕ
 rest_line r = cut_tab r.spaces ++ r.bytes
 

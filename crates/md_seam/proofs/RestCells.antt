@@ -12,7 +12,7 @@ use Rattle.md_engine.specs.World.{Setting}
 use Rattle.md_seam.specs.Ahead.{begins_white, point_after, white_end, white_rest}
 use Rattle.md_seam.specs.Places.{at_or_before, past_byte, past_text}
 use Rattle.md_seam.specs.Preamble.{rest_at}
-use Rattle.md_seam.specs.Rest.{Rest, behind, behind_indent, indent, is_white, lose, tab_columns, white_columns, without_column}
+use Rattle.md_seam.specs.Rest.{Rest, behind, behind_indent, cut_tab, indent, is_white, lose, tab_columns, white_columns, without_column}
 use Rattle.md_seam.proofs.FeedLines.{HasLine, Stops, at-next, before-byte, before-column, behind_last, byte-one, cell, columns_more, line-feed, next_column, past-next, point_after-append, spread, spread-end, stops-white, tab-end, tab-feed, tab_cells, tab_end, tab_end-last, tab_end-next, tab_end-stop}
 use Rattle.md_seam.proofs.NestedLemmas.{at_or_before-refl, at_or_before-trans}
 use Rattle.md_seam.proofs.TextsLemmas.{NoEnding, no_ending-drop}
@@ -25,11 +25,6 @@ cells_by line (suc n) bytes p = tab_cells line n 32 p ++ spread line bytes (tab_
 
 abbrev pub rest_cells : Line → Rest → Point → List Cell
 rest_cells line r p = cells_by line r.spaces r.bytes p
-
--- the byte of a tab of which some columns are left
-abbrev pub cut_tab : ℕ → List ℕ
-cut_tab zero = []
-cut_tab (suc n) = 9 ∷ []
 
 -- a point begins a byte, or lies within a tab of which so many columns are left
 abbrev pub Cut : ℕ → Point → Type 0

@@ -60,6 +60,11 @@ is_small options columns = not options.constructs.code_indented || nat_le column
 abbrev pub has_small_indent : ParseOptions → Rest → Bool
 has_small_indent options r = is_small options (indent r)
 
+-- the byte of a tab of which so many columns are left, if any
+abbrev pub cut_tab : ℕ → List ℕ
+cut_tab zero = []
+cut_tab (suc columns) = 9 ∷ []
+
 -- without one column of a space, of a tab or of what is left of a tab
 abbrev pub without_column : ℕ → ℕ → List ℕ → Rest
 without_column column (suc spaces) bytes = record { column = column + 1; spaces = spaces; bytes = bytes }
