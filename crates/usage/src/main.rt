@@ -10,10 +10,10 @@ use markdown_blocks::parser::parse;
 use std::alloc::Global;
 use std::process::ExitCode;
 
-/// ATX headings and thematic breaks, and no other construct.
-const LEAVES: ParseOptions = ParseOptions {
+/// Block quotes, ATX headings and thematic breaks, and no other construct.
+const BUILT: ParseOptions = ParseOptions {
     constructs: Constructs {
-        block_quote: false,
+        block_quote: true,
         code_fenced: false,
         code_indented: false,
         definition: false,
@@ -34,11 +34,11 @@ const LEAVES: ParseOptions = ParseOptions {
     },
 };
 
-/// The lines of all headings and paragraphs, and a line `---` for each break.
+/// The lines of all headings and paragraphs, in quotes and outside, and a line `---` for each break.
 fn plain_text(alloc: Global, text: &str) -> Result<String, Message>
     requires { IsSmall text.now }
 {
-    let (events, state) = parse(alloc, text, &LEAVES)?;
+    let (events, state) = parse(alloc, text, &BUILT)?;
     let mut plain = String::new(alloc);
     for line in outline(alloc, &events, &state)?.iter() {
         let part = match line.word {
@@ -54,7 +54,7 @@ fn plain_text(alloc: Global, text: &str) -> Result<String, Message>
 }
 
 fn main(rt: HostRuntime) -> ExitCode {
-    match plain_text(rt.alloc(), "# a #\n  b\nc\n\n* * *\n\nd") {
+    match plain_text(rt.alloc(), "# a #\n  b\nc\n\n* * *\n\n> d\ne") {
         Ok(plain) if rt.print(&plain).is_ok() => ExitCode::SUCCESS,
         _ => ExitCode::FAILURE,
     }
