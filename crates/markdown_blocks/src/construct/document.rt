@@ -66,10 +66,7 @@ pub fn before_frontmatter(_tokenizer: &mut Tokenizer) -> State
 fn next_container(tokenizer: &Tokenizer) -> Option<Container>
     ensures { result ≡ next_container (world tokenizer.now).flags }
 {
-    tokenizer
-        .containers
-        .get(tokenizer.flags.continued)
-        .copied()
+    tokenizer.containers.get(tokenizer.flags.continued).copied()
 }
 
 /// The state in front of the prefix of a container on a further line.
