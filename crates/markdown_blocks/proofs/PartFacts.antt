@@ -1,5 +1,5 @@
 -- Events outside of text parts, the chunks of a text part, and lines of which nothing is read later.
-use Rattle.std.proofs.Common.{◌≡◌, ◌≢◌, ℕ, zero, suc, true, false, cond, ◌&&◌, ◌==◌, List, [], ◌∷◌, ◌++◌, refl, ap, ◌∙◌, append-nil}
+use Rattle.std.proofs.Common.{◌≡◌, ◌≢◌, ℕ, zero, suc, Bool, true, false, cond, ◌&&◌, ◌==◌, List, [], ◌∷◌, ◌++◌, refl, ap, ◌∙◌, append-nil}
 use Rattle.std.specs.Prelude.{Option, Some, None}
 use Rattle.md_engine.specs.declared.configuration.ParseOptions.{ParseOptions}
 use Rattle.md_engine.specs.declared.event.Event.{Event}
@@ -21,7 +21,7 @@ use Rattle.md_seam.specs.Spaces.{small_indent}
 use Rattle.md_seam.specs.Spelled.{role}
 use Rattle.md_seam.specs.Tiles.{chunks, inside_part, is_part, part_kind}
 use Rattle.md_seam.proofs.SpelledLemmas.{Quiet, Roles}
-use Rattle.markdown_blocks.specs.Rows.{BlankRow, BreakRow, Group, HeadingRow, Lines, Row, RowKind, Single, TextRow, first_cell, groups, inside_of, onto_groups, row_kind, rows_at}
+use Rattle.markdown_blocks.specs.Rows.{BlankRow, BreakRow, Group, HeadingRow, Held, Lines, Row, RowKind, Single, TextRow, first_cell, goes_on, groups, held_at, inside_of, is_text, onto_groups, row_kind, rows_at, rows_by}
 use Rattle.markdown_blocks.specs.Unread.{linked}
 use Rattle.markdown_blocks.proofs.TitleFacts.{NoLinks}
 use Rattle.markdown_blocks.proofs.TitleNests.{either}
@@ -33,7 +33,7 @@ abbrev pub NoParts : List Event → Type 0
 NoParts [] = Unit {0}
 NoParts (e ∷ es) = (part_kind e.name ≡ None) × NoParts es
 
-no_parts-append : (xs ys : List Event) → NoParts xs → NoParts ys → NoParts (xs ++ ys)
+pub no_parts-append : (xs ys : List Event) → NoParts xs → NoParts ys → NoParts (xs ++ ys)
 no_parts-append [] ys h k = k
 no_parts-append (e ∷ xs) ys h k = (h.0, no_parts-append xs ys h.1 k)
 
@@ -116,7 +116,7 @@ abbrev pub EachUnlinked : List Row → Type 0
 EachUnlinked [] = Unit {0}
 EachUnlinked (row ∷ rows) = IsUnlinked row × EachUnlinked rows
 
-no_links-append : (xs ys : List Event) → NoLinks xs → NoLinks ys → NoLinks (xs ++ ys)
+pub no_links-append : (xs ys : List Event) → NoLinks xs → NoLinks ys → NoLinks (xs ++ ys)
 no_links-append [] ys h k = k
 no_links-append (e ∷ xs) ys h k = (h.0, no_links-append xs ys h.1 k)
 
@@ -140,13 +140,20 @@ inside-unlinked options cells p BreakRow other =
 inside-unlinked options cells p TextRow other = tt
 
 -- so it is in the lines that flow reads
-pub rows_at-unlinked : (options : ParseOptions) (size : ℕ) (cells : List Cell) (p : Point) → EachUnlinked (rows_at options size cells p)
-rows_at-unlinked options zero cells p = tt
-rows_at-unlinked options (suc size) cells p = (λ other. inside-unlinked options cells p (row_kind options cells) other, go (rows_at-unlinked options size) (from_ending cells))
+rows_by-unlinked : (options : ParseOptions) (h : Held) (further : ℕ → Bool → List Cell → Point → List Row) → ((depth : ℕ) (going : Bool) (cells : List Cell) (p : Point) → EachUnlinked (further depth going cells p)) →
+    EachUnlinked (rows_by options h further)
+rows_by-unlinked options h further each = (λ other. inside-unlinked options h.cells h.point (row_kind options h.cells) other, go (from_ending h.cells))
   where
-    go : ((cells : List Cell) (p : Point) → EachUnlinked (rows_at options size cells p)) → (rest : List Cell) → EachUnlinked (elim rest [ [] ↦ [] | c ∷ cs ↦ rows_at options size cs c.after ])
-    go further [] = tt
-    go further (c ∷ cs) = further cs c.after
+    going : Bool
+    going = is_text (row_kind options h.cells)
+
+    go : (rest : List Cell) → EachUnlinked (elim rest [ [] ↦ [] | c ∷ cs ↦ further h.depth going cs c.after ])
+    go [] = tt
+    go (c ∷ cs) = each h.depth going cs c.after
+
+pub rows_at-unlinked : (options : ParseOptions) (size depth : ℕ) (going : Bool) (cells : List Cell) (p : Point) → EachUnlinked (rows_at options size depth going cells p)
+rows_at-unlinked options zero depth going cells p = tt
+rows_at-unlinked options (suc size) depth going cells p = rows_by-unlinked options (held_at options depth going cells p) (rows_at options size) (rows_at-unlinked options size)
 
 -- the same of the lines of groups that are no text
 abbrev pub AreUnlinked : List Group → Type 0
@@ -164,4 +171,8 @@ groups-unlinked (row ∷ rows) h = onto row.kind (groups rows) (groups-unlinked 
     onto BreakRow gs k = (h.0, k)
     onto TextRow [] k = tt
     onto TextRow (Single first ∷ gs) k = k
-    onto TextRow (Lines first rows ∷ gs) k = k
+    onto TextRow (Lines first rows ∷ gs) k = joins (goes_on row first)
+      where
+        joins : (on : Bool) → AreUnlinked (cond on (Lines row (first ∷ rows) ∷ gs) (Lines row [] ∷ Lines first rows ∷ gs))
+        joins true = k
+        joins false = k
