@@ -32,7 +32,7 @@ pub mod ParagraphReads
 pub mod TitleFacts
 pub mod TitleNests
 pub mod PartFacts
-pub mod FrontLemmas
+pub mod FrontParts
 pub mod TileParts
 pub mod MarkLemmas
 pub mod DocumentStates

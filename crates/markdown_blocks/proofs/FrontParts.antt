@@ -1,33 +1,18 @@
--- What stands in front of a line goes forward, is not read later and holds no text part; nor do the ends of quotes behind one.
-use Rattle.std.proofs.Common.{◌≡◌, ℕ, zero, suc, Bool, true, false, cond, List, [], ◌∷◌, ◌++◌, refl, sym, subst, arith}
-use Rattle.std.specs.Prelude.{IsTrue, None}
-use Rattle.std.proofs.lemmas.Bool.Decides.{nat_tests}
+-- Nothing of what stands in front of a line is read later, and no text part begins or ends there; so it is with the ends of quotes.
+use Rattle.std.proofs.Common.{◌≡◌, ℕ, zero, suc, Bool, true, false, cond, List, [], ◌∷◌, ◌++◌, refl, sym, subst}
+use Rattle.std.specs.Prelude.{None}
 use Rattle.md_engine.specs.declared.event.Event.{Event}
 use Rattle.md_engine.specs.declared.event.Name.{Name}
 use Rattle.md_engine.specs.declared.event.Name.TheVariants as n
 use Rattle.md_engine.specs.declared.event.Point.{Point}
 use Rattle.md_seam.specs.Inline.{pair_unless_empty}
 use Rattle.md_seam.specs.Nested.{enter, exit, pair}
-use Rattle.md_seam.specs.Places.{at_or_before, same_place}
+use Rattle.md_seam.specs.Places.{same_place}
 use Rattle.md_seam.specs.Tiles.{part_kind}
-use Rattle.md_seam.proofs.NestedLemmas.{at_or_before-refl, at_or_before-trans}
 use Rattle.markdown_blocks.specs.Rows.{quote_ends}
 use Rattle.markdown_blocks.proofs.FrontFacts.{Behind, Begins, Fronts, Goes, IsPrefix}
 use Rattle.markdown_blocks.proofs.PartFacts.{NoParts, no_links-append, no_parts-append}
 use Rattle.markdown_blocks.proofs.TitleFacts.{NoLinks}
-
--- The points go on.
-
-pub prefix-order : (bytes : List ℕ) (p q : Point) (es : List Event) → IsPrefix bytes p q es → IsTrue (at_or_before p q)
-prefix-order bytes p q es is = at_or_before-trans p is.marker q is.indent (at_or_before-trans is.marker is.behind q (further is.past) is.column)
-  where
-    further : is.behind.index ≡ suc is.marker.index → IsTrue (at_or_before is.marker is.behind)
-    further e = grind (arith, nat_tests)
-
-pub fronts-order : (bytes : List ℕ) (opens : ℕ) (p q : Point) (es : List Event) → Fronts bytes opens p q es → IsTrue (at_or_before p q)
-fronts-order bytes opens p q es (Behind at) = at_or_before-refl at
-fronts-order bytes opens first last es (Goes same p q r xs ys is more) = at_or_before-trans p q r (prefix-order bytes p q xs is) (fronts-order bytes same q r ys more)
-fronts-order bytes opens first last es (Begins before p q r xs ys is more) = at_or_before-trans p q r (prefix-order bytes p q xs is) (fronts-order bytes before q r ys more)
 
 -- Nothing of them is read later.
 
