@@ -1,5 +1,5 @@
 -- The text parts of a text, before they are read, stand as its tiling asks: one chunk a line, and no chunk elsewhere.
-use Rattle.std.proofs.Common.{◌≡◌, ◌≢◌, ℕ, ◌+◌, Bool, true, false, cond, not, ◌&&◌, List, [], ◌∷◌, ◌++◌, length, drop, take, refl, ap, sym, ◌∙◌, subst, append_assoc, append-nil, arith}
+use Rattle.std.proofs.Common.{◌≡◌, ◌≢◌, ℕ, ◌+◌, ◌-◌, ◌≤◌, Bool, true, false, cond, not, ◌&&◌, List, [], ◌∷◌, ◌++◌, length, drop, take, refl, ap, sym, ◌∙◌, subst, append_assoc, append-nil, arith}
 use Rattle.std.specs.Prelude.{◌==◌, IsTrue, Option, Some, None}
 use Rattle.std.specs.List.{list_all}
 use Rattle.std.proofs.lemmas.Bool.{and_from, and_parts}
@@ -30,11 +30,12 @@ use Rattle.markdown_blocks.specs.Document.{body_point, mark_end, mark_events}
 use Rattle.markdown_blocks.specs.Rows.{BlankRow, BreakRow, Group, HeadingRow, Lines, Row, RowKind, Single, TextRow, behind_row, chunks_of, ending_events, groups, last_row, quote_ends, row_line, row_title, tail_events}
 use Rattle.markdown_blocks.specs.Unread.{linked, linked_lines, titled_group, titled_groups, titled_row_by, unread_paragraph}
 use Rattle.markdown_blocks.proofs.FrontFacts.{Behind, Begins, Fronts, Goes, IsPrefix}
+use Rattle.markdown_blocks.proofs.FrontLemmas.{fronts-balanced, fronts-spans, fronts-turn}
 use Rattle.markdown_blocks.proofs.FrontParts.{ends-no_parts, ends-unlinked, fronts-no_parts, fronts-unlinked}
 use Rattle.markdown_blocks.proofs.GroupLemmas.{AreGroups, HasFront, IsParagraph, IsSingle, groups-are, paragraph-lines, title-lines}
 use Rattle.markdown_blocks.proofs.JoinedLemmas.{EachNoContent}
 use Rattle.markdown_blocks.proofs.MarkLemmas.{mark-nested}
-use Rattle.markdown_blocks.proofs.NestedRows.{ByLines, Nested_in, Onward, Ordered, around-nested, behind-order, blank-nested, block-nested, break-nested, heading-nested, line-order, onward-before, onward-next, rows-hold}
+use Rattle.markdown_blocks.proofs.NestedRows.{ByLines, Nested_in, Onward, Ordered, Under, around-nested, behind-order, blank-nested, break-nested, heading-nested, line-order, rows-hold, under-line, under-next, under-none, under-turn}
 use Rattle.markdown_blocks.proofs.PartFacts.{AreUnlinked, EachUnlinked, IsUnlinked, NoParts, end-goes, groups-unlinked, linked-chunks, linked-no_parts, no_parts-append, part-inside, pieces-behind, quiet-no_parts, runs-no_parts}
 use Rattle.markdown_blocks.proofs.PiecesLemmas.{Ends, ends-append, pieces-ended}
 use Rattle.markdown_blocks.proofs.RowFacts.{AreRows, IsInside, IsRow}
@@ -311,38 +312,47 @@ text-nested line p = go (length (text_of line) == 0)
     go true = (balanced-none, (tt, text-order line p))
     go false = around-nested n.HeadingAtxText begin end (enter_link n.Data begin heading_link ∷ exit n.Data end ∷ []) (linked-nested heading_link begin end (text-order line p))
 
-single-nested : (bytes : List ℕ) (row : Row) → Ordered bytes row → row.kind ≢ TextRow → (kind : RowKind) → row.kind ≡ kind → Nested_in row.first (behind_row row) (titled_row_by bytes kind row)
-single-nested bytes row o other BlankRow e = blank-nested bytes row o e
-single-nested bytes row o other HeadingRow e = heading-nested bytes row (linked_text (row_title bytes row).text) o (text-nested (row_line bytes row) row.first)
-single-nested bytes row o other BreakRow e = break-nested bytes row o e
-single-nested bytes row o other TextRow e = absurd (other e)
+single-nested : (bytes : List ℕ) (size : ℕ) (p : Point) (row : Row) (events : List Event) → Ordered bytes p row → row.leaves ≤ size + row.opens → row.kind ≢ TextRow → Under (size + row.opens - row.leaves) (behind_row row) events → (kind : RowKind) → row.kind ≡ kind →
+    Under size p (titled_row_by bytes kind row ++ events)
+single-nested bytes size p row events o most other on BlankRow e = under-line bytes size p row n.BlankLineEnding row.inside events o most (blank-nested bytes p row o e) on
+single-nested bytes size p row events o most other on HeadingRow e =
+    let text : List Event = linked_text (row_title bytes row).text in
+    let inside : List Event = (row_title bytes row).front ++ text ++ (row_title bytes row).back in
+    under-line bytes size p row n.LineEnding (around n.HeadingAtx row.first row.end inside) events o most (heading-nested bytes p row text o (text-nested (row_line bytes row) row.first)) on
+single-nested bytes size p row events o most other on BreakRow e = under-line bytes size p row n.LineEnding (around n.ThematicBreak row.first row.end row.inside) events o most (break-nested bytes p row o e) on
+single-nested bytes size p row events o most other on TextRow e = absurd (other e)
 
-abbrev Titled : List ℕ → Point → List Group → Type 0
-Titled bytes p gs = Onward p (titled_groups bytes gs)
+-- so many quotes are open in front of groups
+abbrev Titled : List ℕ → ℕ → Point → List Group → Type 0
+Titled bytes size p gs = Under size p (titled_groups bytes gs)
 
 titled-by_lines : (bytes : List ℕ) → ByLines bytes (Titled bytes)
 titled-by_lines bytes = record {
-  none = λ p. record { balanced = balanced-none; forward = tt };
-  single = λ row gs o other nests. onward-before row.first (behind_row row) (titled_row_by bytes row.kind row) (titled_groups bytes gs) (single-nested bytes row o other row.kind refl) nests;
-  alone = λ row gs o nests.
+  none = λ p. record { matches = tt; closed = refl; forward = tt };
+  single = λ size p row gs o most other on. single-nested bytes size p row (titled_groups bytes gs) o most other on row.kind refl;
+  alone = λ size p row gs o most on.
       let inside : List Event = enter_link n.Data row.first text_link ∷ exit n.Data row.end ∷ [] in
-      onward-before row.first (behind_row row) (around n.Paragraph row.first row.end inside ++ ending_events n.LineEnding row) (titled_groups bytes gs)
-      (block-nested bytes n.Paragraph row inside o (linked-nested text_link row.first row.end (line-order bytes row o))) nests;
-  next = λ row below rows gs o nests.
+      under-line bytes size p row n.LineEnding (around n.Paragraph row.first row.end inside) (titled_groups bytes gs) o most
+      (around-nested n.Paragraph row.first row.end inside (linked-nested text_link row.first row.end (line-order bytes p row o))) on;
+  next = λ size p row below rows gs o under leaves opens on.
+      let q : Point = behind_row row in
+      let chunk : List Event = enter_link n.Data row.first text_link ∷ exit n.Data q ∷ [] in
       let last : Row = last_row below rows in
-      onward-next row.first (behind_row row) below.first last.end (enter_link n.Data row.first text_link ∷ exit n.Data (behind_row row) ∷ []) (linked n.Data text_link (chunks_of below rows)) (ending_events n.LineEnding last) (titled_groups bytes gs)
-      (linked-nested text_link row.first (behind_row row) (behind-order bytes row o)) nests;
+      let lines : List Event = linked_lines n.Data text_link below rows in
+      let tail : List Event = tail_events n.LineEnding last in
+      let more : List Event = titled_groups bytes gs in
+      let whole : List Event = around n.Paragraph row.first last.end (chunk ++ below.front ++ lines) in
+      let apart : (row.front ++ whole ++ tail) ++ more ≡ row.front ++ (whole ++ (tail ++ more)) = simp append_assoc in
+      subst (Under size p) (sym apart)
+      (under-turn size (size + row.opens) p row.first row.front (whole ++ (tail ++ more)) (fronts-turn bytes row.opens size p row.first row.front o.front) (fronts-spans bytes row.opens p row.first row.front o.front)
+      (under-next (size + row.opens) row.first q below.first last.end below.front chunk lines tail more (linked-nested text_link row.first q (behind-order bytes p row o))
+      (fronts-balanced bytes below.opens q below.first below.front under.front opens) on));
 }
 
-titled-nest : (options : ParseOptions) (bytes : List ℕ) (p : Point) (lines : List (List ℕ)) (rows : List Row) → AreRows options bytes p lines rows → Titled bytes p (groups rows)
-titled-nest options bytes p lines rows are = rows-hold bytes (Titled bytes) (titled-by_lines bytes) options p lines rows are
+titled-nest : (options : ParseOptions) (bytes : List ℕ) (p : Point) (lines : List (List ℕ)) (rows : List Row) → AreRows options bytes 0 false p lines rows → Onward p (titled_groups bytes (groups rows))
+titled-nest options bytes p lines rows are = under-none p (titled_groups bytes (groups rows)) (rows-hold bytes (Titled bytes) (titled-by_lines bytes) options p lines rows are)
 
-pub titled-balanced : (options : ParseOptions) (bytes : List ℕ) (p : Point) (lines : List (List ℕ)) (rows : List Row) → AreRows options bytes p lines rows → Balanced (titled_groups bytes (groups rows))
-titled-balanced options bytes p lines rows are = (titled-nest options bytes p lines rows are).balanced
-
-pub titled-forward : (options : ParseOptions) (bytes : List ℕ) (p : Point) (lines : List (List ℕ)) (rows : List Row) → AreRows options bytes p lines rows → Forward p (titled_groups bytes (groups rows))
-titled-forward options bytes p lines rows are = (titled-nest options bytes p lines rows are).forward
-
-pub blocks-nested : (options : ParseOptions) (bytes : List ℕ) (lines : List (List ℕ)) (rows : List Row) → AreRows options bytes (body_point bytes) lines rows → Nested (mark_events bytes ++ titled_groups bytes (groups rows))
+pub blocks-nested : (options : ParseOptions) (bytes : List ℕ) (lines : List (List ℕ)) (rows : List Row) → AreRows options bytes 0 false (body_point bytes) lines rows → Nested (mark_events bytes ++ titled_groups bytes (groups rows))
 blocks-nested options bytes lines rows are =
-    mark-nested bytes (titled_groups bytes (groups rows)) (titled-balanced options bytes (body_point bytes) lines rows are) (titled-forward options bytes (body_point bytes) lines rows are)
+    let nests : Onward (body_point bytes) (titled_groups bytes (groups rows)) = titled-nest options bytes (body_point bytes) lines rows are in
+    mark-nested bytes (titled_groups bytes (groups rows)) nests.balanced nests.forward
