@@ -74,14 +74,14 @@ linked-ends link [] = refl
 linked-ends link (c ∷ cs) = linked-ends link cs
 
 -- Events that may stand in a text part, with these chunks.
-record Inside (bytes : List ℕ) (cs : List Chunk) (es : List Event) : Type 0 where
-  outside : NoParts es
-  ends : Ends Exit es
-  white : list_all (is_white_piece bytes) (pieces es) ≡ true
-  has : chunks (pieces es) ≡ cs
-  stand : (ys : List Event) → chunks_stand 1 (es ++ ys) ≡ chunks_stand 1 ys
+pub record Inside (bytes : List ℕ) (cs : List Chunk) (es : List Event) : Type 0 where
+  pub outside : NoParts es
+  pub ends : Ends Exit es
+  pub white : list_all (is_white_piece bytes) (pieces es) ≡ true
+  pub has : chunks (pieces es) ≡ cs
+  pub stand : (ys : List Event) → chunks_stand 1 (es ++ ys) ≡ chunks_stand 1 ys
 
-inside-linked : (bytes : List ℕ) (link : Link) (cs : List Chunk) → Inside bytes cs (linked n.Data link cs)
+pub inside-linked : (bytes : List ℕ) (link : Link) (cs : List Chunk) → Inside bytes cs (linked n.Data link cs)
 inside-linked bytes link cs = record { outside = linked-no_parts link cs; ends = linked-ends link cs; white = linked-white bytes link cs; has = linked-chunks link cs; stand = linked-stand link cs }
 
 white-append : (bytes : List ℕ) (xs ys : List Piece) → list_all (is_white_piece bytes) xs ≡ true → list_all (is_white_piece bytes) ys ≡ true → list_all (is_white_piece bytes) (xs ++ ys) ≡ true
@@ -134,7 +134,7 @@ fronts-inside bytes opens first last es none (Begins before p q r xs ys is more)
 inside-chunk : (bytes : List ℕ) (p q : Point) → Inside bytes ((record { first = p; after = q }) ∷ []) (enter_link n.Data p text_link ∷ exit n.Data q ∷ [])
 inside-chunk bytes p q = record { outside = (refl, (refl, tt)); ends = refl; white = refl; has = refl; stand = λ ys. refl }
 
-lines-inside : (options : ParseOptions) (bytes : List ℕ) (row : Row) (rows : List Row) → IsParagraph options bytes row rows → Inside bytes (chunks_of row rows) (linked_lines n.Data text_link row rows)
+pub lines-inside : (options : ParseOptions) (bytes : List ℕ) (row : Row) (rows : List Row) → IsParagraph options bytes row rows → Inside bytes (chunks_of row rows) (linked_lines n.Data text_link row rows)
 lines-inside options bytes row [] is = inside-chunk bytes row.first row.end
 lines-inside options bytes row (next ∷ rows) is =
     let q : Point = behind_row row in
