@@ -1,6 +1,5 @@
 -- Nothing of what stands in front of a line is read later, and no text part begins or ends there; so it is with the ends of quotes.
-use Rattle.std.proofs.Common.{◌≡◌, ℕ, zero, suc, Bool, true, false, cond, List, [], ◌∷◌, ◌++◌, refl, sym, subst}
-use Rattle.std.specs.Prelude.{None}
+use Rattle.std.proofs.Common.{ℕ, zero, suc, Bool, true, false, cond, List, [], ◌∷◌, ◌++◌, refl, sym, subst}
 use Rattle.md_engine.specs.declared.event.Event.{Event}
 use Rattle.md_engine.specs.declared.event.Name.{Name}
 use Rattle.md_engine.specs.declared.event.Name.TheVariants as n
@@ -8,7 +7,6 @@ use Rattle.md_engine.specs.declared.event.Point.{Point}
 use Rattle.md_seam.specs.Inline.{pair_unless_empty}
 use Rattle.md_seam.specs.Nested.{enter, exit, pair}
 use Rattle.md_seam.specs.Places.{same_place}
-use Rattle.md_seam.specs.Tiles.{part_kind}
 use Rattle.markdown_blocks.specs.Rows.{quote_ends}
 use Rattle.markdown_blocks.proofs.FrontFacts.{Behind, Begins, Fronts, Goes, IsPrefix}
 use Rattle.markdown_blocks.proofs.PartFacts.{NoParts, no_links-append, no_parts-append}

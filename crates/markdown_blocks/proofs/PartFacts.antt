@@ -17,7 +17,7 @@ use Rattle.md_seam.specs.declared.inline.Chunk.{Chunk}
 use Rattle.md_seam.specs.declared.inline.PartKind.{PartKind}
 use Rattle.md_seam.specs.Ahead.{begins_white, from_ending, line_cells, line_end, white_end, white_rest}
 use Rattle.md_seam.specs.Inline.{Piece, piece_of, pieces, pieces_from}
-use Rattle.md_seam.specs.Nested.{enter_link, exit, is_exit, pair}
+use Rattle.md_seam.specs.Nested.{exit, is_exit, pair}
 use Rattle.md_seam.specs.Places.{past_byte}
 use Rattle.md_seam.specs.Spaces.{small_indent}
 use Rattle.md_seam.specs.Spelled.{role}

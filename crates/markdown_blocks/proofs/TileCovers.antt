@@ -197,13 +197,17 @@ onto-laid : (bytes : List ℕ) (row : Row) (p end : Point) (gs : List Group) →
 onto-laid bytes row p end gs front c more BlankRow e =
     (subst (λ (k : RowKind). Follows p (behind_row row) (titled_row_by bytes k row)) (sym e) (line-covers n.BlankLineEnding row row p row.inside front (c.inside (blank-no_heading row.kind e) (blank-no_text row.kind e))), more)
 onto-laid bytes row p end gs front c more HeadingRow e =
-    let inside : List Event = unread_title (row_title bytes row) in
-    (subst (λ (k : RowKind). Follows p (behind_row row) (titled_row_by bytes k row)) (sym e)
-    (line-covers n.LineEnding row row p (around n.HeadingAtx row.first row.end inside) front (tiled-around n.HeadingAtx row.first row.end inside c.title)), more)
-onto-laid bytes row p end gs front c more BreakRow e =
-    (subst (λ (k : RowKind). Follows p (behind_row row) (titled_row_by bytes k row)) (sym e)
-    (line-covers n.LineEnding row row p (around n.ThematicBreak row.first row.end row.inside) front
-    (tiled-around n.ThematicBreak row.first row.end row.inside (c.inside (break-no_heading row.kind e) (break-no_text row.kind e)))), more)
+    let inside : List Event = unread_title (row_title bytes row) in (
+      subst (λ (k : RowKind). Follows p (behind_row row) (titled_row_by bytes k row)) (sym e)
+          (line-covers n.LineEnding row row p (around n.HeadingAtx row.first row.end inside) front (tiled-around n.HeadingAtx row.first row.end inside c.title)),
+      more,
+    )
+onto-laid bytes row p end gs front c more BreakRow e = (
+  subst (λ (k : RowKind). Follows p (behind_row row) (titled_row_by bytes k row)) (sym e)
+      (line-covers n.LineEnding row row p (around n.ThematicBreak row.first row.end row.inside) front
+      (tiled-around n.ThematicBreak row.first row.end row.inside (c.inside (break-no_heading row.kind e) (break-no_text row.kind e)))),
+  more,
+)
 onto-laid bytes row p end [] front c more TextRow e = (front, chunk-tiled row.first row.end, more)
 onto-laid bytes row p end (Single next ∷ gs) front c more TextRow e = (front, chunk-tiled row.first row.end, more)
 onto-laid bytes row p end (Lines next rows ∷ gs) front c more TextRow e = joins (joins_on row next)
@@ -212,8 +216,12 @@ onto-laid bytes row p end (Lines next rows ∷ gs) front c more TextRow e = join
     lines = linked_lines n.Data text_link next rows
 
     joins : (on : Bool) → Laid bytes p end (cond on (Lines row (next ∷ rows) ∷ gs) (Lines row [] ∷ Lines next rows ∷ gs))
-    joins true = (front, tiled-append row.first (behind_row row) (last_row next rows).end (enter_link n.Data row.first text_link ∷ exit n.Data (behind_row row) ∷ []) (next.front ++ lines) (chunk-tiled row.first (behind_row row))
-        (tiled-append (behind_row row) next.first (last_row next rows).end next.front lines more.0 more.1), more.2)
+    joins true = (
+      front,
+      tiled-append row.first (behind_row row) (last_row next rows).end (enter_link n.Data row.first text_link ∷ exit n.Data (behind_row row) ∷ []) (next.front ++ lines) (chunk-tiled row.first (behind_row row))
+          (tiled-append (behind_row row) next.first (last_row next rows).end next.front lines more.0 more.1),
+      more.2,
+    )
     joins false = (front, chunk-tiled row.first row.end, more)
 
 -- The groups of the lines of a text.
