@@ -7,6 +7,7 @@ pub mod FlowEnds
 pub mod PiecesLemmas
 pub mod FrontFacts
 pub mod FrontLemmas
+pub mod FrontPlaces
 pub mod RowFacts
 pub mod HeadingSpread
 pub mod LineKinds
@@ -35,6 +36,7 @@ pub mod ParagraphReads
 pub mod TitleFacts
 pub mod TitleNests
 pub mod PartFacts
+pub mod FrontParts
 pub mod TileParts
 pub mod MarkLemmas
 pub mod DocumentStates

@@ -16,7 +16,7 @@ use Rattle.md_seam.proofs.PlacesLemmas.{all-append}
 use Rattle.md_seam.proofs.SpelledLemmas.{read-from, read-quiet}
 use Rattle.markdown_blocks.specs.Between.{is_between}
 use Rattle.markdown_blocks.specs.Document.{body_point, mark_end, mark_events}
-use Rattle.markdown_blocks.specs.Outlined.{IsOutlined, are_parted, are_shallow, has_plain_name, is_whole}
+use Rattle.markdown_blocks.specs.Outlined.{IsOutlined, are_parted, are_shallow, has_plain_name, tells_between}
 
 -- The text.
 
@@ -154,10 +154,10 @@ mark-names bytes = go (has_mark bytes)
     go true = refl
     go false = refl
 
-pub mark-whole : (bytes : List ℕ) → list_all is_whole (mark_events bytes) ≡ true
-mark-whole bytes = go (has_mark bytes)
+pub mark-texts : (bytes : List ℕ) → list_all (tells_between bytes) (mark_events bytes) ≡ true
+mark-texts bytes = go (has_mark bytes)
   where
-    go : (x : Bool) → list_all is_whole (cond x (pair ByteOrderMark first_point mark_end) []) ≡ true
+    go : (x : Bool) → list_all (tells_between bytes) (cond x (pair ByteOrderMark first_point mark_end) []) ≡ true
     go true = refl
     go false = refl
 
@@ -175,7 +175,7 @@ mark-outlined bytes events is = record {
   names = all-append has_plain_name (mark_events bytes) events (mark-names bytes) is.names;
   text = is.text;
   between = all-append (λ (e : Event). is_between bytes e.point.index) (mark_events bytes) events (mark-between bytes) is.between;
-  whole = all-append is_whole (mark_events bytes) events (mark-whole bytes) is.whole;
+  texts = all-append (tells_between bytes) (mark_events bytes) events (mark-texts bytes) is.texts;
   parted = mark-parted bytes events is.parted;
   depths = ap are_shallow (mark-spelled bytes events) ∙ is.depths;
 }

@@ -26,7 +26,7 @@ use Rattle.md_seam.proofs.FeedLines.{HasEnding, at-next, begun-none, cell, colum
 use Rattle.md_seam.proofs.TextsLemmas.{Ending, EndsBefore, NoEnding, ending_bytes}
 use Rattle.markdown_blocks.specs.Rows.{Row, TextRow, behind_row, chunks_of, last_row}
 use Rattle.markdown_blocks.specs.Unread.{linked}
-use Rattle.markdown_blocks.proofs.FrontLemmas.{fronts-grow, fronts-line}
+use Rattle.markdown_blocks.proofs.FrontPlaces.{fronts-grow, fronts-line}
 use Rattle.markdown_blocks.proofs.GroupLemmas.{IsParagraph, ReadsContent, piece, row-line, text-some}
 use Rattle.markdown_blocks.proofs.RowFacts.{IsRow}
 

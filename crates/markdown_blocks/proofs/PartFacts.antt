@@ -1,8 +1,10 @@
 -- Events outside of text parts, the chunks of a text part, and lines of which nothing is read later.
-use Rattle.std.proofs.Common.{◌≡◌, ◌≢◌, ℕ, zero, suc, true, false, cond, ◌&&◌, ◌==◌, List, [], ◌∷◌, ◌++◌, refl, ap, ◌∙◌, append-nil}
+use Rattle.std.proofs.Common.{◌≡◌, ◌≢◌, ℕ, zero, suc, Bool, true, false, cond, ◌&&◌, ◌==◌, List, [], ◌∷◌, ◌++◌, refl, ap, ◌∙◌, append-nil}
 use Rattle.std.specs.Prelude.{Option, Some, None}
 use Rattle.md_engine.specs.declared.configuration.ParseOptions.{ParseOptions}
 use Rattle.md_engine.specs.declared.event.Event.{Event}
+use Rattle.md_engine.specs.declared.event.Kind.{Kind}
+use Rattle.md_engine.specs.declared.event.Kind.TheVariants.{Enter, Exit}
 use Rattle.md_engine.specs.declared.event.Link.{Link}
 use Rattle.md_engine.specs.declared.event.Name.{Name}
 use Rattle.md_engine.specs.declared.event.Name.TheVariants as n
@@ -14,14 +16,14 @@ use Rattle.md_leaves.specs.HeadingTitle.{line_runs}
 use Rattle.md_seam.specs.declared.inline.Chunk.{Chunk}
 use Rattle.md_seam.specs.declared.inline.PartKind.{PartKind}
 use Rattle.md_seam.specs.Ahead.{begins_white, from_ending, line_cells, line_end, white_end, white_rest}
-use Rattle.md_seam.specs.Inline.{Piece, pieces, pieces_from}
-use Rattle.md_seam.specs.Nested.{enter_link, exit, pair}
+use Rattle.md_seam.specs.Inline.{Piece, piece_of, pieces, pieces_from}
+use Rattle.md_seam.specs.Nested.{exit, is_exit, pair}
 use Rattle.md_seam.specs.Places.{past_byte}
 use Rattle.md_seam.specs.Spaces.{small_indent}
 use Rattle.md_seam.specs.Spelled.{role}
-use Rattle.md_seam.specs.Tiles.{chunks, inside_part, is_part, part_kind}
+use Rattle.md_seam.specs.Tiles.{chunks, inside_part, is_part, part_end, part_kind}
 use Rattle.md_seam.proofs.SpelledLemmas.{Quiet, Roles}
-use Rattle.markdown_blocks.specs.Rows.{BlankRow, BreakRow, Group, HeadingRow, Lines, Row, RowKind, Single, TextRow, first_cell, groups, inside_of, onto_groups, row_kind, rows_at}
+use Rattle.markdown_blocks.specs.Rows.{BlankRow, BreakRow, Group, HeadingRow, Held, Lines, Row, RowKind, Single, TextRow, first_cell, goes_on, groups, held_at, inside_of, is_text, onto_groups, row_kind, rows_at, rows_by}
 use Rattle.markdown_blocks.specs.Unread.{linked}
 use Rattle.markdown_blocks.proofs.TitleFacts.{NoLinks}
 use Rattle.markdown_blocks.proofs.TitleNests.{either}
@@ -33,7 +35,7 @@ abbrev pub NoParts : List Event → Type 0
 NoParts [] = Unit {0}
 NoParts (e ∷ es) = (part_kind e.name ≡ None) × NoParts es
 
-no_parts-append : (xs ys : List Event) → NoParts xs → NoParts ys → NoParts (xs ++ ys)
+pub no_parts-append : (xs ys : List Event) → NoParts xs → NoParts ys → NoParts (xs ++ ys)
 no_parts-append [] ys h k = k
 no_parts-append (e ∷ xs) ys h k = (h.0, no_parts-append xs ys h.1 k)
 
@@ -65,16 +67,38 @@ pub linked-no_parts : (link : Link) (cs : List Chunk) → NoParts (linked n.Data
 linked-no_parts link [] = tt
 linked-no_parts link (c ∷ cs) = (refl, (refl, linked-no_parts link cs))
 
-linked-inside : (link : Link) (cs : List Chunk) (ys : List Event) → inside_part (linked n.Data link cs ++ ys) ≡ linked n.Data link cs ++ inside_part ys
-linked-inside link [] ys = refl
-linked-inside link (c ∷ cs) ys = ap (λ (l : List Event). enter_link n.Data c.first link ∷ exit n.Data c.after ∷ l) (linked-inside link cs ys)
-
 -- a part ends with its exit
-pub part-inside : (name : Name) (kind : PartKind) (q : Point) (link : Link) (cs : List Chunk) (ys : List Event) → part_kind name ≡ Some kind → inside_part (linked n.Data link cs ++ exit name q ∷ ys) ≡ linked n.Data link cs
-part-inside name kind q link cs ys named =
-    linked-inside link cs (exit name q ∷ ys)
-    ∙ ap (λ (x : Option PartKind). linked n.Data link cs ++ cond ((elim x [ None ↦ false | Some kind ↦ true ]) && true) [] (exit name q ∷ inside_part ys)) named
-    ∙ append-nil (linked n.Data link cs)
+inside-goes : (es ys : List Event) → NoParts es → inside_part (es ++ ys) ≡ es ++ inside_part ys
+inside-goes [] ys h = refl
+inside-goes (e ∷ es) ys h = ap (λ (x : Bool). cond (x && is_exit e.kind) [] (e ∷ inside_part (es ++ ys))) (kind-no_part e.name h.0) ∙ ap (λ (l : List Event). e ∷ l) (inside-goes es ys h.1)
+
+pub part-inside : (name : Name) (kind : PartKind) (q : Point) (es ys : List Event) → part_kind name ≡ Some kind → NoParts es → inside_part (es ++ exit name q ∷ ys) ≡ es
+part-inside name kind q es ys named h =
+    inside-goes es (exit name q ∷ ys) h
+    ∙ ap (λ (x : Option PartKind). es ++ cond ((elim x [ None ↦ false | Some kind ↦ true ]) && true) [] (exit name q ∷ inside_part ys)) named
+    ∙ append-nil es
+
+pub end-goes : (es ys : List Event) → NoParts es → part_end (es ++ ys) ≡ part_end ys
+end-goes [] ys h = refl
+end-goes (e ∷ es) ys h = ap (λ (x : Bool). cond (x && is_exit e.kind) e.point (part_end (es ++ ys))) (kind-no_part e.name h.0) ∙ end-goes es ys h.1
+
+-- events without links have no chunks
+unlinked-piece : (e f : Event) (ys : List Event) → e.link ≡ None → chunks (pieces_from e (f ∷ ys)) ≡ chunks (pieces_from f ys)
+unlinked-piece e f ys h = go e.kind f.kind
+  where
+    go : (k l : Kind) → chunks (piece_of e f k l ++ pieces_from f ys) ≡ chunks (pieces_from f ys)
+    go Enter Exit = ap (λ (x : Option Link). cond (elim x [ None ↦ false | Some link ↦ true ]) ((record { first = e.point; after = f.point }) ∷ chunks (pieces_from f ys)) (chunks (pieces_from f ys))) h
+    go Enter Enter = refl
+    go Exit l = refl
+
+chunks-from : (e : Event) (es ys : List Event) → e.link ≡ None → NoLinks es → chunks (pieces_from e (es ++ ys)) ≡ chunks (pieces ys)
+chunks-from e [] [] h k = refl
+chunks-from e [] (f ∷ ys) h k = unlinked-piece e f ys h
+chunks-from e (f ∷ es) ys h k = unlinked-piece e f (es ++ ys) h ∙ chunks-from f es ys k.0 k.1
+
+pub chunks-unlinked : (es ys : List Event) → NoLinks es → chunks (pieces (es ++ ys)) ≡ chunks (pieces ys)
+chunks-unlinked [] ys h = refl
+chunks-unlinked (e ∷ es) ys h = chunks-from e es ys h.0 h.1
 
 pub pieces-behind : (p : Point) (link : Link) (cs : List Chunk) → pieces_from (exit n.Data p) (linked n.Data link cs) ≡ pieces (linked n.Data link cs)
 pieces-behind p link [] = refl
@@ -116,7 +140,7 @@ abbrev pub EachUnlinked : List Row → Type 0
 EachUnlinked [] = Unit {0}
 EachUnlinked (row ∷ rows) = IsUnlinked row × EachUnlinked rows
 
-no_links-append : (xs ys : List Event) → NoLinks xs → NoLinks ys → NoLinks (xs ++ ys)
+pub no_links-append : (xs ys : List Event) → NoLinks xs → NoLinks ys → NoLinks (xs ++ ys)
 no_links-append [] ys h k = k
 no_links-append (e ∷ xs) ys h k = (h.0, no_links-append xs ys h.1 k)
 
@@ -140,13 +164,20 @@ inside-unlinked options cells p BreakRow other =
 inside-unlinked options cells p TextRow other = tt
 
 -- so it is in the lines that flow reads
-pub rows_at-unlinked : (options : ParseOptions) (size : ℕ) (cells : List Cell) (p : Point) → EachUnlinked (rows_at options size cells p)
-rows_at-unlinked options zero cells p = tt
-rows_at-unlinked options (suc size) cells p = (λ other. inside-unlinked options cells p (row_kind options cells) other, go (rows_at-unlinked options size) (from_ending cells))
+rows_by-unlinked : (options : ParseOptions) (h : Held) (further : ℕ → Bool → List Cell → Point → List Row) → ((depth : ℕ) (going : Bool) (cells : List Cell) (p : Point) → EachUnlinked (further depth going cells p)) →
+    EachUnlinked (rows_by options h further)
+rows_by-unlinked options h further each = (λ other. inside-unlinked options h.cells h.point (row_kind options h.cells) other, go (from_ending h.cells))
   where
-    go : ((cells : List Cell) (p : Point) → EachUnlinked (rows_at options size cells p)) → (rest : List Cell) → EachUnlinked (elim rest [ [] ↦ [] | c ∷ cs ↦ rows_at options size cs c.after ])
-    go further [] = tt
-    go further (c ∷ cs) = further cs c.after
+    going : Bool
+    going = is_text (row_kind options h.cells)
+
+    go : (rest : List Cell) → EachUnlinked (elim rest [ [] ↦ [] | c ∷ cs ↦ further h.depth going cs c.after ])
+    go [] = tt
+    go (c ∷ cs) = each h.depth going cs c.after
+
+pub rows_at-unlinked : (options : ParseOptions) (size depth : ℕ) (going : Bool) (cells : List Cell) (p : Point) → EachUnlinked (rows_at options size depth going cells p)
+rows_at-unlinked options zero depth going cells p = tt
+rows_at-unlinked options (suc size) depth going cells p = rows_by-unlinked options (held_at options depth going cells p) (rows_at options size) (rows_at-unlinked options size)
 
 -- the same of the lines of groups that are no text
 abbrev pub AreUnlinked : List Group → Type 0
@@ -164,4 +195,8 @@ groups-unlinked (row ∷ rows) h = onto row.kind (groups rows) (groups-unlinked 
     onto BreakRow gs k = (h.0, k)
     onto TextRow [] k = tt
     onto TextRow (Single first ∷ gs) k = k
-    onto TextRow (Lines first rows ∷ gs) k = k
+    onto TextRow (Lines first rows ∷ gs) k = joins (goes_on row first)
+      where
+        joins : (on : Bool) → AreUnlinked (cond on (Lines row (first ∷ rows) ∷ gs) (Lines row [] ∷ Lines first rows ∷ gs))
+        joins true = k
+        joins false = k

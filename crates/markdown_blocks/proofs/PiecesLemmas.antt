@@ -1,11 +1,11 @@
 -- Events whose innermost pairs lie side by side, from one point to another.
-use Rattle.std.proofs.Common.{◌≡◌, true, List, [], ◌∷◌, ◌++◌, refl, ap, sym, ◌∙◌, subst, append_assoc}
+use Rattle.std.proofs.Common.{◌≡◌, Bool, true, false, cond, List, [], ◌∷◌, ◌++◌, refl, ap, sym, ◌∙◌, subst, append_assoc}
 use Rattle.md_engine.specs.declared.event.Event.{Event}
 use Rattle.md_engine.specs.declared.event.Kind.{Kind}
 use Rattle.md_engine.specs.declared.event.Kind.TheVariants.{Enter, Exit}
 use Rattle.md_engine.specs.declared.event.Name.{Name}
 use Rattle.md_engine.specs.declared.event.Point.{Point}
-use Rattle.md_seam.specs.Inline.{Covers, Piece, piece_of, pieces, pieces_from}
+use Rattle.md_seam.specs.Inline.{Covers, Piece, pair_unless_empty, piece_of, pieces, pieces_from}
 use Rattle.md_seam.specs.Nested.{around, enter, exit, pair}
 use Rattle.md_seam.specs.Places.{same_place}
 use Rattle.md_seam.proofs.InlineLemmas.{same-refl, same-trans}
@@ -23,6 +23,11 @@ Ends kind (e ∷ es) = Ends e.kind es
 -- Events that cover what stands between two points, and make no pair with an event before or behind them.
 pub record Tiled (p q : Point) (es : List Event) : Type 0 where
   pub begins : Begins es
+  pub ends : Ends Exit es
+  pub covers : Covers p (pieces es) q
+
+-- The same of events that stand behind an exit, if anything stands before them: they may begin with exits of their own.
+pub record Follows (p q : Point) (es : List Event) : Type 0 where
   pub ends : Ends Exit es
   pub covers : Covers p (pieces es) q
 
@@ -62,7 +67,28 @@ pieces-append : (xs ys : List Event) → Begins ys → pieces (xs ++ ys) ≡ pie
 pieces-append [] ys h = refl
 pieces-append (e ∷ xs) ys h = pieces_from-append e xs ys h
 
--- and none behind an exit
+-- nor behind an exit
+pieces-left : (e : Event) (es : List Event) → e.kind ≡ Exit → pieces_from e es ≡ pieces es
+pieces-left e [] h = refl
+pieces-left e (f ∷ es) h = go e.kind f.kind h
+  where
+    go : (k l : Kind) → k ≡ Exit → piece_of e f k l ++ pieces_from f es ≡ pieces_from f es
+    go Enter l h = absurd (cc)
+    go Exit Enter h = refl
+    go Exit Exit h = refl
+
+pieces_from-ended : (e : Event) (xs ys : List Event) → Ends e.kind xs → pieces_from e (xs ++ ys) ≡ pieces_from e xs ++ pieces ys
+pieces_from-ended e [] ys h = pieces-left e ys h
+pieces_from-ended e (f ∷ xs) ys h =
+    ap (λ (l : List Piece). piece_of e f e.kind f.kind ++ l) (pieces_from-ended f xs ys h)
+    ∙ sym (append_assoc (piece_of e f e.kind f.kind) (pieces_from f xs) (pieces ys))
+
+-- the pieces of events that end with an exit, and of others behind them
+pub pieces-ended : (xs ys : List Event) → Ends Exit xs → pieces (xs ++ ys) ≡ pieces xs ++ pieces ys
+pieces-ended [] ys h = refl
+pieces-ended (e ∷ xs) ys h = pieces_from-ended e xs ys h
+
+-- an exit more behind an exit
 pieces-behind : (e : Event) (xs : List Event) (f : Event) → Ends e.kind xs → pieces_from e (xs ++ f ∷ []) ≡ pieces_from e xs
 pieces-behind e [] f h = go e.kind f.kind h
   where
@@ -76,7 +102,7 @@ begins-append : (xs ys : List Event) → Begins xs → Begins ys → Begins (xs 
 begins-append [] ys h k = k
 begins-append (e ∷ xs) ys h k = h
 
-ends-append : (kind : Kind) (xs ys : List Event) → Ends kind xs → Ends Exit ys → Ends kind (xs ++ ys)
+pub ends-append : (kind : Kind) (xs ys : List Event) → Ends kind xs → Ends Exit ys → Ends kind (xs ++ ys)
 ends-append kind [] ys h k = subst (λ (l : Kind). Ends l ys) (sym h) k
 ends-append kind (e ∷ xs) ys h k = ends-append e.kind xs ys h k
 
@@ -95,6 +121,15 @@ tiled-append p q r xs ys h k = record {
   ends = ends-append Exit xs ys h.ends k.ends;
   covers = subst (λ (l : List Piece). Covers p l r) (sym (pieces-append xs ys k.begins)) (covers-append p q r (pieces xs) (pieces ys) h.covers k.covers);
 }
+
+pub follows-append : (p q r : Point) (xs ys : List Event) → Follows p q xs → Follows q r ys → Follows p r (xs ++ ys)
+follows-append p q r xs ys h k = record {
+  ends = ends-append Exit xs ys h.ends k.ends;
+  covers = subst (λ (l : List Piece). Covers p l r) (sym (pieces-ended xs ys h.ends)) (covers-append p q r (pieces xs) (pieces ys) h.covers k.covers);
+}
+
+pub follows-tiled : (p q : Point) (es : List Event) → Tiled p q es → Follows p q es
+follows-tiled p q es h = record { ends = h.ends; covers = h.covers }
 
 -- an enter, and what shuts it
 pub tiled-enter : (e : Event) (q : Point) (es : List Event) → e.kind ≡ Enter → Shut e q es → Tiled e.point q (e ∷ es)
@@ -127,3 +162,15 @@ tiled-around name p q (e ∷ es) h = record {
   ends = ends-exit Enter (e ∷ es) (exit name q) refl;
   covers = subst (λ (l : List Piece). Covers p l q) (sym (pieces-before (enter name p) ((e ∷ es) ++ exit name q ∷ []) h.begins ∙ pieces-behind e es (exit name q) h.ends)) h.covers;
 }
+
+-- a part that is left out if it is empty
+pub tiled-unless_empty : (name : Name) (p q : Point) → Tiled p q (pair_unless_empty name p q)
+tiled-unless_empty name p q = go (same_place p q) refl
+  where
+    go : (none : Bool) → same_place p q ≡ none → Tiled p q (cond none [] (pair name p q))
+    go true e = tiled-none p q e
+    go false e = tiled-pair name p q
+
+-- an enter in front of events that begin with one
+pub tiled-within : (e f : Event) (q : Point) (es : List Event) → e.kind ≡ Enter → Tiled e.point q (f ∷ es) → Tiled e.point q (e ∷ f ∷ es)
+tiled-within e f q es h t = record { begins = h; ends = t.ends; covers = subst (λ (l : List Piece). Covers e.point l q) (sym (pieces-before e (f ∷ es) t.begins)) t.covers }

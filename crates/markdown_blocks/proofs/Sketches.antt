@@ -25,7 +25,7 @@ use Rattle.md_seam.specs.State.{then_block}
 use Rattle.md_seam.specs.Texts.{split_lines, trim_each}
 use Rattle.md_seam.specs.Tree.{Block, Blocks, Break, End, Heading, Line, More, Paragraph, Quote}
 use Rattle.markdown_blocks.specs.Between.{is_between}
-use Rattle.markdown_blocks.specs.Outlined.{IsOutlined, are_parted, are_shallow, begins_line, has_plain_name, is_plain, is_shallow, is_told, is_unparted, is_whole, parts_by, span_by}
+use Rattle.markdown_blocks.specs.Outlined.{IsOutlined, are_parted, are_shallow, begins_line, has_plain_name, is_plain, is_shallow, is_told, is_unparted, parts_by, span_by, tells_between}
 use Rattle.markdown_blocks.specs.Sketched.{BeginsBetween, BreakSketch, HeadingSketch, IsCut, LeafIsText, LeafSketch, Sketch, begin_entries, byte_depth, full_entries, heading_entries, leaf_ended, marked, parted_at, shown_as, sketch_by, sketch_enter, sketch_exit, sketched, text_entries, titled, title_entries, told_at, unsketched}
 use Rattle.markdown_blocks.specs.declared.outline.Purpose.{Purpose}
 use Rattle.markdown_blocks.specs.declared.outline.Purpose.TheVariants as purpose
@@ -539,16 +539,16 @@ apart-exit bytes (Tells AsMarkers) p (Some span) a h = h
 apart-exit bytes _ p (Some span) a h = absurd a
 
 -- the step of one event, by what it means
-sketch-begun : (p : Point) (s : Sketch) (r : Reading) → (not true || (p.vs == 0)) ≡ true → is_unparted s.text ≡ true → IsSketch s r → IsSketch (record s { text = Some (record { from = p.index; is_parted = false }) }) (record r { text = Some (begun p) })
-sketch-begun p s r w k is = record {
+sketch-begun : (p : Point) (s : Sketch) (r : Reading) → is_unparted s.text ≡ true → IsSketch s r → IsSketch (record s { text = Some (record { from = byte_at p; is_parted = false }) }) (record r { text = Some (begun p) })
+sketch-begun p s r k is = record {
   depth = is.depth;
   quotes = is.quotes;
   leaf = is.leaf;
-  text = (ap (λ x. cond x p.index (p.index + 1)) w, (text-lines (shown r.outer r.here) s.depth s.lines s.text r.text k is.text, refl));
+  text = (refl, (text-lines (shown r.outer r.here) s.depth s.lines s.text r.text k is.text, refl));
 }
 
-sketch-enter : (bytes : List ℕ) (x : spelled.Role) (p : Point) (s : Sketch) (r : Reading) → is_plain x ≡ true → (not (is_told x) || (p.vs == 0)) ≡ true → parts_by bytes Enter x p s.text ≡ true → IsSketch s r → IsSketch (sketch_enter bytes (shown_as x) p.index s) (read_enter bytes x p r)
-sketch-enter bytes (Holds QuoteShape) p s r h w k is = record {
+sketch-enter : (bytes : List ℕ) (x : spelled.Role) (p : Point) (s : Sketch) (r : Reading) → is_plain x ≡ true → parts_by bytes Enter x p s.text ≡ true → IsSketch s r → IsSketch (sketch_enter bytes (shown_as x) p s) (read_enter bytes x p r)
+sketch-enter bytes (Holds QuoteShape) p s r h k is = record {
   depth = ap (λ d. d + 1) is.depth;
   quotes = (refl, is.quotes);
   leaf = is.leaf;
@@ -561,15 +561,15 @@ sketch-enter bytes (Holds QuoteShape) p s r h w k is = record {
       ∙ sym (append-nil (shown r.outer r.here ++ entry (depth_of r.outer) word.Quote ∷ [])))
       is.text;
 }
-sketch-enter bytes IsPrefix p s r h w k is = sketch-prefix bytes p s r s.text r.text refl is.text k is
-sketch-enter bytes (Opens OfBreak) p s r h w k is = record { depth = is.depth; quotes = is.quotes; leaf = refl; text = is.text }
-sketch-enter bytes (Opens OfHeadingAtx) p s r h w k is = record { depth = is.depth; quotes = is.quotes; leaf = record { kind = refl; markers_are = refl; text_is = refl }; text = is.text }
-sketch-enter bytes (Tells AsParagraph) p s r h w k is = sketch-begun p s r w (apart-enter bytes (Tells AsParagraph) p s.text tt k) is
-sketch-enter bytes (Tells AsHeading) p s r h w k is = sketch-begun p s r w (apart-enter bytes (Tells AsHeading) p s.text tt k) is
-sketch-enter bytes (Tells AsMarkers) p s r h w k is = sketch-begun p s r w (apart-enter bytes (Tells AsMarkers) p s.text tt k) is
-sketch-enter bytes IsEnding p s r h w k is = is
-sketch-enter bytes IsQuiet p s r h w k is = is
-sketch-enter bytes _ p s r h w k is = absurd (true≢false (sym h))
+sketch-enter bytes IsPrefix p s r h k is = sketch-prefix bytes p s r s.text r.text refl is.text k is
+sketch-enter bytes (Opens OfBreak) p s r h k is = record { depth = is.depth; quotes = is.quotes; leaf = refl; text = is.text }
+sketch-enter bytes (Opens OfHeadingAtx) p s r h k is = record { depth = is.depth; quotes = is.quotes; leaf = record { kind = refl; markers_are = refl; text_is = refl }; text = is.text }
+sketch-enter bytes (Tells AsParagraph) p s r h k is = sketch-begun p s r (apart-enter bytes (Tells AsParagraph) p s.text tt k) is
+sketch-enter bytes (Tells AsHeading) p s r h k is = sketch-begun p s r (apart-enter bytes (Tells AsHeading) p s.text tt k) is
+sketch-enter bytes (Tells AsMarkers) p s r h k is = sketch-begun p s r (apart-enter bytes (Tells AsMarkers) p s.text tt k) is
+sketch-enter bytes IsEnding p s r h k is = is
+sketch-enter bytes IsQuiet p s r h k is = is
+sketch-enter bytes _ p s r h k is = absurd (true≢false (sym h))
 
 sketch-exit : (bytes : List ℕ) (x : spelled.Role) (p : Point) (s : Sketch) (r : Reading) → is_plain x ≡ true → parts_by bytes Exit x p s.text ≡ true → are_shallow (read_exit bytes x p r).here ≡ true → IsSketch s r → IsSketch (sketch_exit bytes (shown_as x) p s) (read_exit bytes x p r)
 sketch-exit bytes (Holds QuoteShape) p s r h k d is = sketch-left s r r.outer refl (apart-exit bytes (Holds QuoteShape) p s.text tt k) is
@@ -583,10 +583,10 @@ sketch-exit bytes IsEnding p s r h k d is = sketch-ending bytes p s r r.text is
 sketch-exit bytes IsQuiet p s r h k d is = is
 sketch-exit bytes _ p s r h k d is = absurd (true≢false (sym h))
 
-sketch-step : (bytes : List ℕ) (kind : Kind) (x : spelled.Role) (p : Point) (s : Sketch) (r : Reading) → is_plain x ≡ true → (not (is_told x) || (p.vs == 0)) ≡ true → parts_by bytes kind x p s.text ≡ true → are_shallow (read_by bytes kind x p r).here ≡ true → IsSketch s r →
+sketch-step : (bytes : List ℕ) (kind : Kind) (x : spelled.Role) (p : Point) (s : Sketch) (r : Reading) → is_plain x ≡ true → parts_by bytes kind x p s.text ≡ true → are_shallow (read_by bytes kind x p r).here ≡ true → IsSketch s r →
     IsSketch (sketch_by bytes kind (shown_as x) p s) (read_by bytes kind x p r)
-sketch-step bytes Enter x p s r h w k d is = sketch-enter bytes x p s r h w k is
-sketch-step bytes Exit x p s r h w k d is = sketch-exit bytes x p s r h k d is
+sketch-step bytes Enter x p s r h k d is = sketch-enter bytes x p s r h k is
+sketch-step bytes Exit x p s r h k d is = sketch-exit bytes x p s r h k d is
 
 -- The text that is read is that of the events.
 
@@ -633,23 +633,22 @@ parted-step bytes e events s h k =
     (parts.0, ap (λ x. are_parted bytes x events) (span-step bytes e.kind (spelled.role e.name) e.point s h) ∙ parts.1)
 
 -- all events: then no text is parted
-sketch-all : (bytes : List ℕ) (events : List Event) (s : Sketch) (r : Reading) → list_all has_plain_name events ≡ true → list_all is_whole events ≡ true → are_parted bytes s.text events ≡ true → IsShallow (read bytes r events) → IsSketch s r →
+sketch-all : (bytes : List ℕ) (events : List Event) (s : Sketch) (r : Reading) → list_all has_plain_name events ≡ true → are_parted bytes s.text events ≡ true → IsShallow (read bytes r events) → IsSketch s r →
     IsSketch (sketched bytes s events) (read bytes r events) × (is_unparted (sketched bytes s events).text ≡ true)
-sketch-all bytes [] s r h w k d is = (is, k)
-sketch-all bytes (e ∷ events) s r h w k d is =
+sketch-all bytes [] s r h k d is = (is, k)
+sketch-all bytes (e ∷ events) s r h k d is =
     let names = and_parts (has_plain_name e) (list_all has_plain_name events) h in
-    let wholes = and_parts (is_whole e) (list_all is_whole events) w in
     let parts = parted-step bytes e events s names.0 k in
     let next : Reading = read_by bytes e.kind (spelled.role e.name) e.point r in
-    sketch-all bytes events (sketch_by bytes e.kind (shown_as (spelled.role e.name)) e.point s) next names.1 wholes.1 parts.1 d
-    (sketch-step bytes e.kind (spelled.role e.name) e.point s r names.0 wholes.0 parts.0 (shallow-all bytes events next names.1 d).0 is)
+    sketch-all bytes events (sketch_by bytes e.kind (shown_as (spelled.role e.name)) e.point s) next names.1 parts.1 d
+    (sketch-step bytes e.kind (spelled.role e.name) e.point s r names.0 parts.0 (shallow-all bytes events next names.1 d).0 is)
 
 -- the lines that all events add are those of the tree that they spell out
 pub sketched-spelled : (bytes : List ℕ) (events : List Event) → IsOutlined events bytes → (sketched bytes unsketched events).lines ≡ outline 0 (spelled events bytes)
 unfolding spelled
 sketched-spelled bytes events out =
     let closed : (read bytes unread events).outer ≡ [] = all-closed bytes events out.names out.balanced in
-    let all = sketch-all bytes events unsketched unread out.names out.whole out.parted (out.depths, ap outer_shallow closed) (record { depth = refl; quotes = tt; leaf = tt; text = refl }) in
+    let all = sketch-all bytes events unsketched unread out.names out.parted (out.depths, ap outer_shallow closed) (record { depth = refl; quotes = tt; leaf = tt; text = refl }) in
     text-lines (shown (read bytes unread events).outer (read bytes unread events).here) (sketched bytes unsketched events).depth (sketched bytes unsketched events).lines (sketched bytes unsketched events).text (read bytes unread events).text all.1 all.0.text
     ∙ ap (λ outer. shown outer (read bytes unread events).here) closed
 
@@ -712,26 +711,26 @@ cut-gone_on bytes p None k = tt
 cut-gone_on bytes p (Some span) k = k
 
 -- a text that begins at an event begins between characters, and so it ends
-cut-step : (bytes : List ℕ) (kind : Kind) (x : spelled.Role) (p : Point) (s : Sketch) → is_plain x ≡ true → IsUtf8 bytes → is_between bytes p.index ≡ true → parts_by bytes kind x p s.text ≡ true → IsCut bytes s → IsCut bytes (sketch_by bytes kind (shown_as x) p s)
-cut-step bytes Enter (Holds QuoteShape) p s n u b k h = record { text = h.text; leaf = h.leaf }
-cut-step bytes Enter IsPrefix p s n u b k h = cut-parted bytes p.index s.text s h.text h
-cut-step bytes Enter (Opens OfBreak) p s n u b k h = record { text = h.text; leaf = tt }
-cut-step bytes Enter (Opens OfHeadingAtx) p s n u b k h = record { text = h.text; leaf = tt }
-cut-step bytes Enter (Tells AsParagraph) p s n u b k h = record { text = b; leaf = h.leaf }
-cut-step bytes Enter (Tells AsHeading) p s n u b k h = record { text = b; leaf = h.leaf }
-cut-step bytes Enter (Tells AsMarkers) p s n u b k h = record { text = b; leaf = h.leaf }
-cut-step bytes Enter IsEnding p s n u b k h = h
-cut-step bytes Enter IsQuiet p s n u b k h = h
-cut-step bytes Exit (Holds QuoteShape) p s n u b k h = record { text = h.text; leaf = h.leaf }
-cut-step bytes Exit IsPrefix p s n u b k h = record { text = cut-gone_on bytes p s.text k; leaf = h.leaf }
-cut-step bytes Exit (Opens OfBreak) p s n u b k h = cut-leaf bytes s.leaf s h
-cut-step bytes Exit (Opens OfHeadingAtx) p s n u b k h = cut-leaf bytes s.leaf s h
-cut-step bytes Exit (Tells AsParagraph) p s n u b k h = cut-text bytes purpose.Paragraph p.index s.text s u b h.text h
-cut-step bytes Exit (Tells AsHeading) p s n u b k h = cut-text bytes purpose.Title p.index s.text s u b h.text h
-cut-step bytes Exit (Tells AsMarkers) p s n u b k h = cut-text bytes purpose.Markers p.index s.text s u b h.text h
-cut-step bytes Exit IsEnding p s n u b k h = h
-cut-step bytes Exit IsQuiet p s n u b k h = h
-cut-step bytes kind _ p s n u b k h = absurd (true≢false (sym n))
+cut-step : (bytes : List ℕ) (kind : Kind) (x : spelled.Role) (p : Point) (s : Sketch) → is_plain x ≡ true → IsUtf8 bytes → is_between bytes p.index ≡ true → (not (is_told x) || is_between bytes (byte_at p)) ≡ true → parts_by bytes kind x p s.text ≡ true → IsCut bytes s → IsCut bytes (sketch_by bytes kind (shown_as x) p s)
+cut-step bytes Enter (Holds QuoteShape) p s n u b t k h = record { text = h.text; leaf = h.leaf }
+cut-step bytes Enter IsPrefix p s n u b t k h = cut-parted bytes p.index s.text s h.text h
+cut-step bytes Enter (Opens OfBreak) p s n u b t k h = record { text = h.text; leaf = tt }
+cut-step bytes Enter (Opens OfHeadingAtx) p s n u b t k h = record { text = h.text; leaf = tt }
+cut-step bytes Enter (Tells AsParagraph) p s n u b t k h = record { text = t; leaf = h.leaf }
+cut-step bytes Enter (Tells AsHeading) p s n u b t k h = record { text = t; leaf = h.leaf }
+cut-step bytes Enter (Tells AsMarkers) p s n u b t k h = record { text = t; leaf = h.leaf }
+cut-step bytes Enter IsEnding p s n u b t k h = h
+cut-step bytes Enter IsQuiet p s n u b t k h = h
+cut-step bytes Exit (Holds QuoteShape) p s n u b t k h = record { text = h.text; leaf = h.leaf }
+cut-step bytes Exit IsPrefix p s n u b t k h = record { text = cut-gone_on bytes p s.text k; leaf = h.leaf }
+cut-step bytes Exit (Opens OfBreak) p s n u b t k h = cut-leaf bytes s.leaf s h
+cut-step bytes Exit (Opens OfHeadingAtx) p s n u b t k h = cut-leaf bytes s.leaf s h
+cut-step bytes Exit (Tells AsParagraph) p s n u b t k h = cut-text bytes purpose.Paragraph p.index s.text s u b h.text h
+cut-step bytes Exit (Tells AsHeading) p s n u b t k h = cut-text bytes purpose.Title p.index s.text s u b h.text h
+cut-step bytes Exit (Tells AsMarkers) p s n u b t k h = cut-text bytes purpose.Markers p.index s.text s u b h.text h
+cut-step bytes Exit IsEnding p s n u b t k h = h
+cut-step bytes Exit IsQuiet p s n u b t k h = h
+cut-step bytes kind _ p s n u b t k h = absurd (true≢false (sym n))
 
 -- what holds of all holds of each
 all-at : (p : Event → Bool) (events : List Event) (i : ℕ) (d : Event) → i < length events → list_all p events ≡ true → p (get_or events i d) ≡ true
@@ -751,11 +750,12 @@ sketch-next bytes events i d s next all is lt goes reads =
     let e : Event = get_or events i d in
     let x : spelled.Role = spelled.role e.name in
     let between : is_between bytes e.point.index ≡ true = all-at (λ (x : Event). is_between bytes x.point.index) events i d lt is.between in
+    let tells : tells_between bytes e ≡ true = all-at (tells_between bytes) events i d lt is.texts in
     let name : has_plain_name e ≡ true = all-at has_plain_name events i d lt is.names in
     let parts = parted-step bytes e (drop (i + 1) events) s name (sym (at_drop_more (are_parted bytes s.text) events i d lt) ∙ goes.parted) in
     let read : next ≡ sketch_by bytes e.kind (shown_as x) e.point s = reads is.text goes.cut between in
     record {
-      cut = subst (IsCut bytes) (sym read) (cut-step bytes e.kind x e.point s name is.text between parts.0 goes.cut);
+      cut = subst (IsCut bytes) (sym read) (cut-step bytes e.kind x e.point s name is.text between tells parts.0 goes.cut);
       parted = ap (λ (n : Sketch). are_parted bytes n.text (drop (i + 1) events)) read ∙ parts.1;
       comes = ap (λ (n : Sketch). sketched bytes n (drop (i + 1) events)) read ∙ sym (at_drop_more (sketched bytes s) events i d lt) ∙ goes.comes;
     }

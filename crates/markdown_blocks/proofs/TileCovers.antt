@@ -1,10 +1,10 @@
 -- The innermost pairs of the events of a text lie side by side, from its first byte to its last, before its texts are read.
-use Rattle.std.proofs.Common.{◌≡◌, ◌≢◌, ℕ, Bool, true, false, cond, List, [], ◌∷◌, ◌++◌, length, take, drop, refl, ap, sym, ◌∙◌, subst, append_assoc, append-nil}
+use Rattle.std.proofs.Common.{◌≡◌, ◌≢◌, ℕ, zero, suc, Bool, true, false, cond, List, [], ◌∷◌, ◌++◌, length, take, drop, refl, ap, sym, ◌∙◌, subst, append_assoc, append-nil}
 use Rattle.std.specs.Prelude.{◌==◌, Option, Some, None}
 use Rattle.std.proofs.lemmas.Bool.{and_from, eq-eqb, eqb-true}
 use Rattle.md_engine.specs.declared.configuration.ParseOptions.{ParseOptions}
 use Rattle.md_engine.specs.declared.event.Event.{Event}
-use Rattle.md_engine.specs.declared.event.Kind.TheVariants.{Enter}
+use Rattle.md_engine.specs.declared.event.Kind.TheVariants.{Enter, Exit}
 use Rattle.md_engine.specs.declared.event.Name.{Name}
 use Rattle.md_engine.specs.declared.event.Name.TheVariants as n
 use Rattle.md_engine.specs.declared.event.Point.{Point}
@@ -13,19 +13,21 @@ use Rattle.md_leaves.specs.Heading.{heading_link}
 use Rattle.md_leaves.specs.HeadingRule.{Apart, Hashes, Run, Text, White, begun, closes, goes_on, opens}
 use Rattle.md_leaves.specs.HeadingText.{linked_text}
 use Rattle.md_leaves.specs.HeadingTitle.{Title, chunk_unless_empty, front_len, line_runs, text_of, title_of, unread_title}
-use Rattle.md_seam.specs.Inline.{Covers, pieces}
-use Rattle.md_seam.specs.Nested.{enter, enter_link, exit, pair}
+use Rattle.md_seam.specs.Inline.{Covers, Piece, pair_unless_empty, pieces, pieces_from}
+use Rattle.md_seam.specs.Nested.{around, enter, enter_link, exit, pair}
 use Rattle.md_seam.specs.Places.{first_point, past_byte, past_text, same_place}
 use Rattle.md_seam.specs.Preamble.{has_mark}
 use Rattle.md_seam.specs.Rest.{is_white}
 use Rattle.md_seam.specs.Tiles.{end_point}
 use Rattle.md_seam.proofs.InlineLemmas.{same-refl}
 use Rattle.markdown_blocks.specs.Document.{body_point, mark_end, mark_events}
-use Rattle.markdown_blocks.specs.Rows.{BlankRow, BreakRow, Group, HeadingRow, Lines, Row, RowKind, Single, TextRow, behind_row, ending_events, groups, onto_groups, row_line, row_title}
-use Rattle.markdown_blocks.specs.Unread.{titled_groups, titled_row_by}
+use Rattle.markdown_blocks.specs.Fronted.{quoted, rest_from, rest_line}
+use Rattle.markdown_blocks.specs.Rows.{BlankRow, BreakRow, Group, HeadingRow, Lines, Row, RowKind, Single, TextRow, behind_row, ending_events, goes_on as joins_on, groups, is_text, last_row, onto_groups, quote_ends, row_line, row_title, tail_events}
+use Rattle.markdown_blocks.specs.Unread.{linked_lines, titled_group, titled_groups, titled_row_by}
 use Rattle.markdown_blocks.proofs.JoinedLemmas.{behind-is, behind-none}
-use Rattle.markdown_blocks.proofs.PiecesLemmas.{Shut, Tiled, shut-exit, tiled-append, tiled-around, tiled-enter, tiled-none, tiled-pair, tiled-two}
-use Rattle.markdown_blocks.proofs.RowFacts.{AreRows, IsRow}
+use Rattle.markdown_blocks.proofs.PiecesLemmas.{Ends, Follows, Shut, Tiled, follows-append, follows-tiled, shut-exit, tiled-append, tiled-around, tiled-enter, tiled-none, tiled-pair, tiled-two, tiled-unless_empty, tiled-within}
+use Rattle.markdown_blocks.proofs.FrontFacts.{Behind, Begins, Fronts, Goes, IsPrefix}
+use Rattle.markdown_blocks.proofs.RowFacts.{AreRows, IsLine, IsRow, depth_behind}
 use Rattle.markdown_blocks.proofs.TitleNests.{back_bytes, blank-no_heading, break-no_heading, either, line-end-is, text-end-is, text_begin, text_end}
 
 -- The runs of a piece of a line cover it: behind an enter, they shut it.
@@ -117,12 +119,61 @@ ending-tiled name row = go row.after
     go None = tiled-none row.end row.end (same-refl row.end)
     go (Some q) = tiled-pair name row.end q
 
+-- Quotes.
+
+-- a prefix covers what it takes, and so do the prefixes in front of a line
+prefix-tiled : (bytes : List ℕ) (p q : Point) (es : List Event) → IsPrefix bytes p q es → Tiled p q es
+prefix-tiled bytes p q es is =
+    let indent : List Event = pair_unless_empty n.SpaceOrTab p is.marker in
+    let white : List Event = pair_unless_empty n.SpaceOrTab is.behind q in
+    let inside : List Event = pair n.BlockQuoteMarker is.marker is.behind ++ white in
+    subst (Tiled p q) (sym (is.events ∙ append_assoc indent (enter n.BlockQuotePrefix is.marker ∷ inside) (exit n.BlockQuotePrefix q ∷ [])))
+    (tiled-append p is.marker q indent (around n.BlockQuotePrefix is.marker q inside) (tiled-unless_empty n.SpaceOrTab p is.marker)
+    (tiled-around n.BlockQuotePrefix is.marker q inside
+    (tiled-append is.marker is.behind q (pair n.BlockQuoteMarker is.marker is.behind) white (tiled-pair n.BlockQuoteMarker is.marker is.behind) (tiled-unless_empty n.SpaceOrTab is.behind q))))
+
+-- a prefix has events
+prefix-some : (bytes : List ℕ) (p q : Point) (es : List Event) → IsPrefix bytes p q es → es ≢ []
+prefix-some bytes p q es is none = go (same_place p is.marker) (sym is.events ∙ none)
+  where
+    go : (x : Bool) → (cond x [] (pair n.SpaceOrTab p is.marker) ++ enter n.BlockQuotePrefix is.marker ∷ enter n.BlockQuoteMarker is.marker ∷ exit n.BlockQuoteMarker is.behind ∷ pair_unless_empty n.SpaceOrTab is.behind q ++ exit n.BlockQuotePrefix q ∷ []) ≢ []
+    go true h = cc
+    go false h = cc
+
+-- the begin of a quote in front of events
+begun-tiled : (p q : Point) (xs ys : List Event) → xs ≢ [] → Tiled p q (xs ++ ys) → Tiled p q (enter n.BlockQuote p ∷ xs ++ ys)
+begun-tiled p q [] ys some h = absurd (some refl)
+begun-tiled p q (e ∷ xs) ys some h = tiled-within (enter n.BlockQuote p) e q (xs ++ ys) refl h
+
+fronts-tiled : (bytes : List ℕ) (opens : ℕ) (p q : Point) (es : List Event) → Fronts bytes opens p q es → Tiled p q es
+fronts-tiled bytes opens p q es (Behind at) = tiled-none at at (same-refl at)
+fronts-tiled bytes opens first last es (Goes same p q r xs ys is more) = tiled-append p q r xs ys (prefix-tiled bytes p q xs is) (fronts-tiled bytes same q r ys more)
+fronts-tiled bytes opens first last es (Begins before p q r xs ys is more) =
+    begun-tiled p r xs ys (prefix-some bytes p q xs is) (tiled-append p q r xs ys (prefix-tiled bytes p q xs is) (fronts-tiled bytes before q r ys more))
+
+-- the ends of quotes cover nothing
+ends-cover : (size : ℕ) (p : Point) → Follows p p (quote_ends size p)
+ends-cover zero p = record { ends = refl; covers = same-refl p }
+ends-cover (suc size) p = record { ends = ends size; covers = subst (λ (l : List Piece). Covers p l p) (sym (none size)) (same-refl p) }
+  where
+    ends : (size : ℕ) → Ends Exit (quote_ends size p)
+    ends zero = refl
+    ends (suc size) = ends size
+
+    none : (size : ℕ) → pieces_from (exit n.BlockQuote p) (quote_ends size p) ≡ []
+    none zero = refl
+    none (suc size) = none size
+
+tail-covers : (name : Name) (row : Row) → Follows row.end (behind_row row) (tail_events name row)
+tail-covers name row =
+    follows-append row.end row.end (behind_row row) (quote_ends row.leaves row.end) (ending_events name row) (ends-cover row.leaves row.end) (follows-tiled row.end (behind_row row) (ending_events name row) (ending-tiled name row))
+
 -- Groups.
 
--- events that cover a line, its ending, and what follows
-line-tiled : (name : Name) (row : Row) (q : Point) (es rest : List Event) → Tiled row.first row.end es → Tiled (behind_row row) q rest → Tiled row.first q ((es ++ ending_events name row) ++ rest)
-line-tiled name row q es rest h more =
-    tiled-append row.first (behind_row row) q (es ++ ending_events name row) rest (tiled-append row.first row.end (behind_row row) es (ending_events name row) h (ending-tiled name row)) more
+-- what stands in front of a line, in it, and behind its last part or that of a further line
+line-covers : (name : Name) (row last : Row) (p : Point) (es : List Event) → Tiled p row.first row.front → Tiled row.first last.end es → Follows p (behind_row last) (row.front ++ es ++ tail_events name last)
+line-covers name row last p es front h =
+    follows-append p last.end (behind_row last) (row.front ++ es) (tail_events name last) (follows-tiled p last.end (row.front ++ es) (tiled-append p row.first last.end row.front es front h)) (tail-covers name last)
 
 blank-no_text : (kind : RowKind) → kind ≡ BlankRow → kind ≢ TextRow
 blank-no_text kind e k = cc
@@ -130,50 +181,73 @@ blank-no_text kind e k = cc
 break-no_text : (kind : RowKind) → kind ≡ BreakRow → kind ≢ TextRow
 break-no_text kind e k = cc
 
--- A line of text that is a paragraph.
-tiled-first : (bytes : List ℕ) (row : Row) (gs : List Group) (q : Point) → Tiled (behind_row row) q (titled_groups bytes gs) → Tiled row.first q (titled_groups bytes (Lines row [] ∷ gs))
-tiled-first bytes row gs q more =
-    let chunk : List Event = enter_link n.Data row.first text_link ∷ exit n.Data row.end ∷ [] in
-    line-tiled n.LineEnding row q (enter n.Paragraph row.first ∷ chunk ++ exit n.Paragraph row.end ∷ []) (titled_groups bytes gs)
-    (tiled-around n.Paragraph row.first row.end chunk (tiled-two (enter_link n.Data row.first text_link) (exit n.Data row.end) refl refl)) more
+-- What groups cover, from a point to a point: of a paragraph, what stands in front of it and its lines.
+abbrev Laid : List ℕ → Point → Point → List Group → Type 0
+Laid bytes p end [] = same_place p end ≡ true
+Laid bytes p end (Single row ∷ gs) = Follows p (behind_row row) (titled_row_by bytes row.kind row) × Laid bytes (behind_row row) end gs
+Laid bytes p end (Lines row rows ∷ gs) =
+    (front : Tiled p row.first row.front) × (lines : Tiled row.first (last_row row rows).end (linked_lines n.Data text_link row rows)) × Laid bytes (behind_row (last_row row rows)) end gs
 
--- A line of text in front of a paragraph.
-tiled-next : (bytes : List ℕ) (row next : Row) (rows : List Row) (gs : List Group) (q : Point) → Tiled (behind_row row) q (titled_groups bytes (Lines next rows ∷ gs)) → Tiled row.first q (titled_groups bytes (Lines row (next ∷ rows) ∷ gs))
-tiled-next bytes row next [] gs q more = record { begins = refl; ends = more.ends; covers = (same-refl row.first, more.covers) }
-tiled-next bytes row next (below ∷ rows) gs q more = record { begins = refl; ends = more.ends; covers = (same-refl row.first, more.covers) }
+-- a chunk
+chunk-tiled : (p q : Point) → Tiled p q (enter_link n.Data p text_link ∷ exit n.Data q ∷ [])
+chunk-tiled p q = tiled-two (enter_link n.Data p text_link) (exit n.Data q) refl refl
 
 -- a line in front of others
-tiled-row : (bytes : List ℕ) (row : Row) (gs : List Group) (q : Point) → Covered bytes row → Tiled (behind_row row) q (titled_groups bytes gs) → (kind : RowKind) → row.kind ≡ kind → Tiled row.first q (titled_groups bytes (onto_groups row kind gs))
-tiled-row bytes row gs q c more BlankRow e =
-    subst (λ (k : RowKind). Tiled row.first q (titled_row_by bytes k row ++ titled_groups bytes gs)) (sym e)
-    (line-tiled n.BlankLineEnding row q row.inside (titled_groups bytes gs) (c.inside (blank-no_heading row.kind e) (blank-no_text row.kind e)) more)
-tiled-row bytes row gs q c more HeadingRow e =
-    let inside : List Event = unread_title (row_title bytes row) in
-    subst (λ (k : RowKind). Tiled row.first q (titled_row_by bytes k row ++ titled_groups bytes gs)) (sym e)
-    (line-tiled n.LineEnding row q (enter n.HeadingAtx row.first ∷ inside ++ exit n.HeadingAtx row.end ∷ []) (titled_groups bytes gs) (tiled-around n.HeadingAtx row.first row.end inside c.title) more)
-tiled-row bytes row gs q c more BreakRow e =
-    subst (λ (k : RowKind). Tiled row.first q (titled_row_by bytes k row ++ titled_groups bytes gs)) (sym e)
-    (line-tiled n.LineEnding row q (enter n.ThematicBreak row.first ∷ row.inside ++ exit n.ThematicBreak row.end ∷ []) (titled_groups bytes gs)
-    (tiled-around n.ThematicBreak row.first row.end row.inside (c.inside (break-no_heading row.kind e) (break-no_text row.kind e))) more)
-tiled-row bytes row [] q c more TextRow e = tiled-first bytes row [] q more
-tiled-row bytes row (Single next ∷ gs) q c more TextRow e = tiled-first bytes row (Single next ∷ gs) q more
-tiled-row bytes row (Lines next rows ∷ gs) q c more TextRow e = tiled-next bytes row next rows gs q more
+onto-laid : (bytes : List ℕ) (row : Row) (p end : Point) (gs : List Group) → Tiled p row.first row.front → Covered bytes row → Laid bytes (behind_row row) end gs → (kind : RowKind) → row.kind ≡ kind → Laid bytes p end (onto_groups row kind gs)
+onto-laid bytes row p end gs front c more BlankRow e =
+    (subst (λ (k : RowKind). Follows p (behind_row row) (titled_row_by bytes k row)) (sym e) (line-covers n.BlankLineEnding row row p row.inside front (c.inside (blank-no_heading row.kind e) (blank-no_text row.kind e))), more)
+onto-laid bytes row p end gs front c more HeadingRow e =
+    let inside : List Event = unread_title (row_title bytes row) in (
+      subst (λ (k : RowKind). Follows p (behind_row row) (titled_row_by bytes k row)) (sym e)
+          (line-covers n.LineEnding row row p (around n.HeadingAtx row.first row.end inside) front (tiled-around n.HeadingAtx row.first row.end inside c.title)),
+      more,
+    )
+onto-laid bytes row p end gs front c more BreakRow e = (
+  subst (λ (k : RowKind). Follows p (behind_row row) (titled_row_by bytes k row)) (sym e)
+      (line-covers n.LineEnding row row p (around n.ThematicBreak row.first row.end row.inside) front
+      (tiled-around n.ThematicBreak row.first row.end row.inside (c.inside (break-no_heading row.kind e) (break-no_text row.kind e)))),
+  more,
+)
+onto-laid bytes row p end [] front c more TextRow e = (front, chunk-tiled row.first row.end, more)
+onto-laid bytes row p end (Single next ∷ gs) front c more TextRow e = (front, chunk-tiled row.first row.end, more)
+onto-laid bytes row p end (Lines next rows ∷ gs) front c more TextRow e = joins (joins_on row next)
+  where
+    lines : List Event
+    lines = linked_lines n.Data text_link next rows
 
--- The groups of the lines of a text cover it.
-groups-tiled : (options : ParseOptions) (bytes : List ℕ) (p : Point) (lines : List (List ℕ)) (rows : List Row) → AreRows options bytes p lines rows → Tiled p (end_point bytes) (titled_groups bytes (groups rows))
-groups-tiled options bytes p (line ∷ []) (row ∷ []) are =
-    let is : IsRow options bytes line row = are.0 in
-    let at_end : same_place row.end (end_point bytes) ≡ true = and_from _ _ (eq-eqb row.end.index (length bytes) are.3) (eq-eqb row.end.vs 0 is.end_whole) in
+    joins : (on : Bool) → Laid bytes p end (cond on (Lines row (next ∷ rows) ∷ gs) (Lines row [] ∷ Lines next rows ∷ gs))
+    joins true = (
+      front,
+      tiled-append row.first (behind_row row) (last_row next rows).end (enter_link n.Data row.first text_link ∷ exit n.Data (behind_row row) ∷ []) (next.front ++ lines) (chunk-tiled row.first (behind_row row))
+          (tiled-append (behind_row row) next.first (last_row next rows).end next.front lines more.0 more.1),
+      more.2,
+    )
+    joins false = (front, chunk-tiled row.first row.end, more)
+
+-- The groups of the lines of a text.
+groups-laid : (options : ParseOptions) (bytes : List ℕ) (depth : ℕ) (going : Bool) (p : Point) (lines : List (List ℕ)) (rows : List Row) → AreRows options bytes depth going p lines rows → Laid bytes p (end_point bytes) (groups rows)
+groups-laid options bytes depth going p (line ∷ []) (row ∷ []) are =
+    let is : IsLine options bytes depth going p line row = are.0 in
+    let at_end : same_place row.end (end_point bytes) ≡ true = and_from _ _ (eq-eqb row.end.index (length bytes) are.3) (eq-eqb row.end.vs 0 is.is.end_whole) in
     let behind : same_place (behind_row row) (end_point bytes) ≡ true = subst (λ (q : Point). same_place q (end_point bytes) ≡ true) (sym (behind-none row are.2)) at_end in
-    subst (λ (q : Point). Tiled q (end_point bytes) (titled_groups bytes (groups (row ∷ [])))) are.1
-    (tiled-row bytes row [] (end_point bytes) (covered options bytes line row is) (tiled-none (behind_row row) (end_point bytes) behind) row.kind refl)
-groups-tiled options bytes p (line ∷ next ∷ lines) (row ∷ below ∷ rows) are =
-    let is : IsRow options bytes line row = are.0 in
+    onto-laid bytes row p (end_point bytes) [] (fronts-tiled bytes row.opens p row.first row.front is.front) (covered options bytes (rest_line (quoted options depth going (rest_from p line)).rest) row is.is) behind row.kind refl
+groups-laid options bytes depth going p (line ∷ next ∷ lines) (row ∷ below ∷ rows) are =
+    let is : IsLine options bytes depth going p line row = are.0 in
     let end : Point = end_point bytes in
-    subst (λ (q : Point). Tiled q end (titled_groups bytes (groups (row ∷ below ∷ rows)))) are.1
-    (tiled-row bytes row (groups (below ∷ rows)) end (covered options bytes line row is)
-    (subst (λ (q : Point). Tiled q end (titled_groups bytes (groups (below ∷ rows)))) (sym (behind-is row are.2 are.3)) (groups-tiled options bytes are.2 (next ∷ lines) (below ∷ rows) are.5)) row.kind refl)
-groups-tiled options bytes p lines rows are = absurd are
+    onto-laid bytes row p end (groups (below ∷ rows)) (fronts-tiled bytes row.opens p row.first row.front is.front) (covered options bytes (rest_line (quoted options depth going (rest_from p line)).rest) row is.is)
+    (subst (λ (q : Point). Laid bytes q end (groups (below ∷ rows))) (sym (behind-is row are.2 are.3))
+    (groups-laid options bytes (depth_behind options depth going p line) (is_text row.kind) are.2 (next ∷ lines) (below ∷ rows) are.5)) row.kind refl
+groups-laid options bytes depth going p lines rows are = absurd are
+
+-- They cover it.
+laid-covers : (bytes : List ℕ) (p end : Point) (gs : List Group) → Laid bytes p end gs → Follows p end (titled_groups bytes gs)
+laid-covers bytes p end [] h = record { ends = refl; covers = h }
+laid-covers bytes p end (Single row ∷ gs) h = follows-append p (behind_row row) end (titled_row_by bytes row.kind row) (titled_groups bytes gs) h.0 (laid-covers bytes (behind_row row) end gs h.1)
+laid-covers bytes p end (Lines row rows ∷ gs) h =
+    let last : Row = last_row row rows in
+    let lines : List Event = linked_lines n.Data text_link row rows in
+    follows-append p (behind_row last) end (titled_group bytes (Lines row rows)) (titled_groups bytes gs)
+    (line-covers n.LineEnding row last p (around n.Paragraph row.first last.end lines) h.0 (tiled-around n.Paragraph row.first last.end lines h.1)) (laid-covers bytes (behind_row last) end gs h.2)
 
 -- So do the events of a text with its mark.
 mark-tiled : (bytes : List ℕ) → Tiled first_point (body_point bytes) (mark_events bytes)
@@ -183,7 +257,8 @@ mark-tiled bytes = go (has_mark bytes)
     go true = tiled-pair n.ByteOrderMark first_point mark_end
     go false = tiled-none first_point first_point refl
 
-pub blocks-cover : (options : ParseOptions) (bytes : List ℕ) (lines : List (List ℕ)) (rows : List Row) → AreRows options bytes (body_point bytes) lines rows →
+pub blocks-cover : (options : ParseOptions) (bytes : List ℕ) (lines : List (List ℕ)) (rows : List Row) → AreRows options bytes 0 false (body_point bytes) lines rows →
     Covers first_point (pieces (mark_events bytes ++ titled_groups bytes (groups rows))) (end_point bytes)
 blocks-cover options bytes lines rows are =
-    (tiled-append first_point (body_point bytes) (end_point bytes) (mark_events bytes) (titled_groups bytes (groups rows)) (mark-tiled bytes) (groups-tiled options bytes (body_point bytes) lines rows are)).covers
+    (follows-append first_point (body_point bytes) (end_point bytes) (mark_events bytes) (titled_groups bytes (groups rows)) (follows-tiled first_point (body_point bytes) (mark_events bytes) (mark-tiled bytes))
+    (laid-covers bytes (body_point bytes) (end_point bytes) (groups rows) (groups-laid options bytes 0 false (body_point bytes) lines rows are))).covers

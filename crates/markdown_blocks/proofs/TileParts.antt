@@ -1,8 +1,8 @@
 -- The text parts of a text, before they are read, stand as its tiling asks: one chunk a line, and no chunk elsewhere.
-use Rattle.std.proofs.Common.{◌≡◌, ◌≢◌, ℕ, ◌+◌, Bool, true, false, cond, not, ◌&&◌, List, [], ◌∷◌, ◌++◌, length, drop, take, refl, ap, sym, ◌∙◌, subst, append_assoc, append-nil, arith}
+use Rattle.std.proofs.Common.{◌≡◌, ◌≢◌, ℕ, ◌+◌, ◌-◌, ◌≤◌, Bool, true, false, cond, not, ◌&&◌, List, [], ◌∷◌, ◌++◌, length, drop, take, refl, ap, sym, ◌∙◌, subst, append_assoc, append-nil, arith}
 use Rattle.std.specs.Prelude.{◌==◌, IsTrue, Option, Some, None}
 use Rattle.std.specs.List.{list_all}
-use Rattle.std.proofs.lemmas.Bool.{and_from}
+use Rattle.std.proofs.lemmas.Bool.{and_from, and_parts}
 use Rattle.std.proofs.lemmas.Bool.Decides.{nat_tests}
 use Rattle.md_engine.specs.declared.configuration.ParseOptions.{ParseOptions}
 use Rattle.md_engine.specs.declared.event.Event.{Event}
@@ -21,19 +21,23 @@ use Rattle.md_seam.specs.declared.inline.Chunk.{Chunk}
 use Rattle.md_seam.specs.declared.inline.PartKind.{PartKind}
 use Rattle.md_seam.specs.declared.inline.PartKind.TheVariants.{Text}
 use Rattle.md_seam.specs.Inline.{Piece, are_lines, pieces}
-use Rattle.md_seam.specs.Nested.{Balanced, Forward, Nested, around, enter, enter_link, exit, pair, is_exit}
-use Rattle.md_seam.specs.Places.{at_or_before, first_point}
+use Rattle.md_seam.specs.Nested.{Nested, around, enter, enter_link, exit, pair, is_exit}
+use Rattle.md_seam.specs.Places.{at_or_before, first_point, same_place}
 use Rattle.md_seam.specs.Preamble.{has_mark}
 use Rattle.md_seam.specs.Tiles.{chunks, chunks_stand, inside_part, is_part, is_white_piece, part_end, part_kind, part_stands, parts_stand, stands_in_part}
 use Rattle.md_seam.proofs.NestedLemmas.{at_or_before-refl, balanced-none}
 use Rattle.markdown_blocks.specs.Document.{body_point, mark_end, mark_events}
-use Rattle.markdown_blocks.specs.Rows.{BlankRow, BreakRow, Group, HeadingRow, Lines, Row, RowKind, Single, TextRow, behind_row, chunks_of, ending_events, groups, last_row, row_line, row_title}
-use Rattle.markdown_blocks.specs.Unread.{linked, titled_group, titled_groups, titled_row_by, unread_paragraph}
-use Rattle.markdown_blocks.proofs.GroupLemmas.{AreGroups, IsParagraph, IsSingle, groups-are, paragraph-lines, title-lines}
+use Rattle.markdown_blocks.specs.Rows.{BlankRow, BreakRow, Group, HeadingRow, Lines, Row, RowKind, Single, TextRow, behind_row, chunks_of, ending_events, groups, last_row, quote_ends, row_line, row_title, tail_events}
+use Rattle.markdown_blocks.specs.Unread.{linked, linked_lines, titled_group, titled_groups, titled_row_by, unread_paragraph}
+use Rattle.markdown_blocks.proofs.FrontFacts.{Behind, Begins, Fronts, Goes, IsPrefix}
+use Rattle.markdown_blocks.proofs.FrontLemmas.{fronts-balanced, fronts-spans, fronts-turn}
+use Rattle.markdown_blocks.proofs.FrontParts.{ends-no_parts, ends-unlinked, fronts-no_parts, fronts-unlinked}
+use Rattle.markdown_blocks.proofs.GroupLemmas.{AreGroups, HasFront, IsParagraph, IsSingle, groups-are, paragraph-lines, title-lines}
 use Rattle.markdown_blocks.proofs.JoinedLemmas.{EachNoContent}
 use Rattle.markdown_blocks.proofs.MarkLemmas.{mark-nested}
-use Rattle.markdown_blocks.proofs.NestedRows.{ByLines, Nested_in, Onward, Ordered, around-nested, behind-order, blank-nested, block-nested, break-nested, heading-nested, line-order, onward-before, onward-next, rows-hold}
-use Rattle.markdown_blocks.proofs.PartFacts.{AreUnlinked, EachUnlinked, IsUnlinked, NoParts, groups-unlinked, linked-chunks, linked-no_parts, part-inside, pieces-behind, quiet-no_parts, runs-no_parts}
+use Rattle.markdown_blocks.proofs.NestedRows.{ByLines, Nested_in, Onward, Ordered, Under, around-nested, behind-order, blank-nested, break-nested, heading-nested, line-order, rows-hold, under-line, under-next, under-none, under-turn}
+use Rattle.markdown_blocks.proofs.PartFacts.{AreUnlinked, EachUnlinked, IsUnlinked, NoParts, end-goes, groups-unlinked, linked-chunks, linked-no_parts, no_parts-append, part-inside, pieces-behind, quiet-no_parts, runs-no_parts}
+use Rattle.markdown_blocks.proofs.PiecesLemmas.{Ends, ends-append, pieces-ended}
 use Rattle.markdown_blocks.proofs.RowFacts.{AreRows, IsInside, IsRow}
 use Rattle.markdown_blocks.proofs.TitleFacts.{NoLinks, back-unlinked, front-unlinked}
 use Rattle.markdown_blocks.proofs.TitleNests.{text-order, text_begin, text_end}
@@ -57,10 +61,6 @@ outside-chunks (e ∷ xs) ys h k =
 
 -- The chunks of a text part.
 
-linked-end : (link : Link) (cs : List Chunk) (ys : List Event) → part_end (linked n.Data link cs ++ ys) ≡ part_end ys
-linked-end link [] ys = refl
-linked-end link (c ∷ cs) ys = linked-end link cs ys
-
 linked-white : (bytes : List ℕ) (link : Link) (cs : List Chunk) → list_all (is_white_piece bytes) (pieces (linked n.Data link cs)) ≡ true
 linked-white bytes link [] = refl
 linked-white bytes link (c ∷ cs) = ap (λ (l : List Piece). list_all (is_white_piece bytes) l) (pieces-behind c.after link cs) ∙ linked-white bytes link cs
@@ -68,6 +68,79 @@ linked-white bytes link (c ∷ cs) = ap (λ (l : List Piece). list_all (is_white
 linked-stand : (link : Link) (cs : List Chunk) (ys : List Event) → chunks_stand 1 (linked n.Data link cs ++ ys) ≡ chunks_stand 1 ys
 linked-stand link [] ys = refl
 linked-stand link (c ∷ cs) ys = linked-stand link cs ys
+
+linked-ends : (link : Link) (cs : List Chunk) → Ends Exit (linked n.Data link cs)
+linked-ends link [] = refl
+linked-ends link (c ∷ cs) = linked-ends link cs
+
+-- Events that may stand in a text part, with these chunks.
+pub record Inside (bytes : List ℕ) (cs : List Chunk) (es : List Event) : Type 0 where
+  pub outside : NoParts es
+  pub ends : Ends Exit es
+  pub white : list_all (is_white_piece bytes) (pieces es) ≡ true
+  pub has : chunks (pieces es) ≡ cs
+  pub stand : (ys : List Event) → chunks_stand 1 (es ++ ys) ≡ chunks_stand 1 ys
+
+pub inside-linked : (bytes : List ℕ) (link : Link) (cs : List Chunk) → Inside bytes cs (linked n.Data link cs)
+inside-linked bytes link cs = record { outside = linked-no_parts link cs; ends = linked-ends link cs; white = linked-white bytes link cs; has = linked-chunks link cs; stand = linked-stand link cs }
+
+white-append : (bytes : List ℕ) (xs ys : List Piece) → list_all (is_white_piece bytes) xs ≡ true → list_all (is_white_piece bytes) ys ≡ true → list_all (is_white_piece bytes) (xs ++ ys) ≡ true
+white-append bytes [] ys h k = k
+white-append bytes (x ∷ xs) ys h k =
+    let both : (is_white_piece bytes x ≡ true) × (list_all (is_white_piece bytes) xs ≡ true) = and_parts (is_white_piece bytes x) (list_all (is_white_piece bytes) xs) h in
+    and_from (is_white_piece bytes x) (list_all (is_white_piece bytes) (xs ++ ys)) both.0 (white-append bytes xs ys both.1 k)
+
+chunks-append : (xs ys : List Piece) → chunks (xs ++ ys) ≡ chunks xs ++ chunks ys
+chunks-append [] ys = refl
+chunks-append (x ∷ xs) ys = go x.linked (chunks-append xs ys)
+  where
+    chunk : Chunk
+    chunk = record { first = x.first; after = x.after }
+
+    go : (linked : Bool) → chunks (xs ++ ys) ≡ chunks xs ++ chunks ys → cond linked (chunk ∷ chunks (xs ++ ys)) (chunks (xs ++ ys)) ≡ cond linked (chunk ∷ chunks xs) (chunks xs) ++ chunks ys
+    go true same = ap (λ (l : List Chunk). chunk ∷ l) same
+    go false same = same
+
+inside-append : (bytes : List ℕ) (cs ds : List Chunk) (xs ys : List Event) → Inside bytes cs xs → Inside bytes ds ys → Inside bytes (cs ++ ds) (xs ++ ys)
+inside-append bytes cs ds xs ys h k = record {
+  outside = no_parts-append xs ys h.outside k.outside;
+  ends = ends-append Exit xs ys h.ends k.ends;
+  white = ap (λ (l : List Piece). list_all (is_white_piece bytes) l) (pieces-ended xs ys h.ends) ∙ white-append bytes (pieces xs) (pieces ys) h.white k.white;
+  has = ap (λ (l : List Piece). chunks l) (pieces-ended xs ys h.ends) ∙ chunks-append (pieces xs) (pieces ys) ∙ ap (λ (l : List Chunk). l ++ chunks (pieces ys)) h.has ∙ ap (λ (l : List Chunk). cs ++ l) k.has;
+  stand = λ zs. ap (chunks_stand 1) (append_assoc xs ys zs) ∙ h.stand (ys ++ zs) ∙ k.stand zs;
+}
+
+-- the prefix of a quote
+prefix-inside : (bytes : List ℕ) (p q : Point) (es : List Event) → IsPrefix bytes p q es → Inside bytes [] es
+prefix-inside bytes p q es is = subst (Inside bytes []) (sym is.events) (go (same_place p is.marker) (same_place is.behind q))
+  where
+    prefix : Bool → Bool → List Event
+    prefix x y =
+        cond x [] (pair n.SpaceOrTab p is.marker) ++ enter n.BlockQuotePrefix is.marker ∷ enter n.BlockQuoteMarker is.marker ∷ exit n.BlockQuoteMarker is.behind ∷ cond y [] (pair n.SpaceOrTab is.behind q) ++ exit n.BlockQuotePrefix q ∷ []
+
+    go : (x y : Bool) → Inside bytes [] (prefix x y)
+    go true true = record { outside = (refl, (refl, (refl, (refl, tt)))); ends = refl; white = refl; has = refl; stand = λ ys. refl }
+    go true false = record { outside = (refl, (refl, (refl, (refl, (refl, (refl, tt)))))); ends = refl; white = rw is.white_behind refl; has = refl; stand = λ ys. refl }
+    go false true = record { outside = (refl, (refl, (refl, (refl, (refl, (refl, tt)))))); ends = refl; white = rw is.white_before refl; has = refl; stand = λ ys. refl }
+    go false false = record { outside = (refl, (refl, (refl, (refl, (refl, (refl, (refl, (refl, tt)))))))); ends = refl; white = rw (is.white_before, is.white_behind) refl; has = refl; stand = λ ys. refl }
+
+-- those in front of a further line of a paragraph
+fronts-inside : (bytes : List ℕ) (opens : ℕ) (p q : Point) (es : List Event) → opens ≡ 0 → Fronts bytes opens p q es → Inside bytes [] es
+fronts-inside bytes opens p q es none (Behind at) = record { outside = tt; ends = refl; white = refl; has = refl; stand = λ ys. refl }
+fronts-inside bytes opens first last es none (Goes same p q r xs ys is more) = inside-append bytes [] [] xs ys (prefix-inside bytes p q xs is) (fronts-inside bytes same q r ys none more)
+fronts-inside bytes opens first last es none (Begins before p q r xs ys is more) = absurd (omega (arith, none))
+
+-- the lines of a paragraph
+inside-chunk : (bytes : List ℕ) (p q : Point) → Inside bytes ((record { first = p; after = q }) ∷ []) (enter_link n.Data p text_link ∷ exit n.Data q ∷ [])
+inside-chunk bytes p q = record { outside = (refl, (refl, tt)); ends = refl; white = refl; has = refl; stand = λ ys. refl }
+
+pub lines-inside : (options : ParseOptions) (bytes : List ℕ) (row : Row) (rows : List Row) → IsParagraph options bytes row rows → Inside bytes (chunks_of row rows) (linked_lines n.Data text_link row rows)
+lines-inside options bytes row [] is = inside-chunk bytes row.first row.end
+lines-inside options bytes row (next ∷ rows) is =
+    let q : Point = behind_row row in
+    let lines : List Event = linked_lines n.Data text_link next rows in
+    inside-append bytes ((record { first = row.first; after = q }) ∷ []) (chunks_of next rows) (enter_link n.Data row.first text_link ∷ exit n.Data q ∷ []) (next.front ++ lines) (inside-chunk bytes row.first q)
+    (inside-append bytes [] (chunks_of next rows) next.front lines (fronts-inside bytes 0 is.3 next.first next.front refl is.6) (lines-inside options bytes next rows is.7))
 
 -- Events in front of others.
 
@@ -97,37 +170,42 @@ stands-ending bytes name row other = go row.after
     go None = stands-outside bytes [] tt tt
     go (Some q) = stands-outside bytes (pair name row.end q) (other, (other, tt)) (refl, (refl, tt))
 
+-- what stands in a line, with what stands in front of it, and behind it or a further line
+stands-line : (bytes : List ℕ) (name : Name) (row last : Row) (es : List Event) → part_kind name ≡ None → HasFront bytes row → Stands bytes es → Stands bytes (row.front ++ es ++ tail_events name last)
+stands-line bytes name row last es other front h =
+    stands-append bytes (row.front ++ es) (tail_events name last)
+    (stands-append bytes row.front es (stands-outside bytes row.front (fronts-no_parts bytes row.opens front.0 row.first row.front front.1) (fronts-unlinked bytes row.opens front.0 row.first row.front front.1)) h)
+    (stands-append bytes (quote_ends last.leaves last.end) (ending_events name last) (stands-outside bytes (quote_ends last.leaves last.end) (ends-no_parts last.leaves last.end) (ends-unlinked last.leaves last.end))
+    (stands-ending bytes name last other))
+
 -- A text part of chunks that are lines.
-stands-part : (bytes : List ℕ) (name : Name) (kind : PartKind) (link : Link) (p q : Point) (cs : List Chunk) → part_kind name ≡ Some kind → are_lines bytes q cs ≡ true → Stands bytes (around name p q (linked n.Data link cs))
-stands-part bytes name kind link p q cs named lines = record {
+stands-part : (bytes : List ℕ) (name : Name) (kind : PartKind) (p q : Point) (cs : List Chunk) (inside : List Event) → part_kind name ≡ Some kind → Inside bytes cs inside → are_lines bytes q cs ≡ true → Stands bytes (around name p q inside)
+stands-part bytes name kind p q cs inside named h lines = record {
   parts = λ ys.
       let rest : List Event = inside ++ exit name q ∷ ys in
       ap (λ (l : List Event). parts_stand bytes (enter name p ∷ l)) (append_assoc inside (exit name q ∷ []) ys)
       ∙ ap (λ (x : Bool). x && parts_stand bytes rest) (stands ys)
-      ∙ outside-parts bytes inside (exit name q ∷ ys) (linked-no_parts link cs);
+      ∙ outside-parts bytes inside (exit name q ∷ ys) h.outside;
   chunks = λ ys.
       let rest : List Event = inside ++ exit name q ∷ ys in
       ap (λ (l : List Event). chunks_stand 0 (enter name p ∷ l)) (append_assoc inside (exit name q ∷ []) ys)
       ∙ ap (λ (x : Option PartKind). chunks_stand (cond ((elim x [ None ↦ false | Some kind ↦ true ]) && true) 1 0) rest) named
-      ∙ linked-stand link cs (exit name q ∷ ys)
+      ∙ h.stand (exit name q ∷ ys)
       ∙ ap (λ (x : Option PartKind). cond (elim x [ None ↦ false | Some kind ↦ true ]) (chunks_stand 0 ys) (stands_in_part Exit name && chunks_stand 0 ys)) named;
 }
   where
-    inside : List Event
-    inside = linked n.Data link cs
-
     end : (ys : List Event) → part_end (inside ++ exit name q ∷ ys) ≡ q
-    end ys = linked-end link cs (exit name q ∷ ys) ∙ ap (λ (x : Option PartKind). cond ((elim x [ None ↦ false | Some kind ↦ true ]) && true) q (part_end ys)) named
+    end ys = end-goes inside (exit name q ∷ ys) h.outside ∙ ap (λ (x : Option PartKind). cond ((elim x [ None ↦ false | Some kind ↦ true ]) && true) q (part_end ys)) named
 
     stands : (ys : List Event) → part_stands bytes Enter (part_kind name) (inside ++ exit name q ∷ ys) ≡ true
     stands ys =
         let rest : List Event = inside ++ exit name q ∷ ys in
         ap (λ (x : Option PartKind). part_stands bytes Enter x rest) named
         ∙ and_from (list_all (is_white_piece bytes) (pieces (inside_part rest))) (are_lines bytes (part_end rest) (chunks (pieces (inside_part rest))))
-        (ap (λ (l : List Event). list_all (is_white_piece bytes) (pieces l)) (part-inside name kind q link cs ys named) ∙ linked-white bytes link cs)
+        (ap (λ (l : List Event). list_all (is_white_piece bytes) (pieces l)) (part-inside name kind q inside ys named h.outside) ∙ h.white)
         (ap (λ (r : Point). are_lines bytes r (chunks (pieces (inside_part rest)))) (end ys)
-        ∙ ap (λ (l : List Event). are_lines bytes q (chunks (pieces l))) (part-inside name kind q link cs ys named)
-        ∙ ap (are_lines bytes q) (linked-chunks link cs)
+        ∙ ap (λ (l : List Event). are_lines bytes q (chunks (pieces l))) (part-inside name kind q inside ys named h.outside)
+        ∙ ap (are_lines bytes q) h.has
         ∙ lines)
 
 -- Headings.
@@ -152,7 +230,7 @@ stands-title options bytes line row is =
 
     text : (x : Bool) → (length (text_of line) == 0) ≡ x → Stands bytes (linked_text (cond x None (Some chunk)))
     text true e = stands-outside bytes [] tt tt
-    text false e = stands-part bytes n.HeadingAtxText Text heading_link begin end (chunk ∷ []) refl (title-lines options bytes line row is (grind (arith, nat_tests)))
+    text false e = stands-part bytes n.HeadingAtxText Text begin end (chunk ∷ []) (linked n.Data heading_link (chunk ∷ [])) refl (inside-linked bytes heading_link (chunk ∷ [])) (title-lines options bytes line row is (grind (arith, nat_tests)))
 
 -- Groups.
 
@@ -160,33 +238,33 @@ stands-title options bytes line row is =
 stands-single : (options : ParseOptions) (bytes : List ℕ) (row : Row) → IsSingle options bytes row → IsUnlinked row → (kind : RowKind) → row.kind ≡ kind → Stands bytes (titled_row_by bytes kind row)
 stands-single options bytes row is unlinked BlankRow e =
     let inside : IsInside row = is.is.inside (λ k. cc) in
-    stands-append bytes row.inside (ending_events n.BlankLineEnding row) (stands-outside bytes row.inside (quiet-no_parts row.inside inside.quiet) (unlinked (λ k. cc))) (stands-ending bytes n.BlankLineEnding row refl)
+    stands-line bytes n.BlankLineEnding row row row.inside refl is.front (stands-outside bytes row.inside (quiet-no_parts row.inside inside.quiet) (unlinked (λ k. cc)))
 stands-single options bytes row is unlinked HeadingRow e =
     let inside : List Event = unread_title (row_title bytes row) in
     let stands : Stands bytes inside = subst (λ (line : List ℕ). Stands bytes (unread_title (title_of line row.first))) (sym is.is.text) (stands-title options bytes is.line row is.is) in
-    stands-append bytes (around n.HeadingAtx row.first row.end inside) (ending_events n.LineEnding row) (stands-around bytes n.HeadingAtx row.first row.end inside refl stands) (stands-ending bytes n.LineEnding row refl)
+    stands-line bytes n.LineEnding row row (around n.HeadingAtx row.first row.end inside) refl is.front (stands-around bytes n.HeadingAtx row.first row.end inside refl stands)
 stands-single options bytes row is unlinked BreakRow e =
     let inside : IsInside row = is.is.inside (λ k. cc) in
     let stands : Stands bytes row.inside = stands-outside bytes row.inside (quiet-no_parts row.inside inside.quiet) (unlinked (λ k. cc)) in
-    stands-append bytes (around n.ThematicBreak row.first row.end row.inside) (ending_events n.LineEnding row) (stands-around bytes n.ThematicBreak row.first row.end row.inside refl stands) (stands-ending bytes n.LineEnding row refl)
+    stands-line bytes n.LineEnding row row (around n.ThematicBreak row.first row.end row.inside) refl is.front (stands-around bytes n.ThematicBreak row.first row.end row.inside refl stands)
 stands-single options bytes row is unlinked TextRow e = absurd (is.other e)
 
 -- lines of text that follow one another
-stands-lines : (options : ParseOptions) (bytes : List ℕ) (row : Row) (rows : List Row) → IsParagraph options bytes row rows → Stands bytes (titled_group bytes (Lines row rows))
-stands-lines options bytes row rows is =
+stands-lines : (options : ParseOptions) (bytes : List ℕ) (row : Row) (rows : List Row) → IsParagraph options bytes row rows → HasFront bytes row → Stands bytes (titled_group bytes (Lines row rows))
+stands-lines options bytes row rows is front =
     let last : Row = last_row row rows in
-    stands-append bytes (unread_paragraph row rows) (ending_events n.LineEnding last)
-    (stands-part bytes n.Paragraph Text text_link row.first last.end (chunks_of row rows) refl (paragraph-lines options bytes row rows is)) (stands-ending bytes n.LineEnding last refl)
+    stands-line bytes n.LineEnding row last (unread_paragraph row rows) refl front
+    (stands-part bytes n.Paragraph Text row.first last.end (chunks_of row rows) (linked_lines n.Data text_link row rows) refl (lines-inside options bytes row rows is) (paragraph-lines options bytes row rows is))
 
 stands-groups : (options : ParseOptions) (bytes : List ℕ) (gs : List Group) → AreGroups options bytes gs → AreUnlinked gs → Stands bytes (titled_groups bytes gs)
 stands-groups options bytes [] are unlinked = stands-outside bytes [] tt tt
 stands-groups options bytes (Single row ∷ gs) are unlinked =
     stands-append bytes (titled_group bytes (Single row)) (titled_groups bytes gs) (stands-single options bytes row are.0 unlinked.0 row.kind refl) (stands-groups options bytes gs are.1 unlinked.1)
 stands-groups options bytes (Lines row rows ∷ gs) are unlinked =
-    stands-append bytes (titled_group bytes (Lines row rows)) (titled_groups bytes gs) (stands-lines options bytes row rows are.0) (stands-groups options bytes gs are.2 unlinked)
+    stands-append bytes (titled_group bytes (Lines row rows)) (titled_groups bytes gs) (stands-lines options bytes row rows are.0 are.2) (stands-groups options bytes gs are.3 unlinked)
 
-rows-stand : (options : ParseOptions) (bytes : List ℕ) (p : Point) (lines : List (List ℕ)) (rows : List Row) → AreRows options bytes p lines rows → EachNoContent rows → EachUnlinked rows → Stands bytes (titled_groups bytes (groups rows))
-rows-stand options bytes p lines rows are quiet unlinked = stands-groups options bytes (groups rows) (groups-are options bytes p lines rows are quiet) (groups-unlinked rows unlinked)
+rows-stand : (options : ParseOptions) (bytes : List ℕ) (depth : ℕ) (going : Bool) (p : Point) (lines : List (List ℕ)) (rows : List Row) → AreRows options bytes depth going p lines rows → EachNoContent rows → EachUnlinked rows → Stands bytes (titled_groups bytes (groups rows))
+rows-stand options bytes depth going p lines rows are quiet unlinked = stands-groups options bytes (groups rows) (groups-are options bytes depth going p lines rows are quiet) (groups-unlinked rows unlinked)
 
 -- The text parts of a text.
 all-stand : (bytes : List ℕ) (xs : List Event) → Stands bytes xs → parts_stand bytes xs ≡ true
@@ -203,16 +281,16 @@ stands-mark bytes = go (has_mark bytes)
     go true = stands-outside bytes (pair n.ByteOrderMark first_point mark_end) (refl, (refl, tt)) (refl, (refl, tt))
     go false = stands-outside bytes [] tt tt
 
-blocks-both : (options : ParseOptions) (bytes : List ℕ) (p : Point) (lines : List (List ℕ)) (rows : List Row) → AreRows options bytes p lines rows → EachNoContent rows → EachUnlinked rows → Stands bytes (mark_events bytes ++ titled_groups bytes (groups rows))
-blocks-both options bytes p lines rows are quiet unlinked = stands-append bytes (mark_events bytes) (titled_groups bytes (groups rows)) (stands-mark bytes) (rows-stand options bytes p lines rows are quiet unlinked)
+blocks-both : (options : ParseOptions) (bytes : List ℕ) (depth : ℕ) (going : Bool) (p : Point) (lines : List (List ℕ)) (rows : List Row) → AreRows options bytes depth going p lines rows → EachNoContent rows → EachUnlinked rows → Stands bytes (mark_events bytes ++ titled_groups bytes (groups rows))
+blocks-both options bytes depth going p lines rows are quiet unlinked = stands-append bytes (mark_events bytes) (titled_groups bytes (groups rows)) (stands-mark bytes) (rows-stand options bytes depth going p lines rows are quiet unlinked)
 
-pub blocks-stand : (options : ParseOptions) (bytes : List ℕ) (p : Point) (lines : List (List ℕ)) (rows : List Row) → AreRows options bytes p lines rows → EachNoContent rows → EachUnlinked rows →
+pub blocks-stand : (options : ParseOptions) (bytes : List ℕ) (depth : ℕ) (going : Bool) (p : Point) (lines : List (List ℕ)) (rows : List Row) → AreRows options bytes depth going p lines rows → EachNoContent rows → EachUnlinked rows →
     parts_stand bytes (mark_events bytes ++ titled_groups bytes (groups rows)) ≡ true
-blocks-stand options bytes p lines rows are quiet unlinked = all-stand bytes (mark_events bytes ++ titled_groups bytes (groups rows)) (blocks-both options bytes p lines rows are quiet unlinked)
+blocks-stand options bytes depth going p lines rows are quiet unlinked = all-stand bytes (mark_events bytes ++ titled_groups bytes (groups rows)) (blocks-both options bytes depth going p lines rows are quiet unlinked)
 
-pub blocks-chunks : (options : ParseOptions) (bytes : List ℕ) (p : Point) (lines : List (List ℕ)) (rows : List Row) → AreRows options bytes p lines rows → EachNoContent rows → EachUnlinked rows →
+pub blocks-chunks : (options : ParseOptions) (bytes : List ℕ) (depth : ℕ) (going : Bool) (p : Point) (lines : List (List ℕ)) (rows : List Row) → AreRows options bytes depth going p lines rows → EachNoContent rows → EachUnlinked rows →
     chunks_stand 0 (mark_events bytes ++ titled_groups bytes (groups rows)) ≡ true
-blocks-chunks options bytes p lines rows are quiet unlinked = all-chunks bytes (mark_events bytes ++ titled_groups bytes (groups rows)) (blocks-both options bytes p lines rows are quiet unlinked)
+blocks-chunks options bytes depth going p lines rows are quiet unlinked = all-chunks bytes (mark_events bytes ++ titled_groups bytes (groups rows)) (blocks-both options bytes depth going p lines rows are quiet unlinked)
 
 -- Their events nest.
 
@@ -234,38 +312,47 @@ text-nested line p = go (length (text_of line) == 0)
     go true = (balanced-none, (tt, text-order line p))
     go false = around-nested n.HeadingAtxText begin end (enter_link n.Data begin heading_link ∷ exit n.Data end ∷ []) (linked-nested heading_link begin end (text-order line p))
 
-single-nested : (bytes : List ℕ) (row : Row) → Ordered bytes row → row.kind ≢ TextRow → (kind : RowKind) → row.kind ≡ kind → Nested_in row.first (behind_row row) (titled_row_by bytes kind row)
-single-nested bytes row o other BlankRow e = blank-nested bytes row o e
-single-nested bytes row o other HeadingRow e = heading-nested bytes row (linked_text (row_title bytes row).text) o (text-nested (row_line bytes row) row.first)
-single-nested bytes row o other BreakRow e = break-nested bytes row o e
-single-nested bytes row o other TextRow e = absurd (other e)
+single-nested : (bytes : List ℕ) (size : ℕ) (p : Point) (row : Row) (events : List Event) → Ordered bytes p row → row.leaves ≤ size + row.opens → row.kind ≢ TextRow → Under (size + row.opens - row.leaves) (behind_row row) events → (kind : RowKind) → row.kind ≡ kind →
+    Under size p (titled_row_by bytes kind row ++ events)
+single-nested bytes size p row events o most other on BlankRow e = under-line bytes size p row n.BlankLineEnding row.inside events o most (blank-nested bytes p row o e) on
+single-nested bytes size p row events o most other on HeadingRow e =
+    let text : List Event = linked_text (row_title bytes row).text in
+    let inside : List Event = (row_title bytes row).front ++ text ++ (row_title bytes row).back in
+    under-line bytes size p row n.LineEnding (around n.HeadingAtx row.first row.end inside) events o most (heading-nested bytes p row text o (text-nested (row_line bytes row) row.first)) on
+single-nested bytes size p row events o most other on BreakRow e = under-line bytes size p row n.LineEnding (around n.ThematicBreak row.first row.end row.inside) events o most (break-nested bytes p row o e) on
+single-nested bytes size p row events o most other on TextRow e = absurd (other e)
 
-abbrev Titled : List ℕ → Point → List Group → Type 0
-Titled bytes p gs = Onward p (titled_groups bytes gs)
+-- so many quotes are open in front of groups
+abbrev Titled : List ℕ → ℕ → Point → List Group → Type 0
+Titled bytes size p gs = Under size p (titled_groups bytes gs)
 
 titled-by_lines : (bytes : List ℕ) → ByLines bytes (Titled bytes)
 titled-by_lines bytes = record {
-  none = λ p. record { balanced = balanced-none; forward = tt };
-  single = λ row gs o other nests. onward-before row.first (behind_row row) (titled_row_by bytes row.kind row) (titled_groups bytes gs) (single-nested bytes row o other row.kind refl) nests;
-  alone = λ row gs o nests.
+  none = λ p. record { matches = tt; closed = refl; forward = tt };
+  single = λ size p row gs o most other on. single-nested bytes size p row (titled_groups bytes gs) o most other on row.kind refl;
+  alone = λ size p row gs o most on.
       let inside : List Event = enter_link n.Data row.first text_link ∷ exit n.Data row.end ∷ [] in
-      onward-before row.first (behind_row row) (around n.Paragraph row.first row.end inside ++ ending_events n.LineEnding row) (titled_groups bytes gs)
-      (block-nested bytes n.Paragraph row inside o (linked-nested text_link row.first row.end (line-order bytes row o))) nests;
-  next = λ row below rows gs o nests.
+      under-line bytes size p row n.LineEnding (around n.Paragraph row.first row.end inside) (titled_groups bytes gs) o most
+      (around-nested n.Paragraph row.first row.end inside (linked-nested text_link row.first row.end (line-order bytes p row o))) on;
+  next = λ size p row below rows gs o under leaves opens on.
+      let q : Point = behind_row row in
+      let chunk : List Event = enter_link n.Data row.first text_link ∷ exit n.Data q ∷ [] in
       let last : Row = last_row below rows in
-      onward-next row.first (behind_row row) below.first last.end (enter_link n.Data row.first text_link ∷ exit n.Data (behind_row row) ∷ []) (linked n.Data text_link (chunks_of below rows)) (ending_events n.LineEnding last) (titled_groups bytes gs)
-      (linked-nested text_link row.first (behind_row row) (behind-order bytes row o)) nests;
+      let lines : List Event = linked_lines n.Data text_link below rows in
+      let tail : List Event = tail_events n.LineEnding last in
+      let more : List Event = titled_groups bytes gs in
+      let whole : List Event = around n.Paragraph row.first last.end (chunk ++ below.front ++ lines) in
+      let apart : (row.front ++ whole ++ tail) ++ more ≡ row.front ++ (whole ++ (tail ++ more)) = simp append_assoc in
+      subst (Under size p) (sym apart)
+      (under-turn size (size + row.opens) p row.first row.front (whole ++ (tail ++ more)) (fronts-turn bytes row.opens size p row.first row.front o.front) (fronts-spans bytes row.opens p row.first row.front o.front)
+      (under-next (size + row.opens) row.first q below.first last.end below.front chunk lines tail more (linked-nested text_link row.first q (behind-order bytes p row o))
+      (fronts-balanced bytes below.opens q below.first below.front under.front opens) on));
 }
 
-titled-nest : (options : ParseOptions) (bytes : List ℕ) (p : Point) (lines : List (List ℕ)) (rows : List Row) → AreRows options bytes p lines rows → Titled bytes p (groups rows)
-titled-nest options bytes p lines rows are = rows-hold bytes (Titled bytes) (titled-by_lines bytes) options p lines rows are
+titled-nest : (options : ParseOptions) (bytes : List ℕ) (p : Point) (lines : List (List ℕ)) (rows : List Row) → AreRows options bytes 0 false p lines rows → Onward p (titled_groups bytes (groups rows))
+titled-nest options bytes p lines rows are = under-none p (titled_groups bytes (groups rows)) (rows-hold bytes (Titled bytes) (titled-by_lines bytes) options p lines rows are)
 
-pub titled-balanced : (options : ParseOptions) (bytes : List ℕ) (p : Point) (lines : List (List ℕ)) (rows : List Row) → AreRows options bytes p lines rows → Balanced (titled_groups bytes (groups rows))
-titled-balanced options bytes p lines rows are = (titled-nest options bytes p lines rows are).balanced
-
-pub titled-forward : (options : ParseOptions) (bytes : List ℕ) (p : Point) (lines : List (List ℕ)) (rows : List Row) → AreRows options bytes p lines rows → Forward p (titled_groups bytes (groups rows))
-titled-forward options bytes p lines rows are = (titled-nest options bytes p lines rows are).forward
-
-pub blocks-nested : (options : ParseOptions) (bytes : List ℕ) (lines : List (List ℕ)) (rows : List Row) → AreRows options bytes (body_point bytes) lines rows → Nested (mark_events bytes ++ titled_groups bytes (groups rows))
+pub blocks-nested : (options : ParseOptions) (bytes : List ℕ) (lines : List (List ℕ)) (rows : List Row) → AreRows options bytes 0 false (body_point bytes) lines rows → Nested (mark_events bytes ++ titled_groups bytes (groups rows))
 blocks-nested options bytes lines rows are =
-    mark-nested bytes (titled_groups bytes (groups rows)) (titled-balanced options bytes (body_point bytes) lines rows are) (titled-forward options bytes (body_point bytes) lines rows are)
+    let nests : Onward (body_point bytes) (titled_groups bytes (groups rows)) = titled-nest options bytes (body_point bytes) lines rows are in
+    mark-nested bytes (titled_groups bytes (groups rows)) nests.balanced nests.forward

@@ -1,7 +1,7 @@
 -- The events of a text are its block list, with what the plain layer reads in the place of each chunk.
 use Rattle.std.proofs.Common.{◌≡◌, ◌≢◌, ℕ, suc, ◌+◌, Bool, true, false, cond, ◌&&◌, ◌==◌, List, [], ◌∷◌, ◌++◌, length, take, drop, refl, ap, sym, ◌∙◌, subst, append_assoc, append-nil}
 use Rattle.std.specs.Prelude.{IsTrue, Option, Some, None}
-use Rattle.std.proofs.lemmas.Bool.{and_from}
+use Rattle.std.proofs.lemmas.Bool.{and_from, and_parts}
 use Rattle.md_engine.specs.declared.configuration.ParseOptions.{ParseOptions}
 use Rattle.md_engine.specs.declared.event.Event.{Event}
 use Rattle.md_engine.specs.declared.event.Link.{Link}
@@ -30,13 +30,16 @@ use Rattle.md_seam.proofs.NestsLemmas.{part-none, together-append}
 use Rattle.markdown_blocks.specs.Document.{body_point, mark_end, mark_events}
 use Rattle.markdown_blocks.specs.FlowReads.{text_cells, text_rows}
 use Rattle.markdown_blocks.specs.Parsed.{reads_plain}
-use Rattle.markdown_blocks.specs.Rows.{BlankRow, BreakRow, Group, HeadingRow, Lines, Row, RowKind, Single, TextRow, behind_row, chunks_of, ending_events, group_events, groups, groups_events, last_row, read_text, read_title, row_title, single_events_by}
-use Rattle.markdown_blocks.specs.Unread.{linked, titled_group, titled_groups, titled_row_by, unread_paragraph}
-use Rattle.markdown_blocks.proofs.GroupLemmas.{AreGroups, IsParagraph, IsSingle, groups-are}
+use Rattle.markdown_blocks.specs.Rows.{BlankRow, BreakRow, Group, HeadingRow, Lines, Row, RowKind, Single, TextRow, behind_row, chunks_of, ending_events, group_events, groups, groups_events, held_at, last_row, quote_ends, read_lines, read_text, read_title, row_title, single_events_by, tail_events}
+use Rattle.markdown_blocks.specs.Unread.{linked, linked_lines, titled_group, titled_groups, titled_row_by, unread_paragraph}
+use Rattle.markdown_blocks.proofs.FrontLemmas.{fronts-order}
+use Rattle.markdown_blocks.proofs.FrontParts.{ends-no_parts, ends-unlinked, fronts-no_parts, fronts-unlinked}
+use Rattle.markdown_blocks.proofs.GroupLemmas.{AreGroups, HasFront, IsParagraph, IsSingle, groups-are}
 use Rattle.markdown_blocks.proofs.JoinedLemmas.{EachNoContent, behind-is, rows_at-no_content}
 use Rattle.markdown_blocks.proofs.NestedRows.{ending-order}
-use Rattle.markdown_blocks.proofs.PartFacts.{AreUnlinked, EachUnlinked, IsUnlinked, NoParts, groups-unlinked, kind-no_part, linked-chunks, linked-no_parts, part-inside, quiet-no_parts, rows_at-unlinked, runs-no_parts}
+use Rattle.markdown_blocks.proofs.PartFacts.{AreUnlinked, EachUnlinked, IsUnlinked, NoParts, groups-unlinked, kind-no_part, part-inside, quiet-no_parts, rows_at-unlinked, runs-no_parts}
 use Rattle.markdown_blocks.proofs.RowFacts.{AreRows, IsInside, IsRow}
+use Rattle.markdown_blocks.proofs.TileParts.{Inside, inside-linked, lines-inside}
 use Rattle.markdown_blocks.proofs.TitleFacts.{NoLinks, back-unlinked, front-unlinked}
 use Rattle.markdown_blocks.proofs.TitleNests.{blank-no_heading, break-no_heading, text-order, text_begin, text_end}
 
@@ -129,28 +132,29 @@ lists-read : (bytes : List ℕ) (kind : PartKind) (list : List Chunk) → Fills 
 lists-read bytes kind [] h = tt
 lists-read bytes kind (chunk ∷ list) h = (h, refl, tt)
 
+-- events in whose chunks others are read
+abbrev Filled : List ℕ → List Chunk → List Event → List Event → Type 0
+Filled bytes list inside out = (ys : List Event) (more : List (List Event)) → filled_from false (inside ++ ys) (plain_chunks bytes list ++ more) ≡ out ++ filled_from false ys more
+
 -- a part whose chunks stand in order is read
-fill-part : (bytes : List ℕ) (name : Name) (kind : PartKind) (p q : Point) (link : Link) (list : List Chunk) → part_kind name ≡ Some kind → Fills list (plain_chunks bytes list) →
-    Fill bytes (around name p q (linked n.Data link list)) (around name p q (together (plain_chunks bytes list)))
-fill-part bytes name kind p q link list is fills = record {
+fill-part : (bytes : List ℕ) (name : Name) (kind : PartKind) (p q : Point) (list : List Chunk) (inside out : List Event) → part_kind name ≡ Some kind → Inside bytes list inside → Fills list (plain_chunks bytes list) → Filled bytes list inside out →
+    Fill bytes (around name p q inside) (around name p q out)
+fill-part bytes name kind p q list inside out is h fills into = record {
   own = part_of kind list;
   lists = lists_of bytes list;
   each = lists-read bytes kind list fills;
   parts_are = λ ys.
       ap (λ (es : List Event). part_at (enter name p).kind (part_kind name) es ++ parts es) (append_assoc inside (exit name q ∷ []) ys)
       ∙ ap (λ (x : Option PartKind). part_at (enter name p).kind x (inside ++ exit name q ∷ ys) ++ parts (inside ++ exit name q ∷ ys)) is
-      ∙ ap (λ (l : List Event). part_of kind (chunks (pieces l)) ++ parts (inside ++ exit name q ∷ ys)) (part-inside name kind q link list ys is)
-      ∙ ap (λ (l : List Chunk). part_of kind l ++ parts (inside ++ exit name q ∷ ys)) (linked-chunks link list)
-      ∙ ap (λ (l : List Part). part_of kind list ++ l) (passes-parts inside (exit name q ∷ ys) (linked-no_parts link list));
+      ∙ ap (λ (l : List Event). part_of kind (chunks (pieces l)) ++ parts (inside ++ exit name q ∷ ys)) (part-inside name kind q inside ys is h.outside)
+      ∙ ap (λ (l : List Chunk). part_of kind l ++ parts (inside ++ exit name q ∷ ys)) h.has
+      ∙ ap (λ (l : List Part). part_of kind list ++ l) (passes-parts inside (exit name q ∷ ys) h.outside);
   read = λ ys more.
       ap (λ (l : List Event). enter name p ∷ filled_from false l (together (lists_of bytes list) ++ more)) (append_assoc inside (exit name q ∷ []) ys)
       ∙ ap (λ (l : List (List Event)). enter name p ∷ filled_from false (inside ++ exit name q ∷ ys) (l ++ more)) (lists-together bytes list)
-      ∙ ap (λ (l : List Event). enter name p ∷ l) (linked-filled bytes link list (exit name q ∷ ys) more)
-      ∙ ap (λ (l : List Event). enter name p ∷ l) (sym (append_assoc (together (plain_chunks bytes list)) (exit name q ∷ []) (filled_from false ys more)));
+      ∙ ap (λ (l : List Event). enter name p ∷ l) (into (exit name q ∷ ys) more)
+      ∙ ap (λ (l : List Event). enter name p ∷ l) (sym (append_assoc out (exit name q ∷ []) (filled_from false ys more)));
 }
-  where
-    inside : List Event
-    inside = linked n.Data link list
 
 -- Headings.
 
@@ -166,7 +170,9 @@ fill-text bytes size p q h = go (size == 0)
 
     go : (none : Bool) → Fill bytes (linked_text (cond none None (Some chunk))) (read_text bytes (cond none None (Some chunk)))
     go true = fill-same bytes [] tt tt
-    go false = fill-part bytes n.HeadingAtxText Text p q heading_link (chunk ∷ []) refl (plain-fills bytes p (chunk ∷ []) order)
+    go false =
+        fill-part bytes n.HeadingAtxText Text p q (chunk ∷ []) (linked n.Data heading_link (chunk ∷ [])) (together (plain_chunks bytes (chunk ∷ []))) refl (inside-linked bytes heading_link (chunk ∷ [])) (plain-fills bytes p (chunk ∷ []) order)
+        (linked-filled bytes heading_link (chunk ∷ []))
 
 fill-title : (bytes line : List ℕ) (p : Point) → Fill bytes (unread_title (title_of line p)) (read_title bytes (title_of line p))
 fill-title bytes line p =
@@ -185,27 +191,36 @@ fill-ending bytes name row other = go row.after
     go None = fill-same bytes [] tt tt
     go (Some q) = fill-same bytes (pair name row.end q) (refl, (refl, tt)) (other, (other, tt))
 
+-- what stands in a line, with what stands in front of it, and behind it or a further line
+fill-line : (bytes : List ℕ) (name : Name) (row last : Row) (xs zs : List Event) → part_kind name ≡ None → HasFront bytes row → Fill bytes xs zs → Fill bytes (row.front ++ xs ++ tail_events name last) (row.front ++ zs ++ tail_events name last)
+fill-line bytes name row last xs zs other front h =
+    let ends : List Event = quote_ends last.leaves last.end in
+    let ending : List Event = ending_events name last in
+    fill-append bytes (row.front ++ xs) (row.front ++ zs) (ends ++ ending) (ends ++ ending)
+    (fill-append bytes row.front row.front xs zs
+    (fill-same bytes row.front (fronts-unlinked bytes row.opens front.0 row.first row.front front.1) (fronts-no_parts bytes row.opens front.0 row.first row.front front.1)) h)
+    (fill-append bytes ends ends ending ending (fill-same bytes ends (ends-unlinked last.leaves last.end) (ends-no_parts last.leaves last.end)) (fill-ending bytes name last other))
+
 fill-inside : (bytes : List ℕ) (row : Row) → NoLinks row.inside → IsInside row → Fill bytes row.inside row.inside
 fill-inside bytes row h inside = fill-same bytes row.inside h (quiet-no_parts row.inside inside.quiet)
 
 fill-single : (options : ParseOptions) (bytes : List ℕ) (row : Row) → IsSingle options bytes row → IsUnlinked row → (kind : RowKind) → row.kind ≡ kind →
     Fill bytes (titled_row_by bytes kind row) (single_events_by bytes kind row)
 fill-single options bytes row is h BlankRow e =
-    let ending : List Event = ending_events n.BlankLineEnding row in
     let other : row.kind ≢ HeadingRow = blank-no_heading row.kind e in
-    fill-append bytes row.inside row.inside ending ending (fill-inside bytes row (h other) (is.is.inside other)) (fill-ending bytes n.BlankLineEnding row refl)
+    fill-line bytes n.BlankLineEnding row row row.inside row.inside refl is.front (fill-inside bytes row (h other) (is.is.inside other))
 fill-single options bytes row is h HeadingRow e =
-    let ending : List Event = ending_events n.LineEnding row in
-    fill-append bytes (around n.HeadingAtx row.first row.end (unread_title (row_title bytes row))) (around n.HeadingAtx row.first row.end (read_title bytes (row_title bytes row))) ending ending
-    (fill-around bytes n.HeadingAtx row.first row.end (unread_title (row_title bytes row)) (read_title bytes (row_title bytes row)) refl
+    let unread : List Event = unread_title (row_title bytes row) in
+    let read : List Event = read_title bytes (row_title bytes row) in
+    fill-line bytes n.LineEnding row row (around n.HeadingAtx row.first row.end unread) (around n.HeadingAtx row.first row.end read) refl is.front
+    (fill-around bytes n.HeadingAtx row.first row.end unread read refl
     (subst (λ (line : List ℕ). Fill bytes (unread_title (title_of line row.first)) (read_title bytes (title_of line row.first))) (sym is.is.text)
     (fill-title bytes is.line row.first)))
-    (fill-ending bytes n.LineEnding row refl)
 fill-single options bytes row is h BreakRow e =
-    let ending : List Event = ending_events n.LineEnding row in
     let other : row.kind ≢ HeadingRow = break-no_heading row.kind e in
-    fill-append bytes (around n.ThematicBreak row.first row.end row.inside) (around n.ThematicBreak row.first row.end row.inside) ending ending
-    (fill-around bytes n.ThematicBreak row.first row.end row.inside row.inside refl (fill-inside bytes row (h other) (is.is.inside other))) (fill-ending bytes n.LineEnding row refl)
+    let block : List Event = around n.ThematicBreak row.first row.end row.inside in
+    fill-line bytes n.LineEnding row row block block refl is.front
+    (fill-around bytes n.ThematicBreak row.first row.end row.inside row.inside refl (fill-inside bytes row (h other) (is.is.inside other)))
 fill-single options bytes row is h TextRow e = absurd (is.other e)
 
 -- Paragraphs.
@@ -213,6 +228,16 @@ fill-single options bytes row is h TextRow e = absurd (is.other e)
 -- a line ends no earlier than it begins
 line-order : (options : ParseOptions) (bytes line : List ℕ) (row : Row) → IsRow options bytes line row → IsTrue (at_or_before row.first row.end)
 line-order options bytes line row is = subst (λ (q : Point). IsTrue (at_or_before row.first q)) (sym is.end) (before-text line row.first)
+
+-- chunks behind a point stand behind an earlier one
+order-from : (p q : Point) (list : List Chunk) → IsTrue (at_or_before p q) → in_order q list ≡ true → in_order p list ≡ true
+order-from p q [] h k = refl
+order-from p q (chunk ∷ list) h k =
+    let apart : ((at_or_before q chunk.first && at_or_before chunk.first chunk.after) ≡ true) × (in_order chunk.after list ≡ true) =
+    and_parts (at_or_before q chunk.first && at_or_before chunk.first chunk.after) (in_order chunk.after list) k in
+    let first : (at_or_before q chunk.first ≡ true) × (at_or_before chunk.first chunk.after ≡ true) = and_parts (at_or_before q chunk.first) (at_or_before chunk.first chunk.after) apart.0 in
+    and_from (at_or_before p chunk.first && at_or_before chunk.first chunk.after) (in_order chunk.after list)
+    (and_from (at_or_before p chunk.first) (at_or_before chunk.first chunk.after) (at_or_before-trans p q chunk.first h first.0) first.1) apart.1
 
 -- the chunks of a paragraph stand one behind the other
 paragraph-order : (options : ParseOptions) (bytes : List ℕ) (row : Row) (rows : List Row) → IsParagraph options bytes row rows → in_order row.first (chunks_of row rows) ≡ true
@@ -226,15 +251,32 @@ paragraph-order options bytes row (next ∷ rows) h =
     subst (λ (x : Point). IsTrue (at_or_before row.first x)) (sym behind) (at_or_before-trans row.first row.end h.3 (line-order options bytes h.0 row h.1) (ending-order bytes row.end h.3 h.5)) in
     and_from (at_or_before row.first row.first && at_or_before row.first q) (in_order q (chunks_of next rows))
     (and_from (at_or_before row.first row.first) (at_or_before row.first q) (at_or_before-refl row.first) ends)
-    (subst (λ (x : Point). in_order x (chunks_of next rows) ≡ true) (h.6 ∙ sym behind) (paragraph-order options bytes next rows h.7))
+    (subst (λ (x : Point). in_order x (chunks_of next rows) ≡ true) (sym behind)
+    (order-from h.3 next.first (chunks_of next rows) (fronts-order bytes 0 h.3 next.first next.front h.6) (paragraph-order options bytes next rows h.7)))
 
-fill-paragraph : (options : ParseOptions) (bytes : List ℕ) (row : Row) (rows : List Row) → IsParagraph options bytes row rows → Fill bytes (titled_group bytes (Lines row rows)) (group_events bytes (Lines row rows))
-fill-paragraph options bytes row rows h =
+-- what is read of the lines of a paragraph, with what stands in front of each
+lines-filled : (options : ParseOptions) (bytes : List ℕ) (row : Row) (rows : List Row) → IsParagraph options bytes row rows → Filled bytes (chunks_of row rows) (linked_lines n.Data text_link row rows) (read_lines bytes row rows)
+lines-filled options bytes row [] h ys more = refl
+lines-filled options bytes row (next ∷ rows) h ys more =
+    let chunk : List Event = plain_chunk bytes (record { first = row.first; after = behind_row row }) in
+    let front : List Event = next.front in
+    let lines : List Event = linked_lines n.Data text_link next rows in
+    let read : List Event = read_lines bytes next rows in
+    let lists : List (List Event) = plain_chunks bytes (chunks_of next rows) ++ more in
+    let rest : List Event = filled_from false ys more in
+    ap (λ (l : List Event). chunk ++ filled_from false l lists) (append_assoc front lines ys)
+    ∙ ap (λ (l : List Event). chunk ++ l) (passes-filled front (lines ++ ys) lists (fronts-unlinked bytes 0 h.3 next.first front h.6))
+    ∙ ap (λ (l : List Event). chunk ++ (front ++ l)) (lines-filled options bytes next rows h.7 ys more)
+    ∙ sym (append_assoc chunk front (read ++ rest))
+    ∙ sym (append_assoc (chunk ++ front) read rest)
+
+fill-paragraph : (options : ParseOptions) (bytes : List ℕ) (row : Row) (rows : List Row) → IsParagraph options bytes row rows → HasFront bytes row → Fill bytes (titled_group bytes (Lines row rows)) (group_events bytes (Lines row rows))
+fill-paragraph options bytes row rows h front =
     let last : Row = last_row row rows in
-    let ending : List Event = ending_events n.LineEnding last in
-    fill-append bytes (unread_paragraph row rows) (around n.Paragraph row.first last.end (together (plain_chunks bytes (chunks_of row rows)))) ending ending
-    (fill-part bytes n.Paragraph Text row.first last.end text_link (chunks_of row rows) refl (plain-fills bytes row.first (chunks_of row rows) (paragraph-order options bytes row rows h)))
-    (fill-ending bytes n.LineEnding last refl)
+    let list : List Chunk = chunks_of row rows in
+    fill-line bytes n.LineEnding row last (unread_paragraph row rows) (around n.Paragraph row.first last.end (read_lines bytes row rows)) refl front
+    (fill-part bytes n.Paragraph Text row.first last.end list (linked_lines n.Data text_link row rows) (read_lines bytes row rows) refl (lines-inside options bytes row rows h)
+    (plain-fills bytes row.first list (paragraph-order options bytes row rows h)) (lines-filled options bytes row rows h))
 
 -- Texts.
 
@@ -245,7 +287,7 @@ fill-groups options bytes (Single row ∷ gs) are h =
     (fill-single options bytes row are.0 h.0 row.kind refl) (fill-groups options bytes gs are.1 h.1)
 fill-groups options bytes (Lines row rows ∷ gs) are h =
     fill-append bytes (titled_group bytes (Lines row rows)) (group_events bytes (Lines row rows)) (titled_groups bytes gs) (groups_events bytes gs)
-    (fill-paragraph options bytes row rows are.0) (fill-groups options bytes gs are.2 h)
+    (fill-paragraph options bytes row rows are.0 are.2) (fill-groups options bytes gs are.3 h)
 
 fill-mark : (bytes : List ℕ) → Fill bytes (mark_events bytes) (mark_events bytes)
 fill-mark bytes = go (has_mark bytes)
@@ -255,25 +297,25 @@ fill-mark bytes = go (has_mark bytes)
     go false = fill-same bytes [] tt tt
 
 -- The same with a mark in front.
-pub blocks-filled : (options : ParseOptions) (bytes : List ℕ) (p : Point) (lines : List (List ℕ)) (rows : List Row) → AreRows options bytes p lines rows → EachNoContent rows → EachUnlinked rows →
+pub blocks-filled : (options : ParseOptions) (bytes : List ℕ) (depth : ℕ) (going : Bool) (p : Point) (lines : List (List ℕ)) (rows : List Row) → AreRows options bytes depth going p lines rows → EachNoContent rows → EachUnlinked rows →
     IsFilled bytes (mark_events bytes ++ titled_groups bytes (groups rows)) (mark_events bytes ++ groups_events bytes (groups rows))
-blocks-filled options bytes p lines rows are quiet unlinked =
+blocks-filled options bytes depth going p lines rows are quiet unlinked =
     let mark : List Event = mark_events bytes in
     fill-all bytes (mark ++ titled_groups bytes (groups rows)) (mark ++ groups_events bytes (groups rows))
     (fill-append bytes mark mark (titled_groups bytes (groups rows)) (groups_events bytes (groups rows)) (fill-mark bytes)
-    (fill-groups options bytes (groups rows) (groups-are options bytes p lines rows are quiet) (groups-unlinked rows unlinked)))
+    (fill-groups options bytes (groups rows) (groups-are options bytes depth going p lines rows are quiet) (groups-unlinked rows unlinked)))
 
 -- So it is with the lines that flow reads.
-pub text-filled : (options : ParseOptions) (bytes : List ℕ) (p : Point) (lines : List (List ℕ)) → AreRows options bytes p lines (text_rows options bytes p) →
+pub text-filled : (options : ParseOptions) (bytes : List ℕ) (p : Point) (lines : List (List ℕ)) → AreRows options bytes 0 false p lines (text_rows options bytes p) →
     IsFilled bytes (mark_events bytes ++ titled_groups bytes (groups (text_rows options bytes p))) (mark_events bytes ++ groups_events bytes (groups (text_rows options bytes p)))
 text-filled options bytes p lines are =
     let cells : List Cell = text_cells bytes options p in
-    blocks-filled options bytes p lines (text_rows options bytes p) are (rows_at-no_content options (suc (length cells)) cells p) (rows_at-unlinked options (suc (length cells)) cells p)
+    blocks-filled options bytes 0 false p lines (text_rows options bytes p) are (rows_at-no_content options (suc (length cells)) 0 false cells p) (rows_at-unlinked options (suc (length cells)) 0 false cells p)
 
 -- The empty text has no events.
 
 empty-none : (options : ParseOptions) → mark_events [] ++ groups_events [] (groups (text_rows options [] (body_point []))) ≡ []
-unfolding text_feed
+unfolding text_feed held_at
 empty-none options = refl
 
 pub groups-empty : (options : ParseOptions) (bytes : List ℕ) → bytes ≡ [] → mark_events bytes ++ groups_events bytes (groups (text_rows options bytes (body_point bytes))) ≡ []

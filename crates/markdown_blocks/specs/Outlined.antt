@@ -40,9 +40,9 @@ is_told _ = false
 abbrev pub has_plain_name : Event → Bool
 has_plain_name e = is_plain (role e.name)
 
--- whether a text cuts no tab here
-abbrev pub is_whole : Event → Bool
-is_whole e = not (is_told (role e.name)) || (e.point.vs == 0)
+-- whether a text begins between characters here, behind a tab that is cut
+abbrev pub tells_between : List ℕ → Event → Bool
+tells_between bytes e = not (is_told (role e.name)) || is_between bytes (byte_at e.point)
 
 -- whether no heading is deeper than 6 (CommonMark 4.2)
 abbrev mutual
@@ -63,7 +63,7 @@ abbrev mutual
 
 -- the text that is read behind an event: where it begins, or goes on behind the last prefix in it, and whether there is one
 abbrev pub span_enter : Role → Point → Option Span → Option Span
-span_enter (Tells purpose) p text = Some (record { from = p.index; is_parted = false })
+span_enter (Tells purpose) p text = Some (record { from = byte_at p; is_parted = false })
 span_enter IsPrefix p text = option_map (λ (t : Span). record t { is_parted = true }) text
 span_enter _ p text = text
 
@@ -122,7 +122,7 @@ pub record IsOutlined (events : List Event) (bytes : List ℕ) : Type 0 where
   pub names : list_all has_plain_name events ≡ true
   pub text : IsUtf8 bytes
   pub between : list_all (λ (e : Event). is_between bytes e.point.index) events ≡ true
-  pub whole : list_all is_whole events ≡ true
+  pub texts : list_all (tells_between bytes) events ≡ true
   -- each container prefix in a text stands where a line begins
   pub parted : are_parted bytes None events ≡ true
   pub depths : are_shallow (spelled events bytes) ≡ true

@@ -140,13 +140,13 @@ parted_at bytes end (Some text) s = record s {
   lines = s.lines ++ begin_entries s.depth text.is_parted ++ full_entries (s.depth + 1) (slice_range bytes text.from end);
 }
 
-abbrev pub sketch_enter : List ℕ → Role → ℕ → Sketch → Sketch
-sketch_enter bytes role.Quote i s = record s { depth = s.depth + 1; lines = s.lines ++ entry s.depth word.Quote ∷ [] }
-sketch_enter bytes role.Prefix i s = parted_at bytes i s.text s
-sketch_enter bytes role.Break i s = record s { leaf = Some BreakSketch }
-sketch_enter bytes role.Heading i s = record s { leaf = Some (HeadingSketch 0 None) }
-sketch_enter bytes (role.Text purpose) i s = record s { text = Some (record { from = i; is_parted = false }) }
-sketch_enter bytes role.Quiet i s = s
+abbrev pub sketch_enter : List ℕ → Role → Point → Sketch → Sketch
+sketch_enter bytes role.Quote p s = record s { depth = s.depth + 1; lines = s.lines ++ entry s.depth word.Quote ∷ [] }
+sketch_enter bytes role.Prefix p s = parted_at bytes p.index s.text s
+sketch_enter bytes role.Break p s = record s { leaf = Some BreakSketch }
+sketch_enter bytes role.Heading p s = record s { leaf = Some (HeadingSketch 0 None) }
+sketch_enter bytes (role.Text purpose) p s = record s { text = Some (record { from = spelled.byte_at p; is_parted = false }) }
+sketch_enter bytes role.Quiet p s = s
 
 abbrev pub sketch_exit : List ℕ → Role → Point → Sketch → Sketch
 sketch_exit bytes role.Quote p s = record s { depth = s.depth - 1 }
@@ -157,7 +157,7 @@ sketch_exit bytes (role.Text purpose) p s = told_at bytes purpose p.index s.text
 sketch_exit bytes role.Quiet p s = s
 
 abbrev pub sketch_by : List ℕ → Kind → Role → Point → Sketch → Sketch
-sketch_by bytes Enter x p s = sketch_enter bytes x p.index s
+sketch_by bytes Enter x p s = sketch_enter bytes x p s
 sketch_by bytes Exit x p s = sketch_exit bytes x p s
 
 abbrev pub sketched : List ℕ → Sketch → List Event → Sketch

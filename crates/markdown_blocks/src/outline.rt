@@ -380,17 +380,17 @@ impl<'a> Reading<'a> {
     }
 
     /// Reads an event that begins a part.
-    fn enter(&mut self, role: Role, place: usize) -> Result<(), Message>
+    fn enter(&mut self, role: Role, point: Point) -> Result<(), Message>
         ensures bytes { self.new.bytes ≡ self.old.bytes }
-        ensures read { OnOk result (IsUtf8 self.old.bytes.now → IsCut self.old.bytes.now (sketch_of self.old) → is_between self.old.bytes.now place ≡ true →
-            sketch_of self.new ≡ sketch_enter self.old.bytes.now role place (sketch_of self.old)) }
+        ensures read { OnOk result (IsUtf8 self.old.bytes.now → IsCut self.old.bytes.now (sketch_of self.old) → is_between self.old.bytes.now point.index ≡ true →
+            sketch_of self.new ≡ sketch_enter self.old.bytes.now role point (sketch_of self.old)) }
     {
         match role {
             Role::Quote => {
                 push(&mut self.lines, self.depth, Word::Quote, "")?;
                 self.depth = next(self.depth)?;
             }
-            Role::Prefix => self.part_text(place)?,
+            Role::Prefix => self.part_text(point.index)?,
             Role::Break => self.leaf = Some(Leaf::Break),
             Role::Heading => {
                 self.leaf = Some(Leaf::Heading {
@@ -400,7 +400,7 @@ impl<'a> Reading<'a> {
             }
             Role::Text(_) => {
                 self.text = Some(Span {
-                    from: place,
+                    from: byte_at(point)?,
                     is_parted: false,
                 });
             }
@@ -438,7 +438,7 @@ impl<'a> Reading<'a> {
     {
         let role = role_of(event.name);
         match event.kind {
-            Kind::Enter => self.enter(role, event.point.index),
+            Kind::Enter => self.enter(role, event.point),
             Kind::Exit => self.exit(role, event.point),
         }
     }

@@ -1,0 +1,29 @@
+-- What stands in front of a line goes forward, and stays on its line.
+use Rattle.std.proofs.Common.{◌≡◌, ℕ, ◌≤◌, List, ◌∙◌, refl, arith}
+use Rattle.std.specs.Prelude.{IsTrue}
+use Rattle.std.proofs.lemmas.Bool.Decides.{nat_tests}
+use Rattle.md_engine.specs.declared.event.Event.{Event}
+use Rattle.md_engine.specs.declared.event.Point.{Point}
+use Rattle.md_seam.specs.Places.{at_or_before}
+use Rattle.markdown_blocks.proofs.FrontFacts.{Behind, Begins, Fronts, Goes, IsPrefix}
+
+order-grows : (p q : Point) → IsTrue (at_or_before p q) → p.index ≤ q.index
+order-grows p q h = grind (arith, nat_tests)
+
+prefix-grows : (bytes : List ℕ) (p q : Point) (es : List Event) → IsPrefix bytes p q es → p.index ≤ q.index
+prefix-grows bytes p q es is =
+    let before = order-grows p is.marker is.indent in
+    let behind = order-grows is.behind q is.column in
+    omega (arith, is.past)
+
+-- a point does not come behind where the front ends
+pub fronts-grow : (bytes : List ℕ) (opens : ℕ) (p q : Point) (es : List Event) → Fronts bytes opens p q es → p.index ≤ q.index
+fronts-grow bytes opens p q es (Behind at) = omega arith
+fronts-grow bytes opens p q es (Goes same first mid last xs ys is more) = let one = prefix-grows bytes first mid xs is in let further = fronts-grow bytes same mid last ys more in omega arith
+fronts-grow bytes opens p q es (Begins before first mid last xs ys is more) = let one = prefix-grows bytes first mid xs is in let further = fronts-grow bytes before mid last ys more in omega arith
+
+-- it is all on one line
+pub fronts-line : (bytes : List ℕ) (opens : ℕ) (p q : Point) (es : List Event) → Fronts bytes opens p q es → q.line ≡ p.line
+fronts-line bytes opens p q es (Behind at) = refl
+fronts-line bytes opens p q es (Goes same first mid last xs ys is more) = fronts-line bytes same mid last ys more ∙ is.line
+fronts-line bytes opens p q es (Begins before first mid last xs ys is more) = fronts-line bytes before mid last ys more ∙ is.line
