@@ -1,3 +1,4 @@
 pub mod QuoteGoods
 pub mod QuoteSteps
 pub mod QuoteLines
+pub mod PrefixCells
