@@ -1,12 +1,15 @@
 -- Flow goes line by line.
-use Rattle.std.proofs.Common.{◌≡◌, ℕ, zero, suc, ◌<◌, ◌≤◌, Bool, true, false, cond, nat_eq, List, [], ◌∷◌, length, refl, ap, arith}
+use Rattle.std.proofs.Common.{◌≡◌, ℕ, zero, suc, ◌<◌, ◌≤◌, Bool, true, false, cond, nat_eq, List, [], ◌∷◌, length, Option, Some, None, refl, ap, arith}
 use Rattle.std.specs.Prelude.{not}
 use Rattle.md_engine.specs.declared.configuration.ParseOptions.{ParseOptions}
-use Rattle.md_engine.specs.declared.event.Name.{Name}
-use Rattle.md_engine.specs.declared.event.Name.TheVariants.{BlankLineEnding, LineEnding}
+use Rattle.md_engine.specs.declared.tokenizer.Container.{Container}
+use Rattle.md_engine.specs.declared.tokenizer.ContainerKind.{ContainerKind}
+use Rattle.md_engine.specs.declared.tokenizer.ContainerKind.TheVariants.{BlockQuote}
 use Rattle.md_engine.specs.declared.tokenizer.Scratch.{Scratch}
 use Rattle.md_engine.specs.Meaning.{Accepts, Cell, Fails, Here, Outcome, Refuses}
 use Rattle.md_engine.specs.World.{Flags}
+use Rattle.md_containers.specs.QuoteRule.{quote_at}
+use Rattle.md_containers.proofs.PrefixShorter.{Shortens, prefix-shortens, quote-shortens}
 use Rattle.md_content.specs.ChunkRule.{chunk_at, inside_chunk}
 use Rattle.md_leaves.specs.BlankRule.{blank_at}
 use Rattle.md_leaves.specs.BreakRule.{before_marker, break_at}
@@ -15,7 +18,8 @@ use Rattle.md_seam.specs.Ahead.{begins_white, from_ending, line_bytes, white_res
 use Rattle.md_seam.specs.Leaves.{is_rule}
 use Rattle.md_seam.specs.Rest.{is_blank, is_white}
 use Rattle.md_seam.specs.Spaces.{small_indent}
-use Rattle.markdown_blocks.specs.FlowRule.{Rule, blank_ended, calmed_at, ended, flow_at, flow_lines, line_then, tried}
+use Rattle.markdown_blocks.specs.FlowRule.{Rule, behind_containers, blank_ended, continues_at, ended, ended_to, existing_by, existing_from, flow_at, flow_lines, leaf_of, line_ended, line_then, new_from, new_of, quote_opened, tried}
+use Rattle.markdown_blocks.specs.LineFlags.{begun_line, blanked, next_container, stays, went_on}
 
 -- what is left is no longer than what there was
 abbrev Shrinks : ℕ → Outcome → Type 0
@@ -72,28 +76,104 @@ unfolding chunk_at inside_chunk
 chunk_at-shrinks cells h = from_ending-shrinks cells
 
 -- two ways to go on that agree on shorter rests
-abbrev Agree : ℕ → Rule → Rule → Type 0
+abbrev pub Agree : ℕ → Rule → Rule → Type 0
 Agree n f g = (cells : List Cell) (h : Here) → length cells < n → f cells h ≡ g cells h
 
 -- two ways to go on behind a line that agree
 abbrev AgreeAt : ℕ → Rule → Rule → Type 0
 AgreeAt n f g = (cells : List Cell) (h : Here) → length cells ≤ n → f cells h ≡ g cells h
 
-ended-same : (n : ℕ) (f g : Rule) → Agree n f g → (name : Name) → AgreeAt n (ended f name) (ended g name)
-ended-same n f g agree name [] h le = refl
-ended-same n f g agree name (c ∷ cs) h le = ap (λ (o : Outcome). cond (nat_eq c.byte 10) o (Refuses h.scratch h.flags)) (agree cs _ (omega arith))
+ended-same : (n : ℕ) (f g : Rule) → Agree n f g → AgreeAt n (ended f) (ended g)
+ended-same n f g agree [] h le = refl
+ended-same n f g agree (c ∷ cs) h le = ap (λ (o : Outcome). cond (nat_eq c.byte 10) o (Refuses h.scratch h.flags)) (agree cs _ (omega arith))
+
+line_ended-same : (n : ℕ) (f g : Rule) → Agree n f g → AgreeAt n (line_ended f) (line_ended g)
+line_ended-same n f g agree cells h le = ended-same n f g agree cells (ended_to (stays h.flags) h.flags.line_end h) le
+
+blank_ended-same : (n : ℕ) (f g : Rule) → Agree n f g → AgreeAt n (blank_ended f) (blank_ended g)
+blank_ended-same n f g agree cells h le = line_ended-same n f g agree cells (record h { flags = blanked h.flags }) le
 
 tried-same : (n : ℕ) (f g : Rule) → AgreeAt n f g → (o : Outcome) (a b : Scratch → Flags → Outcome) → Shrinks n o → ((s : Scratch) (t : Flags) → a s t ≡ b s t) → tried o f a ≡ tried o g b
 tried-same n f g agree (Accepts h rest) a b le same = agree rest h le
 tried-same n f g agree (Refuses s t) a b le same = same s t
 tried-same n f g agree Fails a b le same = refl
 
+-- the same behind what takes a cell at least
+tried-shorter : (n : ℕ) (f g : Rule) → Agree n f g → (o : Outcome) (a b : Scratch → Flags → Outcome) → Shortens n o → ((s : Scratch) (t : Flags) → a s t ≡ b s t) → tried o f a ≡ tried o g b
+tried-shorter n f g agree (Accepts h rest) a b lt same = agree rest h lt
+tried-shorter n f g agree (Refuses s t) a b lt same = same s t
+tried-shorter n f g agree Fails a b lt same = refl
+
+leaf_of-same : (options : ParseOptions) (f g : Rule) (cells : List Cell) (h : Here) → Agree (length cells) f g → leaf_of options f cells h ≡ leaf_of options g cells h
+leaf_of-same options f g cells h agree =
+    tried-same _ (blank_ended f) (blank_ended g) (blank_ended-same _ f g agree) (blank_at cells h) _ _ (blank_at-shrinks cells h) (λ s t.
+    tried-same _ (line_ended f) (line_ended g) (line_ended-same _ f g agree) (heading_at options cells (record h { scratch = s; flags = t })) _ _ (heading_at-shrinks options cells _) (λ s' t'.
+    tried-same _ (line_ended f) (line_ended g) (line_ended-same _ f g agree) (break_at options cells (record h { scratch = s'; flags = t' })) _ _ (break_at-shrinks options cells _) (λ s'' t''.
+    tried-same _ (line_ended f) (line_ended g) (line_ended-same _ f g agree) (chunk_at cells (record h { scratch = s''; flags = t'' })) _ _ (chunk_at-shrinks cells _) (λ _ _. refl))))
+
+-- Containers.
+
+pub continues-shortens : (options : ParseOptions) (kind : ContainerKind) (cells : List Cell) (h : Here) → Shortens (length cells) (continues_at options kind cells h)
+continues-shortens options BlockQuote cells h = prefix-shortens options cells h
+
+new_from-same : (options : ParseOptions) (f g : Rule) (n : ℕ) (cells : List Cell) (h : Here) → Agree (length cells) f g → new_from options f n cells h ≡ new_from options g n cells h
+unfolding new_from
+new_from-same options f g zero cells h agree = leaf_of-same options f g cells (record h { flags = begun_line h.flags }) agree
+new_from-same options f g (suc n) cells h agree =
+    tried-shorter (length cells) _ _ (λ rest k lt. new_from-same options f g n rest (quote_opened k) (λ cs j less. agree cs j (omega (arith, less, lt)))) (quote_at options cells h) _ _ (quote-shortens options cells h)
+    (λ s t. leaf_of-same options f g cells (record h { scratch = s; flags = begun_line t }) agree)
+
+-- more containers than cells change nothing
+new_from-enough : (options : ParseOptions) (next : Rule) (n m : ℕ) (cells : List Cell) (h : Here) → length cells < n → length cells < m → new_from options next n cells h ≡ new_from options next m cells h
+unfolding new_from
+new_from-enough options next zero m cells h a b = absurd (omega arith)
+new_from-enough options next (suc n) zero cells h a b = absurd (omega arith)
+new_from-enough options next (suc n) (suc m) cells h a b =
+    tried-shorter (length cells) _ _ (λ rest k lt. new_from-enough options next n m rest (quote_opened k) (omega (arith, lt, a)) (omega (arith, lt, b))) (quote_at options cells h) _ _ (quote-shortens options cells h) (λ s t. refl)
+
+-- a container opens, or the leaf of the line follows
+pub new_by_container : (options : ParseOptions) (next : Rule) (cells : List Cell) (h : Here) →
+    new_of options next cells h ≡ tried (quote_at options cells h) (λ rest k. new_of options next rest (quote_opened k)) (λ s g. behind_containers options next cells (record h { scratch = s; flags = g }))
+unfolding new_of new_from
+new_by_container options next cells h =
+    tried-shorter (length cells) _ _ (λ rest k lt. new_from-enough options next (length cells) (suc (length rest)) rest (quote_opened k) lt (omega arith)) (quote_at options cells h) _ _ (quote-shortens options cells h) (λ s t. refl)
+
+new_of-same : (options : ParseOptions) (f g : Rule) (cells : List Cell) (h : Here) → Agree (length cells) f g → new_of options f cells h ≡ new_of options g cells h
+unfolding new_of
+new_of-same options f g cells h agree = new_from-same options f g (suc (length cells)) cells h agree
+
+existing_by-same : (options : ParseOptions) (f g further other : Rule) (o : Option Container) (cells : List Cell) (h : Here) → Agree (length cells) f g → Agree (length cells) further other →
+    existing_by options f further o cells h ≡ existing_by options g other o cells h
+existing_by-same options f g further other None cells h agree more = new_of-same options f g cells h agree
+existing_by-same options f g further other (Some c) cells h agree more =
+    tried-shorter (length cells) _ _ (λ rest k lt. more rest (record k { flags = went_on k.flags }) lt) (continues_at options c.kind cells h) _ _ (continues-shortens options c.kind cells h) (λ s t. new_of-same options f g cells (record h { scratch = s; flags = t }) agree)
+
+existing_from-same : (options : ParseOptions) (f g : Rule) (n : ℕ) (cells : List Cell) (h : Here) → Agree (length cells) f g → existing_from options f n cells h ≡ existing_from options g n cells h
+unfolding existing_from
+existing_from-same options f g zero cells h agree = new_of-same options f g cells h agree
+existing_from-same options f g (suc n) cells h agree =
+    existing_by-same options f g (existing_from options f n) (existing_from options g n) (next_container h.flags) cells h agree (λ rest k lt. existing_from-same options f g n rest k (λ cs j less. agree cs j (omega (arith, less, lt))))
+
+existing_from-enough : (options : ParseOptions) (next : Rule) (n m : ℕ) (cells : List Cell) (h : Here) → length cells < n → length cells < m → existing_from options next n cells h ≡ existing_from options next m cells h
+unfolding existing_from
+existing_from-enough options next zero m cells h a b = absurd (omega arith)
+existing_from-enough options next (suc n) zero cells h a b = absurd (omega arith)
+existing_from-enough options next (suc n) (suc m) cells h a b =
+    existing_by-same options next next (existing_from options next n) (existing_from options next m) (next_container h.flags) cells h (λ rest k lt. refl)
+    (λ rest k lt. existing_from-enough options next n m rest k (omega (arith, lt, a)) (omega (arith, lt, b)))
+
+-- the next container is asked whether it goes on, and then the same behind its prefix
+pub line_by_container : (options : ParseOptions) (next : Rule) (cells : List Cell) (h : Here) → line_then options next cells h ≡ existing_by options next (line_then options next) (next_container h.flags) cells h
+unfolding line_then existing_from
+line_by_container options next cells h =
+    existing_by-same options next next (existing_from options next (length cells)) (line_then options next) (next_container h.flags) cells h (λ rest k lt. refl)
+    (λ rest k lt. existing_from-enough options next (length cells) (suc (length rest)) rest k lt (omega arith))
+
+-- Lines.
+
 line_then-same : (options : ParseOptions) (f g : Rule) (cells : List Cell) (h : Here) → Agree (length cells) f g → line_then options f cells h ≡ line_then options g cells h
-line_then-same options f g cells h agree =
-    tried-same _ (blank_ended f) (blank_ended g) (λ rest k le. ended-same _ f g agree BlankLineEnding rest (calmed_at rest k) le) (blank_at cells h) _ _ (blank_at-shrinks cells h) (λ s t.
-    tried-same _ (ended f LineEnding) (ended g LineEnding) (ended-same _ f g agree LineEnding) (heading_at options cells (record h { scratch = s; flags = t })) _ _ (heading_at-shrinks options cells _) (λ s' t'.
-    tried-same _ (ended f LineEnding) (ended g LineEnding) (ended-same _ f g agree LineEnding) (break_at options cells (record h { scratch = s'; flags = t' })) _ _ (break_at-shrinks options cells _) (λ s'' t''.
-    tried-same _ (ended f LineEnding) (ended g LineEnding) (ended-same _ f g agree LineEnding) (chunk_at cells (record h { scratch = s''; flags = t'' })) _ _ (chunk_at-shrinks cells _) (λ _ _. refl))))
+unfolding line_then
+line_then-same options f g cells h agree = existing_from-same options f g (suc (length cells)) cells h agree
 
 -- more lines than cells change nothing
 enough : (options : ParseOptions) (n m : ℕ) (cells : List Cell) (h : Here) → length cells < n → length cells < m → flow_lines options n cells h ≡ flow_lines options m cells h

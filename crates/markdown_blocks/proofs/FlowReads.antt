@@ -466,7 +466,7 @@ flow-reads is_name R bytes options p end at found new small run f c h ch hc =
     tells = record { content = c; heading = h; no_content = hc; no_heading = ch }
 
     begun : stands flow_table_scheme (reads_to (fresh bytes options p) (length bytes)) (Next s.DocumentContainerExistingBefore)
-    begun = (refl, record { ok = λ s q t is up way. tt; nok = λ s q t is up. tt })
+    begun = ((refl, record { ok = λ s q t is up way. tt; nok = λ s q t is up. tt }), tt)
 
     pushed : (comes_to (flow_behaves options) (text_feed (text_setting bytes options p)) (Next s.DocumentContainerExistingBefore) (fresh bytes options p) ≡ comes_to (flow_behaves options) (text_feed (text_setting bytes options p)) end at) × stands flow_table_scheme at (plain end)
     pushed = flow_push is_name (Next s.DocumentContainerExistingBefore) end (fresh bytes options p) at (length bytes) (length bytes) small (omega arith) begun run

@@ -40,6 +40,7 @@ use Rattle.md_seam.proofs.WhiteSteps.{behind_white}
 use Rattle.markdown_blocks.specs.FlowRule.{Rule, behind_containers, blank_ended, break_of, content_of, continues_at, ended, ended_to, existing_by, existing_from, flow_at, flow_lines, leaf_of, line_ended, line_then, new_from, new_of, nonblank_of, quote_opened, tried}
 use Rattle.markdown_blocks.specs.LineFlags.{begun_line, ending_name, next_container, next_line, stays, went_on, with_quote}
 use Rattle.markdown_blocks.specs.Rows.{BlankRow, BreakRow, Front, Held, HeadingRow, Row, RowKind, TextRow, after_ending, break_inside, closes_before, ending_of, first_cell, held_at, held_by, held_of, in_front, inside_of, is_break, is_lazy, is_text, leaf_events, new_front, no_front, quote_ends, row_kind, row_of, rows_at, rows_events, went_front}
+use Rattle.markdown_blocks.proofs.FlowLemmas.{from_ending-shrinks}
 
 inside-none : (options : ParseOptions) (cells : List Cell) (p : Point) → begins_white cells ≡ false → break_inside options cells p ≡ runs Apart (first_cell cells) (line_cells cells) p
 inside-none options cells p e =
@@ -737,14 +738,6 @@ ended-adds options m next adds going (c ∷ cs) h new rest fits is held e = go (
     go true k = adds h.events (pair name h.point c.after) h.point (length h.flags.containers) going cs at new rest (omega arith) begins k
     go false k = cc
 
-ending-shorter : (cells : List Cell) → length (from_ending cells) ≤ length cells
-ending-shorter [] = omega arith
-ending-shorter (c ∷ cs) = go (nat_eq c.byte 10) (ending-shorter cs)
-  where
-    go : (x : Bool) → length (from_ending cs) ≤ length cs → length (cond x (c ∷ cs) (from_ending cs)) ≤ length (c ∷ cs)
-    go true h = omega arith
-    go false h = omega arith
-
 held-shorter : (options : ParseOptions) (depth : ℕ) (going : Bool) (cells : List Cell) (p : Point) → length (held_at options depth going cells p).cells ≤ length cells
 unfolding held_at
 held-shorter options depth going cells p =
@@ -760,7 +753,7 @@ flow-adds : (options : ParseOptions) (m : ℕ) → Adds options m (flow_lines op
 unfolding flow_lines
 flow-adds options zero front tail p depth going cells h new rest fits b e = absurd (omega arith)
 flow-adds options (suc m) front tail p depth going cells h new rest fits b e =
-    ended-adds options m (flow_lines options m) (flow-adds options m) (is_text k) left d.new new rest (omega (arith, ending-shorter x.cells, held-shorter options depth going cells h.point)) d.rest d.interrupt (sym d.is ∙ e)
+    ended-adds options m (flow_lines options m) (flow-adds options m) (is_text k) left d.new new rest (omega (arith, from_ending-shrinks x.cells, held-shorter options depth going cells h.point)) d.rest d.interrupt (sym d.is ∙ e)
     ∙ ap₂ (λ (size : ℕ) (q : Point). d.new.events ++ behind size q (ending_name d.new.flags.blank)) d.size d.point
     ∙ ap₂ (λ (es : List Event) (name : Name). es ++ behind x.depth (line_end x.cells x.point) name) d.events (ap ending_name d.blank ∙ ending-named k)
     ∙ regroup-row front (quote_ends x.closes p) tail x.front (added_by options x.cells x.point k) (quote_ends (closes_before x.depth below) (line_end x.cells x.point)) (ending_here (ending_of k) (line_end x.cells x.point) left) (rows_events below)

@@ -1,14 +1,14 @@
 -- Each state of flow keeps what its table needs.
-use Rattle.std.proofs.Common.{◌≡◌, ◌≢◌, ◌<◌, ◌&&◌, Bool, true, false, nat_lt, Option, Some, None, ℕ, refl, ap, ◌∙◌, sym}
-use Rattle.md_engine.specs.declared.event.Name.TheVariants as parts
+use Rattle.std.proofs.Common.{◌≡◌, ◌≢◌, ◌<◌, ◌&&◌, Bool, true, false, nat_lt, Option, Some, None, ℕ, refl, ap, sym}
 use Rattle.md_engine.specs.declared.resolve.Name.{Name as ResolveName}
 use Rattle.md_engine.specs.declared.resolve.Name.TheVariants as r
 use Rattle.md_engine.specs.declared.state.Name.{Name as StateName}
 use Rattle.md_engine.specs.declared.state.Name.TheVariants as n
 use Rattle.md_engine.specs.declared.state.State.TheVariants.{Next}
-use Rattle.md_engine.specs.Scheme.{Grows, spot, stands}
+use Rattle.md_engine.specs.Scheme.{spot, stands}
 use Rattle.md_engine.specs.World.{World, looks}
 use Rattle.md_engine.proofs.Local.{fits}
+use Rattle.md_containers.proofs.QuoteGoods.{QuoteFits, good_cont_after, good_cont_before, good_cont_start, good_quote_start}
 use Rattle.md_content.proofs.Goods.{ChunkFits, good_chunk_inside, good_chunk_start}
 use Rattle.md_leaves.specs.Heading.{sees_text}
 use Rattle.md_leaves.proofs.Goods as leaves
@@ -17,11 +17,10 @@ use Rattle.md_leaves.proofs.HeadingGoods as heading
 use Rattle.md_leaves.proofs.HeadingGoods.{HeadingFits}
 use Rattle.md_seam.specs.Spaces.{ends_line, is_current, sees_white}
 use Rattle.md_seam.proofs.SpacesGoods as spaces
-use Rattle.md_seam.proofs.SpacesGoods.{Does, WhiteFits, ends-grow, rest-grows, seen-some}
-use Rattle.markdown_blocks.specs.Flow.{calm}
+use Rattle.md_seam.proofs.SpacesGoods.{Does, WhiteFits, seen-some}
 use Rattle.markdown_blocks.specs.States.{flow_owner, flow_table_scheme, flow_went}
 use Rattle.markdown_blocks.proofs.Goods as flow
-use Rattle.markdown_blocks.proofs.Goods.{FlowFits, calm-same}
+use Rattle.markdown_blocks.proofs.Goods.{FlowFits}
 
 white_fits : WhiteFits flow_table_scheme
 white_fits = record { start = fits flow_owner n.SpaceOrTabStart; inside = fits flow_owner n.SpaceOrTabInside; behind = fits flow_owner n.SpaceOrTabAfter }
@@ -52,8 +51,23 @@ heading_fits = record {
 chunk_fits : ChunkFits flow_table_scheme
 chunk_fits = record { start = fits flow_owner n.ContentChunkStart; inside = fits flow_owner n.ContentChunkInside }
 
+quote_fits : QuoteFits flow_table_scheme
+quote_fits = record {
+  white = white_fits;
+  start = fits flow_owner n.BlockQuoteStart;
+  cont_start = fits flow_owner n.BlockQuoteContStart;
+  cont_before = fits flow_owner n.BlockQuoteContBefore;
+  cont_after = fits flow_owner n.BlockQuoteContAfter;
+}
+
 flow_fits : FlowFits flow_table_scheme
 flow_fits = record {
+  existing_before = fits flow_owner n.DocumentContainerExistingBefore;
+  existing_after = fits flow_owner n.DocumentContainerExistingAfter;
+  new_before = fits flow_owner n.DocumentContainerNewBefore;
+  new_after = fits flow_owner n.DocumentContainerNewAfter;
+  containers_after = fits flow_owner n.DocumentContainersAfter;
+  flow_end = fits flow_owner n.DocumentFlowEnd;
   start = fits flow_owner n.FlowStart;
   blank_line_before = fits flow_owner n.FlowBlankLineBefore;
   before_heading_atx = fits flow_owner n.FlowBeforeHeadingAtx;
@@ -82,15 +96,25 @@ white-here w b c e = go w.current c e
 pub flow_does : (is_name : ResolveName → ResolveName → Bool) (name : StateName) (w : World) → w.current ≡ looks w → stands flow_table_scheme w (Next name) → Does flow_table_scheme name w (flow_went is_name name w)
 flow_does is_name n.BlankLineStart w c at = leaves.good_blank_start flow_table_scheme w _ blank_fits at
 flow_does is_name n.BlankLineAfter w c at = leaves.good_blank_after flow_table_scheme w _ blank_fits at
+flow_does is_name n.BlockQuoteStart w c at = good_quote_start flow_table_scheme w _ quote_fits at
+flow_does is_name n.BlockQuoteContStart w c at = good_cont_start flow_table_scheme w _ quote_fits at
+flow_does is_name n.BlockQuoteContBefore w c at = good_cont_before flow_table_scheme w _ quote_fits at (ap (is_current 62) (sym c))
+flow_does is_name n.BlockQuoteContAfter w c at = good_cont_after flow_table_scheme w _ quote_fits at (ap sees_white (sym c))
 flow_does is_name n.ContentChunkStart w c at = good_chunk_start flow_table_scheme w chunk_fits at
 flow_does is_name n.ContentChunkInside w c at = good_chunk_inside flow_table_scheme w (is_name r.Content) (ends_line w.current) chunk_fits at (goes-on w c)
+flow_does is_name n.DocumentContainerExistingBefore w c at = flow.good_existing_before flow_table_scheme w _ flow_fits (fits flow_owner n.BlockQuoteContStart) at
+flow_does is_name n.DocumentContainerExistingAfter w c at = flow.good_existing_after flow_table_scheme w flow_fits at
+flow_does is_name n.DocumentContainerNewBefore w c at = flow.good_new_before flow_table_scheme w flow_fits (fits flow_owner n.BlockQuoteStart) at
+flow_does is_name n.DocumentContainerNewAfter w c at = flow.good_new_after flow_table_scheme w flow_fits at
+flow_does is_name n.DocumentContainersAfter w c at = flow.good_containers_after flow_table_scheme w flow_fits at
+flow_does is_name n.DocumentFlowEnd w c at = flow.good_flow_end flow_table_scheme w w.current flow_fits at (sym c)
 flow_does is_name n.FlowStart w c at = flow.good_start flow_table_scheme w flow_fits at
 flow_does is_name n.FlowBlankLineBefore w c at = flow.good_blank_line_before flow_table_scheme w flow_fits (fits flow_owner n.BlankLineStart) at
 flow_does is_name n.FlowBeforeHeadingAtx w c at = flow.good_before_heading_atx flow_table_scheme w flow_fits (fits flow_owner n.HeadingAtxStart) at
 flow_does is_name n.FlowBeforeThematicBreak w c at = flow.good_before_thematic_break flow_table_scheme w flow_fits (fits flow_owner n.ThematicBreakStart) at
 flow_does is_name n.FlowBeforeContent w c at = flow.good_before_content flow_table_scheme w flow_fits (fits flow_owner n.ContentChunkStart) at
-flow_does is_name n.FlowBlankLineAfter w c at = flow.good_ending flow_table_scheme n.FlowBlankLineAfter parts.BlankLineEnding w (calm w w.current) _ flow_fits (fits flow_owner n.FlowBlankLineAfter) at (sym c ∙ sym (ap (λ (v : World). v.current) (calm-same w w.current))) (calm-same w w.current)
-flow_does is_name n.FlowAfter w c at = flow.good_ending flow_table_scheme n.FlowAfter parts.LineEnding w w w.current flow_fits (fits flow_owner n.FlowAfter) at (sym c) refl
+flow_does is_name n.FlowBlankLineAfter w c at = flow.good_blank_line_after flow_table_scheme w flow_fits at
+flow_does is_name n.FlowAfter w c at = flow.good_after flow_table_scheme w flow_fits at
 flow_does is_name n.HeadingAtxStart w c at = heading.good_heading_start flow_table_scheme w _ _ heading_fits at
 flow_does is_name n.HeadingAtxBefore w c at = heading.good_heading_before flow_table_scheme w _ heading_fits at
 flow_does is_name n.HeadingAtxSequenceOpen w c at = heading.good_sequence_open flow_table_scheme w _ _ _ heading_fits at (ap (λ (o : Option ℕ). is_current 35 o && nat_lt w.scratch.size 6) (sym c)) (ap sees_text (sym c)) (ap sees_white (sym c))
@@ -110,8 +134,18 @@ flow_does is_name name w c at = absurd at
 pub no_other : (name : StateName) (w : World) → stands flow_table_scheme w (Next name)
     → name ≢ n.BlankLineStart
     → name ≢ n.BlankLineAfter
+    → name ≢ n.BlockQuoteStart
+    → name ≢ n.BlockQuoteContStart
+    → name ≢ n.BlockQuoteContBefore
+    → name ≢ n.BlockQuoteContAfter
     → name ≢ n.ContentChunkStart
     → name ≢ n.ContentChunkInside
+    → name ≢ n.DocumentContainerExistingBefore
+    → name ≢ n.DocumentContainerExistingAfter
+    → name ≢ n.DocumentContainerNewBefore
+    → name ≢ n.DocumentContainerNewAfter
+    → name ≢ n.DocumentContainersAfter
+    → name ≢ n.DocumentFlowEnd
     → name ≢ n.FlowStart
     → name ≢ n.FlowBlankLineBefore
     → name ≢ n.FlowBeforeHeadingAtx
@@ -132,56 +166,38 @@ pub no_other : (name : StateName) (w : World) → stands flow_table_scheme w (Ne
     → name ≢ n.ThematicBreakBefore
     → name ≢ n.ThematicBreakAtBreak
     → name ≢ n.ThematicBreakSequence → ⊥
-no_other n.BlankLineStart w at h _ _ _ _ _ _ _ _ _ _ _ _ _ _ _ _ _ _ _ _ _ _ _ = h refl
-no_other n.BlankLineAfter w at _ h _ _ _ _ _ _ _ _ _ _ _ _ _ _ _ _ _ _ _ _ _ _ = h refl
-no_other n.ContentChunkStart w at _ _ h _ _ _ _ _ _ _ _ _ _ _ _ _ _ _ _ _ _ _ _ _ = h refl
-no_other n.ContentChunkInside w at _ _ _ h _ _ _ _ _ _ _ _ _ _ _ _ _ _ _ _ _ _ _ _ = h refl
-no_other n.FlowStart w at _ _ _ _ h _ _ _ _ _ _ _ _ _ _ _ _ _ _ _ _ _ _ _ = h refl
-no_other n.FlowBlankLineBefore w at _ _ _ _ _ h _ _ _ _ _ _ _ _ _ _ _ _ _ _ _ _ _ _ = h refl
-no_other n.FlowBeforeHeadingAtx w at _ _ _ _ _ _ h _ _ _ _ _ _ _ _ _ _ _ _ _ _ _ _ _ = h refl
-no_other n.FlowBeforeThematicBreak w at _ _ _ _ _ _ _ h _ _ _ _ _ _ _ _ _ _ _ _ _ _ _ _ = h refl
-no_other n.FlowBeforeContent w at _ _ _ _ _ _ _ _ h _ _ _ _ _ _ _ _ _ _ _ _ _ _ _ = h refl
-no_other n.FlowBlankLineAfter w at _ _ _ _ _ _ _ _ _ h _ _ _ _ _ _ _ _ _ _ _ _ _ _ = h refl
-no_other n.FlowAfter w at _ _ _ _ _ _ _ _ _ _ h _ _ _ _ _ _ _ _ _ _ _ _ _ = h refl
-no_other n.HeadingAtxStart w at _ _ _ _ _ _ _ _ _ _ _ h _ _ _ _ _ _ _ _ _ _ _ _ = h refl
-no_other n.HeadingAtxBefore w at _ _ _ _ _ _ _ _ _ _ _ _ h _ _ _ _ _ _ _ _ _ _ _ = h refl
-no_other n.HeadingAtxSequenceOpen w at _ _ _ _ _ _ _ _ _ _ _ _ _ h _ _ _ _ _ _ _ _ _ _ = h refl
-no_other n.HeadingAtxAtBreak w at _ _ _ _ _ _ _ _ _ _ _ _ _ _ h _ _ _ _ _ _ _ _ _ = h refl
-no_other n.HeadingAtxSequenceFurther w at _ _ _ _ _ _ _ _ _ _ _ _ _ _ _ h _ _ _ _ _ _ _ _ = h refl
-no_other n.HeadingAtxData w at _ _ _ _ _ _ _ _ _ _ _ _ _ _ _ _ h _ _ _ _ _ _ _ = h refl
-no_other n.SpaceOrTabStart w at _ _ _ _ _ _ _ _ _ _ _ _ _ _ _ _ _ h _ _ _ _ _ _ = h refl
-no_other n.SpaceOrTabInside w at _ _ _ _ _ _ _ _ _ _ _ _ _ _ _ _ _ _ h _ _ _ _ _ = h refl
-no_other n.SpaceOrTabAfter w at _ _ _ _ _ _ _ _ _ _ _ _ _ _ _ _ _ _ _ h _ _ _ _ = h refl
-no_other n.ThematicBreakStart w at _ _ _ _ _ _ _ _ _ _ _ _ _ _ _ _ _ _ _ _ h _ _ _ = h refl
-no_other n.ThematicBreakBefore w at _ _ _ _ _ _ _ _ _ _ _ _ _ _ _ _ _ _ _ _ _ h _ _ = h refl
-no_other n.ThematicBreakAtBreak w at _ _ _ _ _ _ _ _ _ _ _ _ _ _ _ _ _ _ _ _ _ _ h _ = h refl
-no_other n.ThematicBreakSequence w at _ _ _ _ _ _ _ _ _ _ _ _ _ _ _ _ _ _ _ _ _ _ _ h = h refl
-no_other name w at _ _ _ _ _ _ _ _ _ _ _ _ _ _ _ _ _ _ _ _ _ _ _ _ = at
-
--- what each state needs still holds when more may be read
-pub flow_grows : Grows flow_table_scheme
-flow_grows n.BlankLineStart x K t at up = rest-grows x K t at up
-flow_grows n.BlankLineAfter x K t at up = rest-grows x K t at up
-flow_grows n.ContentChunkStart x K t at up = rest-grows x K t at up
-flow_grows n.ContentChunkInside x K t at up = rest-grows x K t at up
-flow_grows n.FlowStart x K t at up = rest-grows x K t at up
-flow_grows n.FlowBlankLineBefore x K t at up = rest-grows x K t at up
-flow_grows n.FlowBeforeHeadingAtx x K t at up = rest-grows x K t at up
-flow_grows n.FlowBeforeThematicBreak x K t at up = rest-grows x K t at up
-flow_grows n.FlowBeforeContent x K t at up = rest-grows x K t at up
-flow_grows n.FlowBlankLineAfter x K t at up = rest-grows x K t at up
-flow_grows n.FlowAfter x K t at up = rest-grows x K t at up
-flow_grows n.HeadingAtxStart x K t at up = rest-grows x K t at up
-flow_grows n.HeadingAtxBefore x K t at up = rest-grows x K t at up
-flow_grows n.HeadingAtxSequenceOpen x K t at up = (record { size = at.0.size; rest = at.0.rest }, ends-grow _ _ x K t at.1 up)
-flow_grows n.HeadingAtxAtBreak x K t at up = rest-grows x K t at up
-flow_grows n.HeadingAtxSequenceFurther x K t at up = rest-grows x K t at up
-flow_grows n.HeadingAtxData x K t at up = rest-grows x K t at up
-flow_grows n.SpaceOrTabStart x K t at up = (at.0, ends-grow _ _ x K t at.1 up)
-flow_grows n.SpaceOrTabInside x K t at up = (at.0, ends-grow _ _ x K t at.1 up)
-flow_grows n.SpaceOrTabAfter x K t at up = (at.0, ends-grow _ _ x K t at.1 up)
-flow_grows n.ThematicBreakStart x K t at up = rest-grows x K t at up
-flow_grows n.ThematicBreakBefore x K t at up = rest-grows x K t at up
-flow_grows n.ThematicBreakAtBreak x K t at up = (record { marker = at.0.marker; size = at.0.size; rest = at.0.rest }, ends-grow _ _ x K t at.1 up)
-flow_grows n.ThematicBreakSequence x K t at up = (record { marker = at.0.marker; size = at.0.size; rest = at.0.rest }, ends-grow _ _ x K t at.1 up)
-flow_grows name x K t at up = absurd at
+no_other n.BlankLineStart w at h _ _ _ _ _ _ _ _ _ _ _ _ _ _ _ _ _ _ _ _ _ _ _ _ _ _ _ _ _ _ _ _ _ = h refl
+no_other n.BlankLineAfter w at _ h _ _ _ _ _ _ _ _ _ _ _ _ _ _ _ _ _ _ _ _ _ _ _ _ _ _ _ _ _ _ _ _ = h refl
+no_other n.BlockQuoteStart w at _ _ h _ _ _ _ _ _ _ _ _ _ _ _ _ _ _ _ _ _ _ _ _ _ _ _ _ _ _ _ _ _ _ = h refl
+no_other n.BlockQuoteContStart w at _ _ _ h _ _ _ _ _ _ _ _ _ _ _ _ _ _ _ _ _ _ _ _ _ _ _ _ _ _ _ _ _ _ = h refl
+no_other n.BlockQuoteContBefore w at _ _ _ _ h _ _ _ _ _ _ _ _ _ _ _ _ _ _ _ _ _ _ _ _ _ _ _ _ _ _ _ _ _ = h refl
+no_other n.BlockQuoteContAfter w at _ _ _ _ _ h _ _ _ _ _ _ _ _ _ _ _ _ _ _ _ _ _ _ _ _ _ _ _ _ _ _ _ _ = h refl
+no_other n.ContentChunkStart w at _ _ _ _ _ _ h _ _ _ _ _ _ _ _ _ _ _ _ _ _ _ _ _ _ _ _ _ _ _ _ _ _ _ = h refl
+no_other n.ContentChunkInside w at _ _ _ _ _ _ _ h _ _ _ _ _ _ _ _ _ _ _ _ _ _ _ _ _ _ _ _ _ _ _ _ _ _ = h refl
+no_other n.DocumentContainerExistingBefore w at _ _ _ _ _ _ _ _ h _ _ _ _ _ _ _ _ _ _ _ _ _ _ _ _ _ _ _ _ _ _ _ _ _ = h refl
+no_other n.DocumentContainerExistingAfter w at _ _ _ _ _ _ _ _ _ h _ _ _ _ _ _ _ _ _ _ _ _ _ _ _ _ _ _ _ _ _ _ _ _ = h refl
+no_other n.DocumentContainerNewBefore w at _ _ _ _ _ _ _ _ _ _ h _ _ _ _ _ _ _ _ _ _ _ _ _ _ _ _ _ _ _ _ _ _ _ = h refl
+no_other n.DocumentContainerNewAfter w at _ _ _ _ _ _ _ _ _ _ _ h _ _ _ _ _ _ _ _ _ _ _ _ _ _ _ _ _ _ _ _ _ _ = h refl
+no_other n.DocumentContainersAfter w at _ _ _ _ _ _ _ _ _ _ _ _ h _ _ _ _ _ _ _ _ _ _ _ _ _ _ _ _ _ _ _ _ _ = h refl
+no_other n.DocumentFlowEnd w at _ _ _ _ _ _ _ _ _ _ _ _ _ h _ _ _ _ _ _ _ _ _ _ _ _ _ _ _ _ _ _ _ _ = h refl
+no_other n.FlowStart w at _ _ _ _ _ _ _ _ _ _ _ _ _ _ h _ _ _ _ _ _ _ _ _ _ _ _ _ _ _ _ _ _ _ = h refl
+no_other n.FlowBlankLineBefore w at _ _ _ _ _ _ _ _ _ _ _ _ _ _ _ h _ _ _ _ _ _ _ _ _ _ _ _ _ _ _ _ _ _ = h refl
+no_other n.FlowBeforeHeadingAtx w at _ _ _ _ _ _ _ _ _ _ _ _ _ _ _ _ h _ _ _ _ _ _ _ _ _ _ _ _ _ _ _ _ _ = h refl
+no_other n.FlowBeforeThematicBreak w at _ _ _ _ _ _ _ _ _ _ _ _ _ _ _ _ _ h _ _ _ _ _ _ _ _ _ _ _ _ _ _ _ _ = h refl
+no_other n.FlowBeforeContent w at _ _ _ _ _ _ _ _ _ _ _ _ _ _ _ _ _ _ h _ _ _ _ _ _ _ _ _ _ _ _ _ _ _ = h refl
+no_other n.FlowBlankLineAfter w at _ _ _ _ _ _ _ _ _ _ _ _ _ _ _ _ _ _ _ h _ _ _ _ _ _ _ _ _ _ _ _ _ _ = h refl
+no_other n.FlowAfter w at _ _ _ _ _ _ _ _ _ _ _ _ _ _ _ _ _ _ _ _ h _ _ _ _ _ _ _ _ _ _ _ _ _ = h refl
+no_other n.HeadingAtxStart w at _ _ _ _ _ _ _ _ _ _ _ _ _ _ _ _ _ _ _ _ _ h _ _ _ _ _ _ _ _ _ _ _ _ = h refl
+no_other n.HeadingAtxBefore w at _ _ _ _ _ _ _ _ _ _ _ _ _ _ _ _ _ _ _ _ _ _ h _ _ _ _ _ _ _ _ _ _ _ = h refl
+no_other n.HeadingAtxSequenceOpen w at _ _ _ _ _ _ _ _ _ _ _ _ _ _ _ _ _ _ _ _ _ _ _ h _ _ _ _ _ _ _ _ _ _ = h refl
+no_other n.HeadingAtxAtBreak w at _ _ _ _ _ _ _ _ _ _ _ _ _ _ _ _ _ _ _ _ _ _ _ _ h _ _ _ _ _ _ _ _ _ = h refl
+no_other n.HeadingAtxSequenceFurther w at _ _ _ _ _ _ _ _ _ _ _ _ _ _ _ _ _ _ _ _ _ _ _ _ _ h _ _ _ _ _ _ _ _ = h refl
+no_other n.HeadingAtxData w at _ _ _ _ _ _ _ _ _ _ _ _ _ _ _ _ _ _ _ _ _ _ _ _ _ _ h _ _ _ _ _ _ _ = h refl
+no_other n.SpaceOrTabStart w at _ _ _ _ _ _ _ _ _ _ _ _ _ _ _ _ _ _ _ _ _ _ _ _ _ _ _ h _ _ _ _ _ _ = h refl
+no_other n.SpaceOrTabInside w at _ _ _ _ _ _ _ _ _ _ _ _ _ _ _ _ _ _ _ _ _ _ _ _ _ _ _ _ h _ _ _ _ _ = h refl
+no_other n.SpaceOrTabAfter w at _ _ _ _ _ _ _ _ _ _ _ _ _ _ _ _ _ _ _ _ _ _ _ _ _ _ _ _ _ h _ _ _ _ = h refl
+no_other n.ThematicBreakStart w at _ _ _ _ _ _ _ _ _ _ _ _ _ _ _ _ _ _ _ _ _ _ _ _ _ _ _ _ _ _ h _ _ _ = h refl
+no_other n.ThematicBreakBefore w at _ _ _ _ _ _ _ _ _ _ _ _ _ _ _ _ _ _ _ _ _ _ _ _ _ _ _ _ _ _ _ h _ _ = h refl
+no_other n.ThematicBreakAtBreak w at _ _ _ _ _ _ _ _ _ _ _ _ _ _ _ _ _ _ _ _ _ _ _ _ _ _ _ _ _ _ _ _ h _ = h refl
+no_other n.ThematicBreakSequence w at _ _ _ _ _ _ _ _ _ _ _ _ _ _ _ _ _ _ _ _ _ _ _ _ _ _ _ _ _ _ _ _ _ h = h refl
+no_other name w at _ _ _ _ _ _ _ _ _ _ _ _ _ _ _ _ _ _ _ _ _ _ _ _ _ _ _ _ _ _ _ _ _ _ = at

@@ -6,7 +6,7 @@ use Rattle.md_engine.specs.declared.state.State.TheVariants.{Ok, Nok, Next, Retr
 use Rattle.md_engine.specs.declared.tokenizer.Container.{Container}
 use Rattle.md_engine.specs.declared.tokenizer.ContainerKind.{ContainerKind}
 use Rattle.md_engine.specs.declared.tokenizer.ContainerKind.TheVariants as kind
-use Rattle.md_engine.specs.Scheme.{Scheme, Spot}
+use Rattle.md_engine.specs.Scheme.{After, Scheme, Spot}
 use Rattle.md_engine.specs.World.{World, closed}
 use Rattle.md_seam.specs.Spaces.{rest_ready}
 use Rattle.md_seam.specs.Went.{Went, entered, exited, taken, tried}
@@ -95,5 +95,9 @@ flow_tries s.FlowBeforeThematicBreak = 7
 flow_tries s.FlowBeforeContent = 5
 flow_tries _ = 2
 
+-- at rest, and with no attempt around: containers end among the events that are there
+abbrev pub flow_ready : Spot → After → Type 0
+flow_ready x K = rest_ready x K × K.outermost
+
 abbrev pub flow_scheme : Scheme
-flow_scheme = record { ready = λ n x K. rest_ready x K; level = λ n. 3; rank = flow_rank; tries = flow_tries }
+flow_scheme = record { ready = λ n x K. flow_ready x K; level = λ n. 3; rank = flow_rank; tries = flow_tries }

@@ -1,5 +1,5 @@
 -- What the document knows of its containers, and how each step of a line changes it.
-use Rattle.std.specs.Prelude.{ℕ, suc, Bool, true, false, ◌&&◌, nat_lt, if◌then◌else◌, List, [], ◌∷◌, ◌++◌, length, slice_get, Option}
+use Rattle.std.specs.Prelude.{ℕ, suc, Bool, true, false, ◌&&◌, nat_lt, if◌then◌else◌, [], ◌∷◌, ◌++◌, length, slice_get, Option}
 use Rattle.md_engine.specs.declared.event.Name.{Name}
 use Rattle.md_engine.specs.declared.event.Name.TheVariants.{BlankLineEnding, LineEnding}
 use Rattle.md_engine.specs.declared.tokenizer.Container.{Container}

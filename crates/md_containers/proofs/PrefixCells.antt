@@ -13,6 +13,7 @@ use Rattle.md_seam.specs.Ahead.{white_end, white_rest}
 use Rattle.md_seam.specs.Nested.{enter, exit, pair}
 use Rattle.md_seam.specs.Rest.{is_white}
 use Rattle.md_seam.specs.Spaces.{IsRest, small_indent}
+use Rattle.md_seam.proofs.RestCells.{white-length}
 
 -- What is left is shorter.
 
@@ -28,18 +29,9 @@ marker-shorter : (cells : List Cell) → has_marker cells ≡ true → length (m
 marker-shorter [] e = cc
 marker-shorter (c ∷ cs) e = omega (arith, behind-shorter cs)
 
-white-shorter : (room : ℕ) (cells : List Cell) → length (white_rest room cells) ≤ length cells
-white-shorter room [] = omega arith
-white-shorter zero (c ∷ cs) = omega arith
-white-shorter (suc room) (c ∷ cs) = go (is_white c.byte) (white-shorter room cs)
-  where
-    go : (x : Bool) → length (white_rest room cs) ≤ length cs → length (cond x (white_rest room cs) (c ∷ cs)) ≤ length (c ∷ cs)
-    go true h = omega arith
-    go false h = omega arith
-
 -- a prefix takes a cell at least
 pub prefix-shorter : (options : ParseOptions) (cells : List Cell) → takes_prefix options cells ≡ true → length (prefix_rest options cells) < length cells
-prefix-shorter options cells e = omega (arith, marker-shorter (white_rest (small_indent options) cells) e, white-shorter (small_indent options) cells)
+prefix-shorter options cells e = omega (arith, marker-shorter (white_rest (small_indent options) cells) e, white-length (small_indent options) cells)
 
 -- What it comes to.
 

@@ -6,6 +6,7 @@ use Rattle.md_engine.specs.declared.state.State.{State}
 use Rattle.md_engine.specs.declared.tokenizer.Frame.{Frame}
 use Rattle.md_engine.specs.Meaning.{Behaviour, Cell, Feed, Follows, Steps, goes, here, line_of, resume}
 use Rattle.md_engine.specs.Run.{reading}
+use Rattle.md_engine.specs.Scheme.{Scheme, after_all}
 use Rattle.md_engine.specs.World.{World, after, looks}
 
 -- a step that begins no attempt
@@ -27,6 +28,11 @@ begins B feed from to old new added f frames events same = record { begun = f �
 pub changes : (B : Behaviour) (feed : Feed) (from to : State) (old new : World) → old.frames ≡ [] → new.frames ≡ [] →
     goes B from (feed old.point) (here old) ≡ goes B to (feed new.point) (here new) → Steps B feed from old to new
 changes B feed from to old new none frames same = record { begun = []; added = []; frames = frames ∙ sym none; events = inl none; same = same }
+
+-- where that is known of what follows, no attempt can go back
+pub outermost-frames : (T : Scheme) (fs : List Frame) → (after_all T fs).outermost → fs ≡ []
+outermost-frames T [] none = refl
+outermost-frames T (f ∷ fs) none = absurd none
 
 -- and adds no event
 pub begins_only : (B : Behaviour) (feed : Feed) (from to : State) (old new : World) (f : Frame) → new.frames ≡ f ∷ old.frames → new.events ≡ old.events →

@@ -41,6 +41,8 @@ seen x = looks_at x.setting x.point
 pub record After : Type 1 where
   pub ok : Spot → Type 0
   pub nok : Spot → Type 0
+  -- no attempt is around it
+  pub outermost : Type 0
 
 -- what the states of a table need, and how far each is from the next byte among the states of its level; a frame that goes
 -- on with a state counts as many as it has tries
@@ -123,12 +125,13 @@ pub record Resumes (T : Scheme) (f : Frame) (st : State) (x : Spot) (K : After) 
   pub falls : state_number T st x < frame_number T x.setting.limit f
 
 abbrev pub top : After
-top = record { ok = λ x. Unit {0}; nok = λ x. Unit {0} }
+top = record { ok = λ x. Unit {0}; nok = λ x. Unit {0}; outermost = Unit {0} }
 
 abbrev pub after_frame : Scheme → Frame → After → After
 after_frame T f K = record {
   ok = λ x. Resumes T f f.ok (if f.is_check then record x { point = f.point } else x) K;
   nok = λ x. Resumes T f f.nok (record x { point = f.point }) K;
+  outermost = ⊥;
 }
 
 -- what is asked where the innermost attempt ends

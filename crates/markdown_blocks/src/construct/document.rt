@@ -66,10 +66,7 @@ pub fn before_frontmatter(_tokenizer: &mut Tokenizer) -> State
 fn next_container(tokenizer: &Tokenizer) -> Option<Container>
     ensures { result ≡ next_container (world tokenizer.now).flags }
 {
-    tokenizer
-        .containers
-        .get(tokenizer.flags.continued)
-        .copied()
+    tokenizer.containers.get(tokenizer.flags.continued).copied()
 }
 
 /// The state in front of the prefix of a container on a further line.
@@ -258,9 +255,7 @@ fn call_state(tokenizer: &mut Tokenizer, name: StateName) -> State
 pub struct DocumentTable;
 
 impl Table for DocumentTable {
-    ghost use Rattle.markdown_blocks.specs.Flow.{containers_after_went, existing_after_went, existing_before_went, flow_end_went, goes_on_with, new_after_went, new_before_went};
-ghost use Rattle.markdown_blocks.specs.LineFlags.{ending_name, next_container, stays};
-ghost use Rattle.markdown_blocks.specs.Document.{DocumentStep};
+    ghost use Rattle.markdown_blocks.specs.Document.{DocumentStep};
     ghost use Rattle.markdown_blocks.specs.Resolved.{resolved_as};
 
     ghost step = { DocumentStep };
