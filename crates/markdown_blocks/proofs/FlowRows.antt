@@ -18,15 +18,15 @@ use Rattle.md_engine.specs.declared.tokenizer.ContainerKind.TheVariants as kind
 use Rattle.md_engine.specs.declared.tokenizer.Scratch.{Scratch}
 use Rattle.md_engine.specs.Ends.{ends_at, name_of, point_of, put}
 use Rattle.md_engine.specs.Meaning.{Accepts, Cell, Here, Outcome, Refuses}
-use Rattle.md_engine.specs.World.{Flags, closed_events}
-use Rattle.md_containers.specs.QuoteRule.{prefix_at, prefix_end, prefix_events, prefix_rest, quote_at, takes_prefix}
+use Rattle.md_engine.specs.World.{closed_events}
+use Rattle.md_containers.specs.QuoteRule.{prefix_at, prefix_end, prefix_events, prefix_rest, takes_prefix}
 use Rattle.md_containers.proofs.PrefixCells.{prefix-is, prefix-shorter, quote-is}
 use Rattle.md_content.specs.ChunkRule.{chunk_at, inside_chunk}
 use Rattle.md_content.specs.Chunks.{content_link}
 use Rattle.md_leaves.specs.Break.{without_marker}
 use Rattle.md_leaves.specs.BlankRule.{blank_at, blank_events}
 use Rattle.md_leaves.specs.BreakRule.{Apart, before_marker, break_at, broken, runs}
-use Rattle.md_leaves.specs.HeadingRule.{heading_at, heading_inside, is_heading_line}
+use Rattle.md_leaves.specs.HeadingRule.{heading_inside, is_heading_line}
 use Rattle.md_leaves.proofs.BreakSteps.{at-none, at-off, at-white, entered_here}
 use Rattle.md_leaves.proofs.HeadingWhole.{heading-refused, heading-taken}
 use Rattle.md_seam.specs.Ahead.{begins_white, from_ending, line_bytes, line_cells, line_end, white_end, white_rest}
@@ -38,7 +38,7 @@ use Rattle.md_seam.proofs.AheadLemmas.{none-end, none-rest, white-ending, white-
 use Rattle.md_seam.proofs.SpacesGoods.{rest-calm}
 use Rattle.md_seam.proofs.WhiteSteps.{behind_white}
 use Rattle.markdown_blocks.specs.FlowRule.{Rule, behind_containers, blank_ended, break_of, content_of, continues_at, ended, ended_to, existing_by, existing_from, flow_at, flow_lines, leaf_of, line_ended, line_then, new_from, new_of, nonblank_of, quote_opened, tried}
-use Rattle.markdown_blocks.specs.LineFlags.{begun_line, ending_name, next_container, next_line, stays, went_on, with_quote}
+use Rattle.markdown_blocks.specs.LineFlags.{begun_line, ending_name, next_line, stays, went_on}
 use Rattle.markdown_blocks.specs.Rows.{BlankRow, BreakRow, Front, Held, HeadingRow, Row, RowKind, TextRow, after_ending, break_inside, closes_before, ending_of, first_cell, held_at, held_by, held_of, in_front, inside_of, is_break, is_lazy, is_text, leaf_events, new_front, no_front, quote_ends, row_kind, row_of, rows_at, rows_events, went_front}
 use Rattle.markdown_blocks.proofs.FlowLemmas.{from_ending-shrinks}
 
@@ -758,7 +758,7 @@ flow-adds options (suc m) front tail p depth going cells h new rest fits b e =
     ∙ ap₂ (λ (es : List Event) (name : Name). es ++ behind x.depth (line_end x.cells x.point) name) d.events (ap ending_name d.blank ∙ ending-named k)
     ∙ regroup-row front (quote_ends x.closes p) tail x.front (added_by options x.cells x.point k) (quote_ends (closes_before x.depth below) (line_end x.cells x.point)) (ending_here (ending_of k) (line_end x.cells x.point) left) (rows_events below)
     ∙ ap₂ (λ (a c : List Event). front ++ (quote_ends x.closes p ++ (tail ++ (((x.front ++ a) ++ (quote_ends (closes_before x.depth below) (line_end x.cells x.point) ++ c)) ++ rows_events below))))
-      (sym (leaf-added options x below k)) (ending-same (ending_of k) (line_end x.cells x.point) left)
+    (sym (leaf-added options x below k)) (ending-same (ending_of k) (line_end x.cells x.point) left)
   where
     d : Done (flow_lines options m) options front tail p (held_at options depth going cells h.point) (line_then options (flow_lines options m) cells h)
     d = line-done options (flow_lines options m) front tail p depth going cells h b

@@ -1,11 +1,11 @@
 -- The prefix of a quote by the cells of a line: whether one stands there, what it adds, and what it leaves.
-use Rattle.std.proofs.Common.{◌≡◌, ℕ, zero, suc, ◌<◌, ◌≤◌, Bool, true, false, cond, ◌&&◌, List, [], ◌∷◌, ◌++◌, length, refl, sym, ap, ◌∙◌, arith, append_assoc}
+use Rattle.std.proofs.Common.{◌≡◌, ◌<◌, ◌≤◌, Bool, true, false, cond, ◌&&◌, List, [], ◌∷◌, ◌++◌, length, refl, ap, ◌∙◌, arith, append_assoc}
 use Rattle.std.specs.Prelude.{◌==◌}
 use Rattle.md_engine.specs.declared.configuration.ParseOptions.{ParseOptions}
 use Rattle.md_engine.specs.declared.event.Event.{Event}
 use Rattle.md_engine.specs.declared.event.Name.TheVariants.{BlockQuote, BlockQuoteMarker, BlockQuotePrefix, SpaceOrTab}
 use Rattle.md_engine.specs.declared.event.Point.{Point}
-use Rattle.md_engine.specs.Meaning.{Accepts, Cell, Here, Outcome, Refuses}
+use Rattle.md_engine.specs.Meaning.{Accepts, Cell, Here, Refuses}
 use Rattle.md_containers.specs.QuoteRule.{at_marker, behind_end, behind_events, behind_marker, behind_rest, has_marker, indent_events, marker_end, marker_events, marker_rest, prefix_at, prefix_end, prefix_events, prefix_rest, quote_at, takes_prefix}
 use Rattle.md_containers.proofs.QuoteLines.{prefix-marker}
 use Rattle.md_containers.proofs.QuoteSteps.{quote-off, quote-on}
