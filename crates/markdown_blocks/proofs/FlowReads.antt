@@ -1,5 +1,5 @@
 -- What flow has read of a text, by what pushing and flushing it do.
-use Rattle.std.proofs.Common.{◌≡◌, ◌≢◌, ◌⊎◌, inl, inr, ◌^◌, ◌<◌, ℕ, zero, suc, ◌&&◌, Bool, true, false, nat_eq, nat_lt, nat_le, List, [], ◌∷◌, ◌++◌, length, take, Option, Some, None, refl, sym, ◌∙◌, ap, ap₂, subst, arith, map}
+use Rattle.std.proofs.Common.{◌≡◌, ◌≢◌, ◌⊎◌, inl, inr, ◌^◌, ◌<◌, ℕ, zero, suc, ◌&&◌, Bool, true, false, nat_eq, nat_lt, nat_le, List, [], ◌∷◌, ◌++◌, length, take, drop, Option, Some, None, refl, sym, ◌∙◌, ap, ap₂, subst, arith, map}
 use Rattle.md_engine.specs.declared.configuration.ParseOptions.{ParseOptions}
 use Rattle.md_engine.specs.declared.event.Event.{Event}
 use Rattle.md_engine.specs.declared.event.Kind.{Kind}
@@ -13,7 +13,11 @@ use Rattle.md_engine.specs.declared.state.Name.{Name as StateName}
 use Rattle.md_engine.specs.declared.state.Name.TheVariants as s
 use Rattle.md_engine.specs.declared.state.State.{State}
 use Rattle.md_engine.specs.declared.state.State.TheVariants.{Next}
+use Rattle.md_engine.specs.declared.tokenizer.Container.{Container}
+use Rattle.md_engine.specs.declared.tokenizer.ContainerKind.{ContainerKind}
+use Rattle.md_engine.specs.declared.tokenizer.ContainerKind.TheVariants as kind
 use Rattle.md_engine.specs.declared.tokenizer.Frame.{Frame}
+use Rattle.md_engine.specs.Ends.{ends_at, name_of, point_of, put}
 use Rattle.md_engine.specs.Found.{Found, nothing, with_found}
 use Rattle.md_engine.specs.Meaning.{Accepts, comes_to, here}
 use Rattle.md_engine.specs.Run.{Flushes, Resolution, Resolved, Runs, goes_back, left, plain, reading}
@@ -21,8 +25,9 @@ use Rattle.md_engine.specs.Run.Resolved.{More, NoneYet}
 use Rattle.md_engine.specs.Run.Runs.{Stays, ThenCalls, ThenLeaves}
 use Rattle.md_engine.specs.Scheme.{stands}
 use Rattle.md_engine.specs.TextFeed.{text_feed}
-use Rattle.md_engine.specs.World.{Setting, World, fresh, reads_to, registered, registered_before}
+use Rattle.md_engine.specs.World.{Setting, World, closed, closed_events, fresh, reads_to, registered, registered_before}
 use Rattle.md_engine.proofs.Keeps.{runs-setting}
+use Rattle.md_containers.specs.Quote as quote
 use Rattle.md_content.specs.Chunks.{chunk_inside_code, content_link}
 use Rattle.md_seam.specs.Nested.{around, enter_link, exit}
 use Rattle.md_leaves.specs.Blank as blank
@@ -31,12 +36,15 @@ use Rattle.md_leaves.specs.Heading as heading
 use Rattle.md_leaves.specs.Heading.{heading_link, sees_text}
 use Rattle.md_seam.specs.Spaces as spaces
 use Rattle.md_seam.specs.Spaces.{ends_line, is_current, sees_white}
+use Rattle.md_seam.specs.Went.{entered, exited, taken}
 use Rattle.markdown_blocks.specs.Flow as flow
 use Rattle.markdown_blocks.specs.FlowReads.{FlowReads, NoHeading, NoText, ReadsContent, ReadsNone, SetsHeadings, SetsNone, text_cells, text_rows, text_setting}
+use Rattle.markdown_blocks.specs.LineFlags.{ending_name, next_container, stays}
 use Rattle.markdown_blocks.specs.Resolved.{resolved_as}
 use Rattle.markdown_blocks.specs.FlowRule.{flow_at, flow_behaves}
-use Rattle.markdown_blocks.specs.Rows.{HeadingRow, Row, RowKind, TextRow, ending_events, row_events, row_events_by, rows_events}
+use Rattle.markdown_blocks.specs.Rows.{HeadingRow, Row, RowKind, TextRow, leaf_events, row_events, row_events_by, rows_events, tail_events}
 use Rattle.markdown_blocks.specs.States.{FlowStep, flow_table_scheme, flow_went}
+use Rattle.markdown_blocks.proofs.FlowLemmas.{flow_by_line}
 use Rattle.markdown_blocks.proofs.FlowRows.{flow_at-rows}
 use Rattle.markdown_blocks.proofs.FlowRuns.{flow_outcome, flow_push}
 
@@ -151,17 +159,65 @@ chunk-inside is_name tells w true h = record {
 }
 chunk-inside is_name tells w false h = h
 
-calm-registers : (w : World) (o : Option ℕ) → Registers w → Registers (flow.calm w o)
-calm-registers w None h = h
-calm-registers w (Some b) h = h
+-- ends of containers end no part of these
+others-drop : (test : Kind → Name → Bool) (k : ℕ) (es : List Event) → Others test es → Others test (drop k es)
+others-drop test zero es o = o
+others-drop test (suc k) [] o = tt
+others-drop test (suc k) (e ∷ es) o = others-drop test k es o.1
 
-ending : (name : Name) → is_no_content Exit name ≡ true → is_no_heading Exit name ≡ true → (w : World) (o : Option ℕ) → Registers w → Registers (flow.ending_code name w o).world
-ending name k l w None h = h
-ending name k l w (Some b) h = go (nat_eq b 10) refl
+ends-others : (test : Kind → Name → Bool) → test Exit n.BlockQuote ≡ true → (cs : List Container) (p : Point) → Others test (ends_at cs p)
+ends-others test e [] p = tt
+ends-others test e (c ∷ cs) p = others-append test (ends_at cs p) (exit (name_of c.kind) p ∷ []) (ends-others test e cs p) (by c.kind, tt)
   where
-    go : (x : Bool) → nat_eq b 10 ≡ x → Registers (flow.ending_code name w (Some b)).world
-    go true e = rw e (adds _ _ w.resolvers k l (adds w.events _ w.resolvers refl refl h))
+    by : (k : ContainerKind) → test Exit (name_of k) ≡ true
+    by kind.BlockQuote = e
+
+others-put : (test : Kind → Name → Bool) (k : ℕ) (ends es : List Event) → Others test ends → Others test es → Others test (put k ends es)
+others-put test k ends es a o = others-append test (take k es ++ ends) (drop k es) (others-append test (take k es) ends (others-take test k es o) a) (others-drop test k es o)
+
+closes : (keep at : ℕ) (cs : List Container) (events : List Event) (p : Point) (names : List ResolveName) → RegistersBy events names → RegistersBy (closed_events keep at cs events p) names
+closes keep at cs events p names h = record {
+  content = h.content;
+  heading = h.heading;
+  names_are = h.names_are;
+  no_content = λ k. others-put is_no_content at (ends_at (drop keep cs) (point_of (drop at events) p)) events (ends-others is_no_content refl (drop keep cs) (point_of (drop at events) p)) (h.no_content k);
+  no_heading = λ k. others-put is_no_heading at (ends_at (drop keep cs) (point_of (drop at events) p)) events (ends-others is_no_heading refl (drop keep cs) (point_of (drop at events) p)) (h.no_heading k);
+}
+
+closed-registers : (w : World) (keep at : ℕ) → Registers w → Registers (closed w keep at)
+closed-registers w keep at h = closes keep at w.flags.containers w.events w.point w.resolvers h
+
+existing-before : (w : World) (o : Option Container) → Registers w → Registers (flow.existing_before_code w o).world
+existing-before w None h = h
+existing-before w (Some c) h = h
+
+ending : (w : World) (b : Bool) → Registers w → Registers (exited (taken (entered w (ending_name b))) (ending_name b))
+ending w true h = adds _ _ w.resolvers refl refl (adds w.events _ w.resolvers refl refl h)
+ending w false h = adds _ _ w.resolvers refl refl (adds w.events _ w.resolvers refl refl h)
+
+flow-end : (w : World) (o : Option ℕ) → Registers w → Registers (flow.flow_end_code w o).world
+flow-end w None h = closed-registers w 0 (length w.events) h
+flow-end w (Some b) h = go (nat_eq b 10) refl
+  where
+    go : (x : Bool) → nat_eq b 10 ≡ x → Registers (flow.flow_end_code w (Some b)).world
+    go true e = rw e (ending w w.flags.blank h)
     go false e = rw e h
+
+quote-start : (w : World) (b : Bool) → Registers w → Registers (quote.start_code w b).world
+quote-start w true h = adds w.events _ w.resolvers refl refl h
+quote-start w false h = h
+
+quote-cont-start : (w : World) (b : Bool) → Registers w → Registers (quote.cont_start_code w b).world
+quote-cont-start w true h = h
+quote-cont-start w false h = h
+
+quote-cont-before : (w : World) (b : Bool) → Registers w → Registers (quote.cont_before_code w b).world
+quote-cont-before w true h = adds _ _ w.resolvers refl refl (adds _ _ w.resolvers refl refl (adds w.events _ w.resolvers refl refl h))
+quote-cont-before w false h = h
+
+quote-cont-after : (w : World) (b : Bool) → Registers w → Registers (quote.cont_after_code w b).world
+quote-cont-after w true h = adds _ _ w.resolvers refl refl (adds _ _ w.resolvers refl refl (adds w.events _ w.resolvers refl refl h))
+quote-cont-after w false h = adds w.events _ w.resolvers refl refl h
 
 heading-start : (w : World) (a b : Bool) → Registers w → Registers (heading.start_code w a b).world
 heading-start w false b h = h
@@ -247,8 +303,18 @@ went-registers is_name tells s.FlowBlankLineBefore w h = h
 went-registers is_name tells s.FlowBeforeHeadingAtx w h = h
 went-registers is_name tells s.FlowBeforeThematicBreak w h = h
 went-registers is_name tells s.FlowBeforeContent w h = h
-went-registers is_name tells s.FlowBlankLineAfter w h = ending n.BlankLineEnding refl refl (flow.calm w w.current) (flow.calm w w.current).current (calm-registers w w.current h)
-went-registers is_name tells s.FlowAfter w h = ending n.LineEnding refl refl w w.current h
+went-registers is_name tells s.FlowBlankLineAfter w h = h
+went-registers is_name tells s.FlowAfter w h = h
+went-registers is_name tells s.BlockQuoteStart w h = quote-start w w.setting.options.constructs.block_quote h
+went-registers is_name tells s.BlockQuoteContStart w h = quote-cont-start w (sees_white w.current) h
+went-registers is_name tells s.BlockQuoteContBefore w h = quote-cont-before w (is_current 62 w.current) h
+went-registers is_name tells s.BlockQuoteContAfter w h = quote-cont-after w (sees_white w.current) h
+went-registers is_name tells s.DocumentContainerExistingBefore w h = existing-before w (next_container w.flags) h
+went-registers is_name tells s.DocumentContainerExistingAfter w h = h
+went-registers is_name tells s.DocumentContainerNewBefore w h = h
+went-registers is_name tells s.DocumentContainerNewAfter w h = closed-registers w w.flags.continued w.flags.line_end h
+went-registers is_name tells s.DocumentContainersAfter w h = h
+went-registers is_name tells s.DocumentFlowEnd w h = flow-end (closed w (stays w.flags) w.flags.line_end) w.current (closed-registers w (stays w.flags) w.flags.line_end h)
 went-registers is_name tells s.HeadingAtxStart w h = heading-start w w.setting.options.constructs.heading_atx (sees_white w.current) h
 went-registers is_name tells s.HeadingAtxBefore w h = heading-before w (is_current 35 w.current) h
 went-registers is_name tells s.HeadingAtxSequenceOpen w h = heading-open w (is_current 35 w.current && nat_lt w.scratch.size 6) (sees_text w.current) (sees_white w.current) h
@@ -355,7 +421,9 @@ resolved-named R w b false names found new h e =
 others-text : (k : RowKind) (row : Row) → Others is_no_content (row_events_by k row) → k ≢ TextRow
 others-text k row o e =
     let P : RowKind → Type 0 = λ x. Others is_no_content (row_events_by x row) in
-    let bad : false ≡ true = (subst P e o).1.0 in
+    let leaf : List Event = leaf_events TextRow row in
+    let inside = others-behind is_no_content row.front leaf (others-front is_no_content (row.front ++ leaf) (tail_events n.LineEnding row) (subst P e o)) in
+    let bad : false ≡ true = inside.1.0 in
     absurd (cc)
 
 no-text : (rows : List Row) → Others is_no_content (rows_events rows) → NoText rows
@@ -365,7 +433,8 @@ no-text (row ∷ rows) o = (others-text row.kind row (others-front is_no_content
 others-heading : (k : RowKind) (row : Row) → Others is_no_heading (row_events_by k row) → k ≢ HeadingRow
 others-heading k row o e =
     let P : RowKind → Type 0 = λ x. Others is_no_heading (row_events_by x row) in
-    let inside = others-front is_no_heading (around n.HeadingAtx row.first row.end row.inside) (ending_events n.LineEnding row) (subst P e o) in
+    let leaf : List Event = around n.HeadingAtx row.first row.end row.inside in
+    let inside = others-behind is_no_heading row.front leaf (others-front is_no_heading (row.front ++ leaf) (tail_events n.LineEnding row) (subst P e o)) in
     let bad : false ≡ true = (others-behind is_no_heading row.inside (exit n.HeadingAtx row.end ∷ []) inside.1).0 in
     absurd (cc)
 
@@ -384,11 +453,11 @@ sets-by R rows false at was found new none h = inl (record { no_heading = none r
 
 -- what flow has read of a text from a point on, once all of it was pushed and flushed
 pub flow-reads : (is_name : ResolveName → ResolveName → Bool) (R : Resolution) (bytes : List ℕ) (options : ParseOptions) (p : Point) (end : State) (at : World) (found : Found) (new : World) → length bytes < 2 ^ 61 →
-    Runs (FlowStep is_name) false (Next s.FlowStart) (reads_to (fresh bytes options p) (length bytes)) end at →
+    Runs (FlowStep is_name) false (Next s.DocumentContainerExistingBefore) (reads_to (fresh bytes options p) (length bytes)) end at →
     Flushes (FlowStep is_name) R end at true found new → is_name r.Content r.Content ≡ true → is_name r.HeadingAtx r.HeadingAtx ≡ true → is_name r.Content r.HeadingAtx ≡ false → is_name r.HeadingAtx r.Content ≡ false →
     FlowReads R bytes options p found new
 flow-reads is_name R bytes options p end at found new small run f c h ch hc =
-    go (runs-register is_name true end at tells (runs-register is_name false (Next s.FlowStart) (reads_to w0 (length bytes)) tells none-yet end at run) f.end f.at f.runs)
+    go (runs-register is_name true end at tells (runs-register is_name false (Next s.DocumentContainerExistingBefore) (reads_to w0 (length bytes)) tells none-yet end at run) f.end f.at f.runs)
   where
     w0 : World
     w0 = fresh bytes options p
@@ -396,14 +465,14 @@ flow-reads is_name R bytes options p end at found new small run f c h ch hc =
     tells : Tells is_name
     tells = record { content = c; heading = h; no_content = hc; no_heading = ch }
 
-    begun : stands flow_table_scheme (reads_to (fresh bytes options p) (length bytes)) (Next s.FlowStart)
-    begun = (refl, record { ok = λ s q t is up way. tt; nok = λ s q t is up. tt })
+    begun : stands flow_table_scheme (reads_to (fresh bytes options p) (length bytes)) (Next s.DocumentContainerExistingBefore)
+    begun = ((refl, record { ok = λ s q t is up way. tt; nok = λ s q t is up. tt }), tt)
 
-    pushed : (comes_to (flow_behaves options) (text_feed (text_setting bytes options p)) (Next s.FlowStart) (fresh bytes options p) ≡ comes_to (flow_behaves options) (text_feed (text_setting bytes options p)) end at) × stands flow_table_scheme at (plain end)
-    pushed = flow_push is_name (Next s.FlowStart) end (fresh bytes options p) at (length bytes) (length bytes) small (omega arith) begun run
+    pushed : (comes_to (flow_behaves options) (text_feed (text_setting bytes options p)) (Next s.DocumentContainerExistingBefore) (fresh bytes options p) ≡ comes_to (flow_behaves options) (text_feed (text_setting bytes options p)) end at) × stands flow_table_scheme at (plain end)
+    pushed = flow_push is_name (Next s.DocumentContainerExistingBefore) end (fresh bytes options p) at (length bytes) (length bytes) small (omega arith) begun run
 
     kept : at.setting ≡ text_setting bytes options p
-    kept = runs-setting (FlowStep is_name) false (Next s.FlowStart) (reads_to (fresh bytes options p) (length bytes)) end at run
+    kept = runs-setting (FlowStep is_name) false (Next s.DocumentContainerExistingBefore) (reads_to (fresh bytes options p) (length bytes)) end at run
 
     limit : at.setting.limit < 2 ^ 61
     limit = let P : Setting → Type 0 = λ y. y.limit < 2 ^ 61 in subst P (sym kept) small
@@ -411,7 +480,7 @@ flow-reads is_name R bytes options p end at found new small run f c h ch hc =
     means : comes_to (flow_behaves at.setting.options) (text_feed at.setting) end at ≡ flow_at at.setting.options (text_cells bytes options p) (here (fresh bytes options p))
     means =
         let P : Setting → Type 0 = λ y. comes_to (flow_behaves y.options) (text_feed y) end at ≡ flow_at y.options (text_cells bytes options p) (here (fresh bytes options p)) in
-        subst P (sym kept) (sym pushed.0)
+        subst P (sym kept) (sym pushed.0 ∙ sym (flow_by_line options (text_cells bytes options p) (here (fresh bytes options p))))
 
     out : flow_at options (text_cells bytes options p) (here (fresh bytes options p)) ≡ Accepts (here f.at) []
     out =
@@ -419,7 +488,7 @@ flow-reads is_name R bytes options p end at found new small run f c h ch hc =
         subst P kept (flow_outcome is_name R end at true found new (text_cells bytes options p) (here (fresh bytes options p)) limit pushed.1 means f)
 
     events : f.at.events ≡ rows_events (text_rows options bytes p)
-    events = flow_at-rows options (text_cells bytes options p) (here (fresh bytes options p)) (here f.at) [] out
+    events = flow_at-rows options (text_cells bytes options p) (here (fresh bytes options p)) (here f.at) [] refl refl refl refl refl refl refl out
 
     setting : f.at.setting ≡ text_setting bytes options p
     setting = runs-setting (FlowStep is_name) true end at f.end f.at f.runs ∙ kept
@@ -443,12 +512,12 @@ flow-reads is_name R bytes options p end at found new small run f c h ch hc =
 
 -- the same for a tokenizer that is known to be fresh
 pub flow-reads-from : (is_name : ResolveName → ResolveName → Bool) (R : Resolution) (bytes : List ℕ) (options : ParseOptions) (p : Point) (start : World) (to : ℕ) (end : State) (at : World) (found : Found) (new : World) → start ≡ fresh bytes options p → to ≡ length bytes → length bytes < 2 ^ 61 →
-    Runs (FlowStep is_name) false (Next s.FlowStart) (reads_to start to) end at →
+    Runs (FlowStep is_name) false (Next s.DocumentContainerExistingBefore) (reads_to start to) end at →
     Flushes (FlowStep is_name) R end at true found new → is_name r.Content r.Content ≡ true → is_name r.HeadingAtx r.HeadingAtx ≡ true → is_name r.Content r.HeadingAtx ≡ false → is_name r.HeadingAtx r.Content ≡ false →
     FlowReads R bytes options p found new
 flow-reads-from is_name R bytes options p start to end at found new same all small run f c h ch hc =
-    let P : World → Type 0 = λ w. Runs (FlowStep is_name) false (Next s.FlowStart) (reads_to w (length bytes)) end at in
-    let Q : ℕ → Type 0 = λ n. Runs (FlowStep is_name) false (Next s.FlowStart) (reads_to start n) end at in
+    let P : World → Type 0 = λ w. Runs (FlowStep is_name) false (Next s.DocumentContainerExistingBefore) (reads_to w (length bytes)) end at in
+    let Q : ℕ → Type 0 = λ n. Runs (FlowStep is_name) false (Next s.DocumentContainerExistingBefore) (reads_to start n) end at in
     flow-reads is_name R bytes options p end at found new small (subst P same (subst Q all run)) f c h ch hc
 
 -- What is known behind the resolvers of flow.

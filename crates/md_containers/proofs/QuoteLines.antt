@@ -201,7 +201,7 @@ at-marker line text past r stop h is e k = go r.spaces r.bytes is (bare r e)
 -- The whole prefix.
 
 -- it is a small indent, and what stands from the marker on
-prefix-marker : (options : ParseOptions) (cells : List Cell) (h : Here) → IsRest h.scratch →
+pub prefix-marker : (options : ParseOptions) (cells : List Cell) (h : Here) → IsRest h.scratch →
     prefix_at options cells h ≡ at_marker (white_rest (small_indent options) cells) (record h { events = h.events ++ indent_events options cells h.point; point = white_end (small_indent options) cells h.point })
 unfolding prefix_at
 prefix-marker options cells h is = go (begins_white cells) refl
