@@ -6,6 +6,7 @@ pub mod FlowRuns
 pub mod FlowEnds
 pub mod PiecesLemmas
 pub mod FrontFacts
+pub mod FrontLemmas
 pub mod RowFacts
 pub mod HeadingSpread
 pub mod LineKinds
