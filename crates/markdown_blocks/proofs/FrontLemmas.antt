@@ -104,13 +104,13 @@ fronts-are bytes opens p q es (Goes k a b c xs ys prefix rest) = front-append xs
 fronts-are bytes opens p q es (Begins k a b c xs ys prefix rest) = (refl, refl, front-append xs ys (prefixes-front xs (prefix-are bytes a b xs prefix)) (fronts-are bytes k b c ys rest))
 
 -- none of them is content or a heading
-pub front-no_content : (name : Name) → is_front name ≡ true → is_content name ≡ false
-front-no_content n.Content h = cc
-front-no_content _ h = refl
+pub front-content : (name : Name) → is_front name ≡ true → is_content name ≡ false
+front-content n.Content h = cc
+front-content _ h = refl
 
-pub front-no_heading : (name : Name) → is_front name ≡ true → is_heading name ≡ false
-front-no_heading n.HeadingAtx h = cc
-front-no_heading _ h = refl
+pub front-heading : (name : Name) → is_front name ≡ true → is_heading name ≡ false
+front-heading n.HeadingAtx h = cc
+front-heading _ h = refl
 
 -- What goes on behind them.
 
