@@ -24,7 +24,7 @@ use Rattle.markdown_blocks.specs.Rows.{BlankRow, BreakRow, Group, HeadingRow, He
 use Rattle.markdown_blocks.specs.Rows as lines
 use Rattle.markdown_blocks.specs.Unread.{joined_groups, linked_lines}
 use Rattle.markdown_blocks.proofs.FrontLemmas.{AreFront, HasFront, front-content, fronts-are, fronts-prefixes, fronts-stop, prefixes-content}
-use Rattle.markdown_blocks.proofs.SubstitutedLemmas.{Unwanted, no_links-unwanted}
+use Rattle.markdown_blocks.proofs.SubstitutedLemmas.{Unwanted, no_link-unwanted}
 
 -- events none of which is content, or begins a chunk that the reader wants
 abbrev pub NoContent : (Content → Bool) → List Event → Type 0
@@ -147,9 +147,6 @@ ends-no_content wants (suc many) p = (refl, refl, ends-no_content wants many p)
 pub tail-no_content : (wants : Content → Bool) (name : Name) (row : Row) → is_content name ≡ false → NoContent wants (tail_events name row)
 tail-no_content wants name row h = no_content-append wants (quote_ends row.leaves row.end) (ending_events name row) (ends-no_content wants row.leaves row.end) (ending-no_content wants name row h)
 
-no_link-unwanted : (wants : Content → Bool) (e : Event) → e.link ≡ None → wanted wants e ≡ None
-no_link-unwanted wants e h = (no_links-unwanted wants (e ∷ []) (h, tt)).0
-
 -- and in front of it
 pub front-no_content : (wants : Content → Bool) (es : List Event) → AreFront es → NoContent wants es
 front-no_content wants [] h = tt
@@ -228,21 +225,24 @@ EachFront bytes (row ∷ rows) = HasFront bytes row × EachFront bytes rows
 abbrev text_events : Row → List Event
 text_events row = enter_link n.Content row.first content_link ∷ exit n.Content row.end ∷ []
 
--- a line of content that goes on takes its ending, and another keeps its end
+-- a line of content that goes on takes its ending
 text-goes_on : (first end q : Point) (es : List Event) → content_behind es ≡ true →
     joined (enter_link n.Content first content_link ∷ exit n.Content end ∷ pair n.LineEnding end q ++ es) ≡ enter_link n.Content first content_link ∷ exit n.Content q ∷ joined es
 text-goes_on first end q es h =
     ap (λ (x : Bool). enter_link n.Content first content_link ∷ cond x (exit n.Content q ∷ joined es) (exit n.Content end ∷ joined (pair n.LineEnding end q ++ es))) h
 
+-- an event that is not joined with what follows
 joined-keeps : (e : Event) (es : List Event) → goes_on es ≡ false → joined (e ∷ es) ≡ e ∷ joined es
 joined-keeps e [] h = refl
 joined-keeps e (f ∷ []) h = refl
 joined-keeps e (f ∷ g ∷ es) h = ap (λ (x : Bool). cond x (record e { point = g.point } ∷ joined es) (e ∷ joined (f ∷ g ∷ es))) (and_right (is_exit e.kind && is_content e.name) (goes_on (f ∷ g ∷ es)) h)
 
+-- nothing goes on over what is no line ending
 no_ending-stops : (e : Event) (es : List Event) → is_line_ending e.name ≡ false → goes_on (e ∷ es) ≡ false
 no_ending-stops e [] h = refl
 no_ending-stops e (f ∷ es) h = ap (λ (x : Bool). x && content_behind es) h
 
+-- a line of text that does not go on
 text-ends : (row : Row) (es : List Event) → goes_on (tail_events n.LineEnding row ++ es) ≡ false → joined ((text_events row ++ tail_events n.LineEnding row) ++ es) ≡ (text_events row ++ tail_events n.LineEnding row) ++ joined es
 text-ends row es h =
     let tail = tail_events n.LineEnding row in
@@ -267,7 +267,7 @@ events-front row es =
     ap (λ (l : List Event). l ++ es) (append_assoc row.front (leaf_events row.kind row) (tail_events (ending_of row.kind) row))
     ∙ append_assoc row.front (leaf_events row.kind row ++ tail_events (ending_of row.kind) row) es
 
--- a line of text that does not go on
+-- and what stands in front of it
 text-apart : (bytes : List ℕ) (row : Row) (es : List Event) → HasFront bytes row → goes_on (tail_events n.LineEnding row ++ es) ≡ false → joined (row_events_by TextRow row ++ es) ≡ row_events_by TextRow row ++ joined es
 text-apart bytes row es front h =
     let tail = tail_events n.LineEnding row in
@@ -408,13 +408,10 @@ joined-rows bytes (row ∷ []) fronts ends h = go row.kind refl
     go TextRow e = ap (λ (kind : RowKind). joined (row_events_by kind row ++ [])) e ∙ text-last bytes row fronts.0
 joined-rows bytes (row ∷ below ∷ rows) fronts ends h = go (joined-rows bytes (below ∷ rows) fronts.1 ends.2 h.1) row.kind refl
   where
-    same_groups : Type 0
-    same_groups = joined (rows_events (below ∷ rows)) ≡ joined_groups (groups (below ∷ rows))
-
-    other : same_groups → (kind : RowKind) → row.kind ≡ kind → (kind ≡ TextRow → ⊥) → joined (row_events row ++ rows_events (below ∷ rows)) ≡ joined_groups (Single row ∷ groups (below ∷ rows))
+    other : joined (rows_events (below ∷ rows)) ≡ joined_groups (groups (below ∷ rows)) → (kind : RowKind) → row.kind ≡ kind → (kind ≡ TextRow → ⊥) → joined (row_events row ++ rows_events (below ∷ rows)) ≡ joined_groups (Single row ∷ groups (below ∷ rows))
     other same kind e apart = single-rows row (below ∷ rows) (events-no_content nothing bytes row kind e apart fronts.0 (h.0 nothing (λ k. refl))) same
 
-    go : same_groups → (kind : RowKind) → row.kind ≡ kind → joined (row_events row ++ rows_events (below ∷ rows)) ≡ joined_groups (onto_groups row kind (groups (below ∷ rows)))
+    go : joined (rows_events (below ∷ rows)) ≡ joined_groups (groups (below ∷ rows)) → (kind : RowKind) → row.kind ≡ kind → joined (row_events row ++ rows_events (below ∷ rows)) ≡ joined_groups (onto_groups row kind (groups (below ∷ rows)))
     go same BlankRow e = other same BlankRow e (λ k. cc)
     go same HeadingRow e = other same HeadingRow e (λ k. cc)
     go same BreakRow e = other same BreakRow e (λ k. cc)

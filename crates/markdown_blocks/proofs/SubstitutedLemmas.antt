@@ -26,7 +26,7 @@ Unwanted wants [] = Unit {0}
 Unwanted wants (e ∷ es) = (wanted wants e ≡ None) × Unwanted wants es
 
 -- an event with no link begins no chunk
-no_link-unwanted : (wants : Content → Bool) (e : Event) → e.link ≡ None → wanted wants e ≡ None
+pub no_link-unwanted : (wants : Content → Bool) (e : Event) → e.link ≡ None → wanted wants e ≡ None
 no_link-unwanted wants e h = go e.kind e.link h
   where
     go : (kind : Kind) (link : Option Link) → link ≡ None → wanted_at wants kind link ≡ None
@@ -169,11 +169,13 @@ CutAt row (next ∷ rows) left done =
     (mine more rest : List Event) × (left_is : left ≡ mine ++ more) × (here : AllBelong (behind_row row).index mine) × (behind : NextBelongs (behind_row row).index more)
     × (done_is : done ≡ mine ++ (next.front ++ rest)) × CutAt next rows more rest
 
+-- where the events of a chunk end, its share ends
 belongs-cut : (end : ℕ) (xs ys : List Event) → AllBelong end xs → NextBelongs end ys → prefix_len (belongs end) (xs ++ ys) ≡ length xs
 belongs-cut end [] [] h k = refl
 belongs-cut end [] (y ∷ ys) h k = ap (λ (x : Bool). cond x (1 + prefix_len (belongs end) ys) 0) k
 belongs-cut end (x ∷ xs) ys h k = let more = belongs-cut end xs ys h.1 k in ap (λ (t : Bool). cond t (1 + prefix_len (belongs end) (xs ++ ys)) 0) h.0 ∙ omega arith
 
+-- the events of a line, and what stands behind it
 share-joins : (mine front more rest over left out done : List Event) → out ≡ mine ++ rest → rest ≡ front ++ over → over ≡ more ++ left → done ≡ mine ++ (front ++ more) → out ≡ done ++ left
 share-joins mine front more rest over left out done here between below all =
     here
@@ -181,6 +183,7 @@ share-joins mine front more rest over left out done here between below all =
     ∙ sym (append_assoc mine (front ++ more) left)
     ∙ ap (λ (l : List Event). l ++ left) (sym all)
 
+-- each line takes its share of what is left
 shares : (wants : Content → Bool) (reads : Readings) (name : Name) (link : Link) (row : Row) (rows : List Row) (ys left done out rest : List Event) → wants link.content ≡ true → EachPrefixed rows → CutAt row rows left done →
     out ≡ take (share (length rows) left (line_after row rows).index) left ++ rest →
     Substituted wants reads (drop (share (length rows) left (line_after row rows).index) left) (length rows) (further_lines name link rows ys) rest → Rest wants reads done ys out
@@ -247,7 +250,7 @@ becomes-around wants reads name p q xs zs h =
     (becomes-append wants reads xs zs (exit name q ∷ []) (exit name q ∷ []) h (becomes-same wants reads (exit name q ∷ []) (refl, tt)))
 
 -- behind the end of a block no more of its part stands
-behind-exit : (wants : Content → Bool) (name : Name) (p : Point) (es : List Event) → is_prefix name ≡ false → chunks_behind wants (exit name p ∷ es) ≡ []
+pub behind-exit : (wants : Content → Bool) (name : Name) (p : Point) (es : List Event) → is_prefix name ≡ false → chunks_behind wants (exit name p ∷ es) ≡ []
 behind-exit wants name p [] h = refl
 behind-exit wants name p (e ∷ es) h = ap (λ (x : Bool). cond x (chunks_behind wants (e ∷ es)) []) h
 
