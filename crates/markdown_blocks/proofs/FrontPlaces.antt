@@ -10,7 +10,7 @@ use Rattle.markdown_blocks.proofs.FrontFacts.{Behind, Begins, Fronts, Goes, IsPr
 order-grows : (p q : Point) → IsTrue (at_or_before p q) → p.index ≤ q.index
 order-grows p q h = grind (arith, nat_tests)
 
-prefix-grows : (bytes : List ℕ) (p q : Point) (es : List Event) → IsPrefix bytes p q es → p.index ≤ q.index
+pub prefix-grows : (bytes : List ℕ) (p q : Point) (es : List Event) → IsPrefix bytes p q es → p.index ≤ q.index
 prefix-grows bytes p q es is =
     let before = order-grows p is.marker is.indent in
     let behind = order-grows is.behind q is.column in

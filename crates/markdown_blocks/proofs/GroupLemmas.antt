@@ -1,10 +1,11 @@
 -- The events of the lines of a text, joined and read, are those of its blocks.
-use Rattle.std.proofs.Common.{◌≡◌, ◌≢◌, ℕ, ◌+◌, ◌-◌, ◌<◌, ◌≤◌, Bool, true, false, cond, ◌&&◌, List, [], ◌∷◌, ◌++◌, length, take, drop, slice_range, refl, ap, sym, ◌∙◌, subst, append_assoc, append-nil, drop-drop, arith}
-use Rattle.std.specs.Prelude.{◌==◌, IsTrue, Option, Some, None}
+use Rattle.std.proofs.Common.{◌≡◌, ◌≢◌, ℕ, zero, suc, ◌+◌, ◌-◌, ◌<◌, ◌≤◌, Bool, true, false, cond, ◌&&◌, List, [], ◌∷◌, ◌++◌, length, take, drop, slice_range, refl, ap, sym, ◌∙◌, subst, append_assoc, append-nil, drop-drop, arith}
+use Rattle.std.specs.Prelude.{◌==◌, not, IsTrue, Option, Some, None}
 use Rattle.std.specs.List.{list_all}
 use Rattle.std.proofs.lemmas.Bool.{and_from, eq-eqb, and_right}
 use Rattle.std.proofs.lemmas.Bool.Decides.{nat_tests}
 use Rattle.std.proofs.lemmas.List.{length-take-le, take-append-drop}
+use Rattle.std.proofs.lemmas.List.Sums.{take_while-cons}
 use Rattle.md_engine.specs.declared.configuration.ParseOptions.{ParseOptions}
 use Rattle.md_engine.specs.declared.event.Content.{Content}
 use Rattle.md_engine.specs.declared.event.Content.TheVariants as content
@@ -17,30 +18,34 @@ use Rattle.md_content.specs.Chunks.{content_link}
 use Rattle.md_content.specs.Joined.{joined}
 use Rattle.md_content.specs.Paragraph.{text_link}
 use Rattle.md_leaves.specs.Heading.{heading_link}
-use Rattle.md_leaves.specs.HeadingRule as heading
 use Rattle.md_leaves.specs.HeadingText.{Before, Outside, begins, headings_resolved, is_heading, linked_text, resolved}
-use Rattle.md_leaves.specs.HeadingTitle.{Title, front_len, line_runs, text_of, title_of, unread_title}
+use Rattle.md_leaves.specs.HeadingTitle.{Title, front_len, text_of, title_of, unread_title}
 use Rattle.md_leaves.proofs.TitleLemmas.{title-fits, title-text}
 use Rattle.md_seam.specs.declared.inline.Chunk.{Chunk}
 use Rattle.md_seam.specs.declared.inline.PartKind.TheVariants.{Text}
-use Rattle.md_seam.specs.Inline.{are_lines, is_none, is_one_line, plain_events}
-use Rattle.md_seam.specs.Nested.{around, exit, pair, is_enter}
-use Rattle.md_seam.specs.Places.{past_text, same_place}
+use Rattle.md_seam.specs.Inline.{are_lines, is_none, is_one_line, line_end, pair_unless_empty, plain_chunk, plain_events}
+use Rattle.md_seam.specs.Lines.{is_ending, without_ending}
+use Rattle.md_seam.specs.Nested.{around, enter, enter_link, exit, pair, is_enter}
+use Rattle.md_seam.specs.Places.{past_byte, past_text, same_place}
 use Rattle.md_seam.specs.Spelled.{role}
-use Rattle.md_seam.specs.Substituted.{Readings, Substituted, chunks_behind}
+use Rattle.md_seam.specs.Substituted.{Readings, Substituted, belongs, chunks_behind}
 use Rattle.md_seam.specs.Texts.{split_lines}
 use Rattle.md_seam.proofs.InlineLemmas.{past-index}
 use Rattle.md_seam.proofs.SpelledLemmas.{Quiet, Roles}
 use Rattle.md_seam.proofs.TextsLemmas.{Ending, EndsBefore, LineFeed, NoEnding, Return, Both, ending_bytes, split-line, split-next, no_ending-drop}
 use Rattle.markdown_blocks.specs.FlowReads.{NoHeading, NoText}
-use Rattle.markdown_blocks.specs.Rows.{BlankRow, BreakRow, Group, HeadingRow, Lines, Row, RowKind, Single, TextRow, behind_row, chunks_of, ending_events, group_events, groups, groups_events, last_row, line_kind, onto_groups, paragraph_events, read_text, read_title, row_events, row_events_by, row_title, rows_events, single_events_by}
-use Rattle.markdown_blocks.specs.Unread.{joined_groups, linked, titled_group, titled_groups, titled_row_by, unread_group, unread_groups, unread_paragraph}
-use Rattle.md_seam.proofs.FeedLines.{past_text-whole, slice-inside}
-use Rattle.markdown_blocks.proofs.JoinedLemmas.{EachEnds, EachNoContent, HasNoContent, behind-is, ending-is, ending-no_content, events-no_content, joined-rows, no_content-unwanted}
+use Rattle.markdown_blocks.specs.Rows.{BlankRow, BreakRow, Group, HeadingRow, Lines, Row, RowKind, Single, TextRow, behind_row, chunks_of, ending_events, goes_on, group_events, groups, groups_events, is_text, last_row, line_kind, onto_groups, paragraph_events, quote_ends, read_lines, read_text, read_title, row_events, row_events_by, row_title, rows_events, single_events_by, tail_events}
+use Rattle.markdown_blocks.specs.Fronted.{quoted, rest_from, rest_line}
+use Rattle.markdown_blocks.specs.Unread.{joined_groups, linked, linked_lines, titled_group, titled_groups, titled_row_by, unread_group, unread_groups, unread_paragraph}
+use Rattle.md_seam.proofs.FeedLines.{ending-some, past_text-whole, slice-inside}
+pub use Rattle.markdown_blocks.proofs.FrontNames.{HasFront}
+use Rattle.markdown_blocks.proofs.FrontNames.{AreFront, ArePrefixes, front-heading, fronts-are, fronts-prefixes, prefixes-front}
+use Rattle.markdown_blocks.proofs.FrontPlaces.{fronts-grow}
+use Rattle.markdown_blocks.proofs.JoinedLemmas.{EachEnds, EachFront, EachNoContent, HasNoContent, behind-is, ending-is, events-no_content, has_front-no_content, joined-rows, no_content-unwanted, tail-no_content}
 use Rattle.markdown_blocks.proofs.LineKinds.{heading-kind, no_ending-parts}
 use Rattle.markdown_blocks.proofs.FrontFacts.{Fronts}
-use Rattle.markdown_blocks.proofs.RowFacts.{AreRows, IsEnding, IsRow, first-is, line-text}
-use Rattle.markdown_blocks.proofs.SubstitutedLemmas.{Becomes, Rest, Unwanted, becomes-append, becomes-around, becomes-same, no_links-unwanted, part-becomes, passes, places}
+use Rattle.markdown_blocks.proofs.RowFacts.{AreRows, IsEnding, IsLine, IsRow, depth_behind, line-text}
+use Rattle.markdown_blocks.proofs.SubstitutedLemmas.{AllBelong, Becomes, CutAt, EachPrefixed, NextBelongs, Rest, Unwanted, becomes-append, becomes-around, becomes-same, behind-exit, line_after, lines-becomes, no_links-unwanted, part-becomes, passes, places}
 use Rattle.markdown_blocks.proofs.TitleFacts.{back-unlinked, front-unlinked, heading-resolved}
 
 -- The groups of a text.
@@ -51,10 +56,6 @@ IsParagraph options bytes row [] = (line : List ℕ) × (is : IsRow options byte
 IsParagraph options bytes row (next ∷ rows) =
     (line : List ℕ) × (is : IsRow options bytes line row) × (text : row.kind ≡ TextRow)
     × (q : Point) × (after : row.after ≡ Some q) × (ending : IsEnding bytes row.end q) × (front : Fronts bytes 0 q next.first next.front) × IsParagraph options bytes next rows
-
--- what stands in front of a line are prefixes and begins of quotes
-abbrev pub HasFront : List ℕ → Row → Type 0
-HasFront bytes row = (p : Point) × Fronts bytes row.opens p row.first row.front
 
 -- a line has an ending if more follows
 abbrev pub EndsBeforeGroups : Row → List Group → Type 0
@@ -75,55 +76,100 @@ AreGroups options bytes [] = Unit {0}
 AreGroups options bytes (Single row ∷ gs) = IsSingle options bytes row × AreGroups options bytes gs
 AreGroups options bytes (Lines row rows ∷ gs) = IsParagraph options bytes row rows × EndsBeforeGroups (last_row row rows) gs × HasFront bytes row × AreGroups options bytes gs
 
--- the first line of groups begins here
-abbrev FirstAt : Point → List Group → Type 0
-FirstAt p [] = Unit {0}
-FirstAt p (Single row ∷ gs) = row.first ≡ p
-FirstAt p (Lines row rows ∷ gs) = row.first ≡ p
+-- the first line of groups stands behind this point
+abbrev FrontAt : List ℕ → Point → List Group → Type 0
+FrontAt bytes p [] = Unit {0}
+FrontAt bytes p (Single row ∷ gs) = Fronts bytes row.opens p row.first row.front
+FrontAt bytes p (Lines row rows ∷ gs) = Fronts bytes row.opens p row.first row.front
 
-onto-first : (p : Point) (row : Row) (kind : RowKind) (gs : List Group) → row.first ≡ p → FirstAt p (onto_groups row kind gs)
-onto-first p row BlankRow gs h = h
-onto-first p row HeadingRow gs h = h
-onto-first p row BreakRow gs h = h
-onto-first p row TextRow [] h = h
-onto-first p row TextRow (Single first ∷ gs) h = h
-onto-first p row TextRow (Lines first rows ∷ gs) h = h
+onto-front : (bytes : List ℕ) (p : Point) (row : Row) (kind : RowKind) (gs : List Group) → Fronts bytes row.opens p row.first row.front → FrontAt bytes p (onto_groups row kind gs)
+onto-front bytes p row BlankRow gs h = h
+onto-front bytes p row HeadingRow gs h = h
+onto-front bytes p row BreakRow gs h = h
+onto-front bytes p row TextRow [] h = h
+onto-front bytes p row TextRow (Single first ∷ gs) h = h
+onto-front bytes p row TextRow (Lines first rows ∷ gs) h = go (goes_on row first)
+  where
+    go : (x : Bool) → FrontAt bytes p (cond x (Lines row (first ∷ rows) ∷ gs) (Lines row [] ∷ Lines first rows ∷ gs))
+    go true = h
+    go false = h
+
+-- a line, with what stands in front of it
+record IsBegun (options : ParseOptions) (bytes line : List ℕ) (p : Point) (row : Row) : Type 0 where
+  is : IsRow options bytes line row
+  front : Fronts bytes row.opens p row.first row.front
+  quiet : HasNoContent row
+
+alone-is : (options : ParseOptions) (bytes line : List ℕ) (p : Point) (row : Row) → IsBegun options bytes line p row → row.kind ≢ TextRow → IsSingle options bytes row
+alone-is options bytes line p row is other = record { line = line; is = is.is; other = other; quiet = is.quiet; front = (p, is.front) }
 
 -- a line goes before groups
-onto-are : (options : ParseOptions) (bytes line : List ℕ) (row : Row) (q : Point) (gs : List Group) → IsRow options bytes line row → row.after ≡ Some q → IsEnding bytes row.end q → HasNoContent row →
-    FirstAt q gs → AreGroups options bytes gs → (kind : RowKind) → row.kind ≡ kind → AreGroups options bytes (onto_groups row kind gs)
-onto-are options bytes line row q gs is after ending h first are BlankRow e = (record { line = line; is = is; other = λ k. cc; quiet = h }, are)
-onto-are options bytes line row q gs is after ending h first are HeadingRow e = (record { line = line; is = is; other = λ k. cc; quiet = h }, are)
-onto-are options bytes line row q gs is after ending h first are BreakRow e = (record { line = line; is = is; other = λ k. cc; quiet = h }, are)
-onto-are options bytes line row q [] is after ending h first are TextRow e = ((line, is, e), tt, tt)
-onto-are options bytes line row q (Single below ∷ gs) is after ending h first are TextRow e = ((line, is, e), (q, after), are)
-onto-are options bytes line row q (Lines below rows ∷ gs) is after ending h first are TextRow e = ((line, is, e, q, after, ending, first, are.0), are.1, are.2)
+onto-are : (options : ParseOptions) (bytes line : List ℕ) (p : Point) (row : Row) (q : Point) (gs : List Group) → IsBegun options bytes line p row → row.after ≡ Some q → IsEnding bytes row.end q →
+    FrontAt bytes q gs → AreGroups options bytes gs → (kind : RowKind) → row.kind ≡ kind → AreGroups options bytes (onto_groups row kind gs)
+onto-are options bytes line p row q gs is after ending first are BlankRow e = (alone-is options bytes line p row is (λ k. cc), are)
+onto-are options bytes line p row q gs is after ending first are HeadingRow e = (alone-is options bytes line p row is (λ k. cc), are)
+onto-are options bytes line p row q gs is after ending first are BreakRow e = (alone-is options bytes line p row is (λ k. cc), are)
+onto-are options bytes line p row q [] is after ending first are TextRow e = ((line, is.is, e), tt, (p, is.front), tt)
+onto-are options bytes line p row q (Single below ∷ gs) is after ending first are TextRow e = ((line, is.is, e), (q, after), (p, is.front), are)
+onto-are options bytes line p row q (Lines below rows ∷ gs) is after ending first are TextRow e = go (row.leaves == 0) (below.opens == 0) refl
+  where
+    go : (x y : Bool) → (below.opens == 0) ≡ y → AreGroups options bytes (cond (x && y) (Lines row (below ∷ rows) ∷ gs) (Lines row [] ∷ Lines below rows ∷ gs))
+    go true true k =
+        let none : below.opens ≡ 0 = grind (arith, nat_tests) in
+        ((line, is.is, e, q, after, ending, subst (λ (n : ℕ). Fronts bytes n q below.first below.front) none first, are.0), are.1, (p, is.front), are.3)
+    go true false k = ((line, is.is, e), (q, after), (p, is.front), are)
+    go false y k = ((line, is.is, e), (q, after), (p, is.front), are)
 
-last-are : (options : ParseOptions) (bytes line : List ℕ) (row : Row) → IsRow options bytes line row → HasNoContent row → (kind : RowKind) → row.kind ≡ kind → AreGroups options bytes (onto_groups row kind [])
-last-are options bytes line row is h BlankRow e = (record { line = line; is = is; other = λ k. cc; quiet = h }, tt)
-last-are options bytes line row is h HeadingRow e = (record { line = line; is = is; other = λ k. cc; quiet = h }, tt)
-last-are options bytes line row is h BreakRow e = (record { line = line; is = is; other = λ k. cc; quiet = h }, tt)
-last-are options bytes line row is h TextRow e = ((line, is, e), tt, tt)
+last-are : (options : ParseOptions) (bytes line : List ℕ) (p : Point) (row : Row) → IsBegun options bytes line p row → (kind : RowKind) → row.kind ≡ kind → AreGroups options bytes (onto_groups row kind [])
+last-are options bytes line p row is BlankRow e = (alone-is options bytes line p row is (λ k. cc), tt)
+last-are options bytes line p row is HeadingRow e = (alone-is options bytes line p row is (λ k. cc), tt)
+last-are options bytes line p row is BreakRow e = (alone-is options bytes line p row is (λ k. cc), tt)
+last-are options bytes line p row is TextRow e = ((line, is.is, e), tt, (p, is.front), tt)
+
+line-begun : (options : ParseOptions) (bytes : List ℕ) (depth : ℕ) (going : Bool) (p : Point) (line : List ℕ) (row : Row) → IsLine options bytes depth going p line row → HasNoContent row → IsBegun options bytes (rest_line (quoted options depth going (rest_from p line)).rest) p row
+line-begun options bytes depth going p line row is quiet = record { is = is.is; front = is.front; quiet = quiet }
+
+-- what stands in front of the first line
+pub first-front : (options : ParseOptions) (bytes : List ℕ) (depth : ℕ) (going : Bool) (p : Point) (lines : List (List ℕ)) (row : Row) (rows : List Row) → AreRows options bytes depth going p lines (row ∷ rows) → Fronts bytes row.opens p row.first row.front
+first-front options bytes depth going p [] row rows h = absurd h
+first-front options bytes depth going p (line ∷ []) row [] h = h.0.front
+first-front options bytes depth going p (line ∷ []) row (below ∷ rows) h = absurd h
+first-front options bytes depth going p (line ∷ next ∷ lines) row [] h = absurd h
+first-front options bytes depth going p (line ∷ next ∷ lines) row (below ∷ rows) h = h.0.front
 
 -- The groups of the lines of a text are paragraphs, and lines that are no text.
-pub groups-are : (options : ParseOptions) (bytes : List ℕ) (p : Point) (lines : List (List ℕ)) (rows : List Row) → AreRows options bytes p lines rows → EachNoContent rows → AreGroups options bytes (groups rows)
-groups-are options bytes p [] rows h k = absurd h
-groups-are options bytes p (line ∷ []) [] h k = absurd h
-groups-are options bytes p (line ∷ next ∷ lines) [] h k = absurd h
-groups-are options bytes p (line ∷ []) (row ∷ []) h k = last-are options bytes line row h.0 k.0 row.kind refl
-groups-are options bytes p (line ∷ []) (row ∷ below ∷ rows) h k = absurd h
-groups-are options bytes p (line ∷ next ∷ lines) (row ∷ []) h k = absurd h
-groups-are options bytes p (line ∷ next ∷ lines) (row ∷ below ∷ rows) h k =
-    onto-are options bytes line row h.2 (groups (below ∷ rows)) h.0 h.3 h.4 k.0 (onto-first h.2 below below.kind (groups rows) (first-is options bytes h.2 (next ∷ lines) below rows h.5))
-    (groups-are options bytes h.2 (next ∷ lines) (below ∷ rows) h.5 k.1) row.kind refl
+pub groups-are : (options : ParseOptions) (bytes : List ℕ) (depth : ℕ) (going : Bool) (p : Point) (lines : List (List ℕ)) (rows : List Row) → AreRows options bytes depth going p lines rows → EachNoContent rows → AreGroups options bytes (groups rows)
+groups-are options bytes depth going p [] rows h k = absurd h
+groups-are options bytes depth going p (line ∷ []) [] h k = absurd h
+groups-are options bytes depth going p (line ∷ next ∷ lines) [] h k = absurd h
+groups-are options bytes depth going p (line ∷ []) (row ∷ []) h k = last-are options bytes (rest_line (quoted options depth going (rest_from p line)).rest) p row (line-begun options bytes depth going p line row h.0 k.0) row.kind refl
+groups-are options bytes depth going p (line ∷ []) (row ∷ below ∷ rows) h k = absurd h
+groups-are options bytes depth going p (line ∷ next ∷ lines) (row ∷ []) h k = absurd h
+groups-are options bytes depth going p (line ∷ next ∷ lines) (row ∷ below ∷ rows) h k =
+    let depth_next = depth_behind options depth going p line in
+    let going_next = is_text row.kind in
+    onto-are options bytes (rest_line (quoted options depth going (rest_from p line)).rest) p row h.2 (groups (below ∷ rows)) (line-begun options bytes depth going p line row h.0 k.0) h.3 h.4
+    (onto-front bytes h.2 below below.kind (groups rows) (first-front options bytes depth_next going_next h.2 (next ∷ lines) below rows h.5))
+    (groups-are options bytes depth_next going_next h.2 (next ∷ lines) (below ∷ rows) h.5 k.1) row.kind refl
 
 -- each line of a text but the last has an ending
-pub rows-end : (options : ParseOptions) (bytes : List ℕ) (p : Point) (lines : List (List ℕ)) (rows : List Row) → AreRows options bytes p lines rows → EachEnds rows
-rows-end options bytes p lines [] h = tt
-rows-end options bytes p lines (row ∷ []) h = tt
-rows-end options bytes p [] (row ∷ below ∷ rows) h = absurd h
-rows-end options bytes p (line ∷ []) (row ∷ below ∷ rows) h = absurd h
-rows-end options bytes p (line ∷ next ∷ lines) (row ∷ below ∷ rows) h = (h.2, h.3, rows-end options bytes h.2 (next ∷ lines) (below ∷ rows) h.5)
+pub rows-end : (options : ParseOptions) (bytes : List ℕ) (depth : ℕ) (going : Bool) (p : Point) (lines : List (List ℕ)) (rows : List Row) → AreRows options bytes depth going p lines rows → EachEnds rows
+rows-end options bytes depth going p lines [] h = tt
+rows-end options bytes depth going p lines (row ∷ []) h = tt
+rows-end options bytes depth going p [] (row ∷ below ∷ rows) h = absurd h
+rows-end options bytes depth going p (line ∷ []) (row ∷ below ∷ rows) h = absurd h
+rows-end options bytes depth going p (line ∷ next ∷ lines) (row ∷ below ∷ rows) h =
+    (h.2, h.3, rows-end options bytes (depth_behind options depth going p line) (is_text row.kind) h.2 (next ∷ lines) (below ∷ rows) h.5)
+
+-- in front of each line of a text stand prefixes and begins of quotes
+pub rows-front : (options : ParseOptions) (bytes : List ℕ) (depth : ℕ) (going : Bool) (p : Point) (lines : List (List ℕ)) (rows : List Row) → AreRows options bytes depth going p lines rows → EachFront bytes rows
+rows-front options bytes depth going p lines [] h = tt
+rows-front options bytes depth going p [] (row ∷ rows) h = absurd h
+rows-front options bytes depth going p (line ∷ []) (row ∷ []) h = ((p, h.0.front), tt)
+rows-front options bytes depth going p (line ∷ next ∷ lines) (row ∷ []) h = absurd h
+rows-front options bytes depth going p (line ∷ []) (row ∷ below ∷ rows) h = absurd h
+rows-front options bytes depth going p (line ∷ next ∷ lines) (row ∷ below ∷ rows) h =
+    ((p, h.0.front), rows-front options bytes (depth_behind options depth going p line) (is_text row.kind) h.2 (next ∷ lines) (below ∷ rows) h.5)
 
 -- Where the lines stand.
 
@@ -184,38 +230,134 @@ paragraph-whole options bytes row (next ∷ rows) h =
 -- Reading.
 
 -- behind the lines of a paragraph no more of it stands
-behind-lines : (wants : Content → Bool) (row : Row) (gs : List Group) → EndsBeforeGroups row gs → chunks_behind wants (ending_events n.LineEnding row ++ joined_groups gs) ≡ []
-behind-lines wants row [] h = go row.after
+behind-lines : (wants : Content → Bool) (row : Row) (gs : List Group) → EndsBeforeGroups row gs → chunks_behind wants (tail_events n.LineEnding row ++ joined_groups gs) ≡ []
+behind-lines wants row gs h = tail row.leaves
   where
-    go : (after : Option Point) → chunks_behind wants (elim after [ None ↦ [] | Some q ↦ pair n.LineEnding row.end q ] ++ []) ≡ []
-    go None = refl
-    go (Some q) = refl
-behind-lines wants row (group ∷ gs) h = ap (λ (l : List Event). chunks_behind wants (l ++ joined_groups (group ∷ gs))) (ending-is n.LineEnding row h.0 h.1)
+    ending : (gs : List Group) → EndsBeforeGroups row gs → chunks_behind wants (ending_events n.LineEnding row ++ joined_groups gs) ≡ []
+    ending [] h = go row.after
+      where
+        go : (after : Option Point) → chunks_behind wants (elim after [ None ↦ [] | Some q ↦ pair n.LineEnding row.end q ] ++ []) ≡ []
+        go None = refl
+        go (Some q) = refl
+    ending (group ∷ gs) h = ap (λ (l : List Event). chunks_behind wants (l ++ joined_groups (group ∷ gs))) (ending-is n.LineEnding row h.0 h.1)
 
-chunks-some : (row : Row) (rows : List Row) → (chunk : Chunk) × (chunks : List Chunk) × (chunks_of row rows ≡ chunk ∷ chunks)
-chunks-some row [] = (record { first = row.first; after = row.end }, [], refl)
-chunks-some row (next ∷ rows) = (record { first = row.first; after = behind_row row }, chunks_of next rows, refl)
+    tail : (many : ℕ) → chunks_behind wants ((quote_ends many row.end ++ ending_events n.LineEnding row) ++ joined_groups gs) ≡ []
+    tail zero = ending gs h
+    tail (suc many) = behind-exit wants n.BlockQuote row.end ((quote_ends many row.end ++ ending_events n.LineEnding row) ++ joined_groups gs) refl
 
--- what is read of the chunks of a paragraph stands in their place
-places-lines : (wants : Content → Bool) (reads : Readings) (left : List Event) (name : Name) (link : Link) (row : Row) (rows : List Row) (ys out : List Event) → wants link.content ≡ true → chunks_behind wants ys ≡ [] →
-    Substituted wants reads left 0 (linked name link (chunks_of row rows) ++ ys) out →
-    (answer : List Event) × (read : reads link.content (chunks_of row rows) answer) × Rest wants reads answer ys out
-places-lines wants reads left name link row rows ys out w h s =
-    let some : (chunk : Chunk) × (chunks : List Chunk) × (chunks_of row rows ≡ chunk ∷ chunks) = chunks-some row rows in
-    subst (λ (l : List Chunk). (answer : List Event) × (read : reads link.content l answer) × Rest wants reads answer ys out) (sym some.2)
-    (places wants reads left name link some.0 some.1 ys out w h (subst (λ (l : List Chunk). Substituted wants reads left 0 (linked name link l ++ ys) out) some.2 s))
+-- what stands around the parts of a line is not read later
+tail-unwanted : (wants : Content → Bool) (row : Row) → Unwanted wants (tail_events n.LineEnding row)
+tail-unwanted wants row = no_content-unwanted wants (tail_events n.LineEnding row) (tail-no_content wants n.LineEnding row refl)
 
-ending-unwanted : (wants : Content → Bool) (row : Row) → Unwanted wants (ending_events n.LineEnding row)
-ending-unwanted wants row = no_content-unwanted wants (ending_events n.LineEnding row) (ending-no_content wants n.LineEnding row refl)
+front-unwanted : (wants : Content → Bool) (bytes : List ℕ) (row : Row) → HasFront bytes row → Unwanted wants row.front
+front-unwanted wants bytes row h = no_content-unwanted wants row.front (has_front-no_content wants bytes row h)
 
 -- a line that is no text, of which a reader reads no text
 single-unwanted : (options : ParseOptions) (bytes : List ℕ) (wants : Content → Bool) (row : Row) → IsSingle options bytes row → (row.kind ≡ HeadingRow → wants content.Text ≡ false) → Unwanted wants (row_events row)
-single-unwanted options bytes wants row is w = no_content-unwanted wants (row_events row) (events-no_content wants row row.kind refl is.other (is.quiet wants w))
+single-unwanted options bytes wants row is w = no_content-unwanted wants (row_events row) (events-no_content wants bytes row row.kind refl is.other is.front (is.quiet wants w))
+
+-- in front of the further lines of a paragraph stand prefixes alone
+pub paragraph-fronts : (options : ParseOptions) (bytes : List ℕ) (row : Row) (rows : List Row) → IsParagraph options bytes row rows → EachPrefixed rows
+paragraph-fronts options bytes row [] h = tt
+paragraph-fronts options bytes row (next ∷ rows) h = (fronts-prefixes bytes 0 h.3 next.first next.front refl h.6, paragraph-fronts options bytes next rows h.7)
+
+-- Where the lines of a paragraph stand.
+
+-- a line of text is not empty
+pub line-grows : (options : ParseOptions) (bytes line : List ℕ) (row : Row) → IsRow options bytes line row → row.kind ≡ TextRow → row.first.index < row.end.index
+line-grows options bytes line row is text = let some = text-some options line (sym is.kind ∙ text) in omega (arith, is.size)
+
+-- a line, its ending, and the next line
+pub record AreApart (row next : Row) : Type 0 where
+  pub line : row.first.index < row.end.index
+  pub ending : row.end.index < (behind_row row).index
+  pub front : (behind_row row).index ≤ next.first.index
+
+pub are-apart : (options : ParseOptions) (bytes : List ℕ) (row next : Row) (rows : List Row) → IsParagraph options bytes row (next ∷ rows) → AreApart row next
+are-apart options bytes row next rows h =
+    let behind : (behind_row row).index ≡ h.3.index = ap (λ (p : Point). p.index) (behind-is row h.3 h.4) in
+    let some = ending-some h.5.ending in
+    let grows = fronts-grow bytes 0 h.3 next.first next.front h.6 in
+    record { line = line-grows options bytes h.0 row h.1 h.2; ending = omega (arith, h.5.size); front = omega arith }
+
+first-grows : (options : ParseOptions) (bytes : List ℕ) (row : Row) (rows : List Row) → IsParagraph options bytes row rows → row.first.index < (line_after row rows).index
+first-grows options bytes row [] h = line-grows options bytes h.0 row h.1 h.2
+first-grows options bytes row (next ∷ rows) h = let apart = are-apart options bytes row next rows h in omega (arith, apart.line, apart.ending)
+
+-- which events belong to a chunk that ends at a byte
+begins-before : (name : Name) (p : Point) (end : ℕ) → p.index < end → belongs end (enter name p) ≡ true
+begins-before name p end h = grind (arith, nat_tests)
+
+ends-before : (name : Name) (p : Point) (end : ℕ) → p.index ≤ end → belongs end (exit name p) ≡ true
+ends-before name p end h = grind (arith, nat_tests)
+
+begins-behind : (name : Name) (p : Point) (end : ℕ) → end ≤ p.index → belongs end (enter name p) ≡ false
+begins-behind name p end h = grind (arith, nat_tests)
+
+all_belong-append : (end : ℕ) (xs ys : List Event) → AllBelong end xs → AllBelong end ys → AllBelong end (xs ++ ys)
+all_belong-append end [] ys h k = k
+all_belong-append end (e ∷ xs) ys h k = (h.0, all_belong-append end xs ys h.1 k)
+
+-- what stands in front of the events of the first line is of it too
+cut-front : (row : Row) (rows : List Row) (xs left done : List Event) → AllBelong (line_after row rows).index xs → CutAt row rows left done → CutAt row rows (xs ++ left) (xs ++ done)
+cut-front row [] xs left done h cut = ap (λ (l : List Event). xs ++ l) cut
+cut-front row (next ∷ rows) xs left done h cut = (
+  xs ++ cut.0,
+  cut.1,
+  cut.2,
+  ap (λ (l : List Event). xs ++ l) cut.3 ∙ sym (append_assoc xs cut.0 cut.1),
+  all_belong-append (behind_row row).index xs cut.0 h cut.4,
+  cut.5,
+  ap (λ (l : List Event). xs ++ l) cut.6 ∙ sym (append_assoc xs cut.0 (next.front ++ cut.2)),
+  cut.7,
+)
+
+-- Reading content.
+
+-- the next chunk begins where its line does
+linked-next : (name : Name) (link : Link) (row : Row) (rows : List Row) (zs : List Event) (end : ℕ) → end ≤ row.first.index → NextBelongs end (linked name link (chunks_of row rows) ++ zs)
+linked-next name link row [] zs end h = begins-behind name row.first end h
+linked-next name link row (next ∷ rows) zs end h = begins-behind name row.first end h
+
+-- the chunks of a paragraph, cut at the ends of its lines
+linked-cut : (options : ParseOptions) (bytes : List ℕ) (name : Name) (link : Link) (row : Row) (rows : List Row) (zs : List Event) → IsParagraph options bytes row rows →
+    CutAt row rows (linked name link (chunks_of row rows) ++ zs) (linked_lines name link row rows ++ zs)
+linked-cut options bytes name link row [] zs h = refl
+linked-cut options bytes name link row (next ∷ rows) zs h =
+    let apart = are-apart options bytes row next rows h in
+    let end : ℕ = (behind_row row).index in
+    let begin = enter_link name row.first link in (
+      begin ∷ exit name (behind_row row) ∷ [],
+      linked name link (chunks_of next rows) ++ zs,
+      linked_lines name link next rows ++ zs,
+      refl,
+      (begins-before name row.first end (omega (arith, apart.line, apart.ending)), (ends-before name (behind_row row) end (omega arith), tt)),
+      linked-next name link next rows zs end apart.front,
+      ap (λ (l : List Event). begin ∷ exit name (behind_row row) ∷ l) (append_assoc next.front (linked_lines name link next rows) zs),
+      linked-cut options bytes name link next rows zs h.7,
+    )
 
 -- a reader of content gives for each paragraph of a text its lines, whose text is not read yet
 abbrev pub ReadsContent : ParseOptions → List ℕ → Readings → Type 0
 ReadsContent options bytes reads =
-    (row : Row) (rows : List Row) → IsParagraph options bytes row rows → (answer : List Event) → reads content.Content (chunks_of row rows) answer → answer ≡ around n.Paragraph row.first (last_row row rows).end (linked n.Data text_link (chunks_of row rows))
+    (row : Row) (rows : List Row) → IsParagraph options bytes row rows → (answer : List Event) → reads content.Content (chunks_of row rows) answer →
+    answer ≡ around n.Paragraph row.first (last_row row rows).end (linked n.Data text_link (chunks_of row rows))
+
+-- a paragraph whose text is not read yet, cut so too
+paragraph-cut : (options : ParseOptions) (bytes : List ℕ) (row : Row) (rows : List Row) → IsParagraph options bytes row rows →
+    CutAt row rows (around n.Paragraph row.first (last_row row rows).end (linked n.Data text_link (chunks_of row rows))) (unread_paragraph row rows)
+paragraph-cut options bytes row rows h =
+    let end = exit n.Paragraph (last_row row rows).end ∷ [] in
+    cut-front row rows (enter n.Paragraph row.first ∷ []) (linked n.Data text_link (chunks_of row rows) ++ end) (linked_lines n.Data text_link row rows ++ end)
+    (begins-before n.Paragraph row.first (line_after row rows).index (first-grows options bytes row rows h), tt)
+    (linked-cut options bytes n.Data text_link row rows end h)
+
+group-joins : (front given tail rest out one two three : List Event) → out ≡ front ++ one → one ≡ given ++ two → two ≡ tail ++ three → three ≡ rest → out ≡ ((front ++ given) ++ tail) ++ rest
+group-joins front given tail rest out one two three h i j k =
+    h
+    ∙ ap (λ (l : List Event). front ++ l) (i ∙ ap (λ (l : List Event). given ++ l) (j ∙ ap (λ (l : List Event). tail ++ l) k))
+    ∙ sym (append_assoc front given (tail ++ rest))
+    ∙ sym (append_assoc (front ++ given) tail rest)
 
 groups-content : (options : ParseOptions) (bytes : List ℕ) (wants : Content → Bool) (reads : Readings) → wants content.Content ≡ true → wants content.Text ≡ false → ReadsContent options bytes reads →
     (gs : List Group) → AreGroups options bytes gs → (left out : List Event) → Substituted wants reads left 0 (joined_groups gs) out → out ≡ unread_groups gs
@@ -225,25 +367,26 @@ groups-content options bytes wants reads w other unique (Single row ∷ gs) are 
     passes wants reads left 0 (row_events row) (joined_groups gs) out (single-unwanted options bytes wants row are.0 (λ k. other)) s in
     one.1 ∙ ap (λ (l : List Event). row_events row ++ l) (groups-content options bytes wants reads w other unique gs are.1 left one.0 one.2)
 groups-content options bytes wants reads w other unique (Lines row rows ∷ gs) are left out s =
-    let ending : List Event = ending_events n.LineEnding (last_row row rows) in
-    let ys : List Event = ending ++ joined_groups gs in
-    let one : (answer : List Event) × (read : reads content.Content (chunks_of row rows) answer) × Rest wants reads answer ys out =
-    places-lines wants reads left n.Content content_link row rows ys out w (behind-lines wants (last_row row rows) gs are.1)
-    (subst (λ (l : List Event). Substituted wants reads left 0 l out) (append_assoc (linked n.Content content_link (chunks_of row rows)) ending (joined_groups gs)) s) in
-    let rest : Rest wants reads one.0 ys out = one.2 in
-    let two : (more : List Event) × (is : rest.0 ≡ ending ++ more) × Substituted wants reads rest.1 0 (joined_groups gs) more = passes wants reads rest.1 0 ending (joined_groups gs) rest.0 (ending-unwanted wants (last_row row rows)) rest.3 in
-    rest.2
-    ∙ ap (λ (l : List Event). l ++ rest.0) (unique row rows are.0 one.0 one.1)
-    ∙ ap (λ (l : List Event). unread_paragraph row rows ++ l) (two.1 ∙ ap (λ (l : List Event). ending ++ l) (groups-content options bytes wants reads w other unique gs are.2 rest.1 two.0 two.2))
-    ∙ sym (append_assoc (unread_paragraph row rows) ending (unread_groups gs))
+    let tail : List Event = tail_events n.LineEnding (last_row row rows) in
+    let inside : List Event = linked_lines n.Content content_link row rows in
+    let ys : List Event = tail ++ joined_groups gs in
+    let given : List Event = unread_paragraph row rows in
+    let begun : (rest : List Event) × (is : out ≡ row.front ++ rest) × Substituted wants reads left 0 (inside ++ ys) rest =
+    passes wants reads left 0 row.front (inside ++ ys) out (front-unwanted wants bytes row are.2)
+    (subst (λ (l : List Event). Substituted wants reads left 0 l out) (append_assoc (row.front ++ inside) tail (joined_groups gs) ∙ append_assoc row.front inside ys) s) in
+    let rest : Rest wants reads given ys begun.0 =
+    places wants reads left n.Content content_link row rows ys given begun.0 w (behind-lines wants (last_row row rows) gs are.1) (paragraph-fronts options bytes row rows are.0)
+    (λ answer read. subst (λ (l : List Event). CutAt row rows l given) (sym (unique row rows are.0 answer read)) (paragraph-cut options bytes row rows are.0)) begun.2 in
+    let two : (more : List Event) × (is : rest.0 ≡ tail ++ more) × Substituted wants reads rest.1 0 (joined_groups gs) more = passes wants reads rest.1 0 tail (joined_groups gs) rest.0 (tail-unwanted wants (last_row row rows)) rest.3 in
+    group-joins row.front given tail (unread_groups gs) out begun.0 rest.0 two.0 begun.1 rest.2 two.1 (groups-content options bytes wants reads w other unique gs are.3 rest.1 two.0 two.2)
 
 -- The events of the lines of a text, joined, and their content read: paragraphs whose text is not read yet.
-pub content-read : (options : ParseOptions) (bytes : List ℕ) (p : Point) (lines : List (List ℕ)) (rows : List Row) → AreRows options bytes p lines rows → EachNoContent rows →
+pub content-read : (options : ParseOptions) (bytes : List ℕ) (depth : ℕ) (going : Bool) (p : Point) (lines : List (List ℕ)) (rows : List Row) → AreRows options bytes depth going p lines rows → EachNoContent rows →
     (wants : Content → Bool) (reads : Readings) → wants content.Content ≡ true → wants content.Text ≡ false → ReadsContent options bytes reads →
     (unread : List Event) → Substituted wants reads [] 0 (joined (rows_events rows)) unread → unread ≡ unread_groups (groups rows)
-content-read options bytes p lines rows are quiet wants reads w other unique unread s =
-    groups-content options bytes wants reads w other unique (groups rows) (groups-are options bytes p lines rows are quiet) [] unread
-    (subst (λ (l : List Event). Substituted wants reads [] 0 l unread) (joined-rows rows (rows-end options bytes p lines rows are) quiet) s)
+content-read options bytes depth going p lines rows are quiet wants reads w other unique unread s =
+    groups-content options bytes wants reads w other unique (groups rows) (groups-are options bytes depth going p lines rows are quiet) [] unread
+    (subst (λ (l : List Event). Substituted wants reads [] 0 l unread) (joined-rows bytes rows (rows-front options bytes depth going p lines rows are) (rows-end options bytes depth going p lines rows are) quiet) s)
 
 -- Where no line is text there is no content.
 pub no-content : (rows : List Row) → NoText rows → rows_events rows ≡ unread_groups (groups rows)
@@ -272,6 +415,10 @@ outside-passes : (xs ys : List Event) → AreOutside xs → headings_resolved (x
 outside-passes [] ys h = refl
 outside-passes (e ∷ xs) ys h = ap (λ (x : Bool). e ∷ resolved (cond x Before Outside) (xs ++ ys)) h.0 ∙ ap (λ (l : List Event). e ∷ l) (outside-passes xs ys h.1)
 
+front-outside : (es : List Event) → AreFront es → AreOutside es
+front-outside [] h = tt
+front-outside (e ∷ es) h = (and_right (is_enter e.kind) (is_heading e.name) (front-heading e.name h.0), front-outside es h.2)
+
 quiet-name : (name : Name) → Quiet (role name) → is_heading name ≡ false
 quiet-name n.HeadingAtx h = absurd h
 quiet-name _ h = refl
@@ -280,9 +427,12 @@ quiet-outside : (es : List Event) → Roles Quiet es → AreOutside es
 quiet-outside [] h = tt
 quiet-outside (e ∷ es) h = (and_right (is_enter e.kind) (is_heading e.name) (quiet-name e.name h.0), quiet-outside es h.1)
 
-linked-outside : (link : Link) (chunks : List Chunk) → AreOutside (linked n.Data link chunks)
-linked-outside link [] = tt
-linked-outside link (chunk ∷ chunks) = (refl, (refl, linked-outside link chunks))
+prefixes-outside : (es : List Event) → ArePrefixes es → AreOutside es
+prefixes-outside es h = front-outside es (prefixes-front es h)
+
+linked-outside : (link : Link) (row : Row) (rows : List Row) → EachPrefixed rows → AreOutside (linked_lines n.Data link row rows)
+linked-outside link row [] h = (refl, (refl, tt))
+linked-outside link row (next ∷ rows) h = (refl, (refl, outside-append next.front (linked_lines n.Data link next rows) (prefixes-outside next.front h.0) (linked-outside link next rows h.1)))
 
 ending-outside : (name : Name) (row : Row) → is_heading name ≡ false → AreOutside (ending_events name row)
 ending-outside name row h = go row.after
@@ -291,29 +441,46 @@ ending-outside name row h = go row.after
     go None = tt
     go (Some q) = (h, (refl, tt))
 
+ends-outside : (many : ℕ) (p : Point) → AreOutside (quote_ends many p)
+ends-outside zero p = tt
+ends-outside (suc many) p = (refl, ends-outside many p)
+
+tail-outside : (name : Name) (row : Row) → is_heading name ≡ false → AreOutside (tail_events name row)
+tail-outside name row h = outside-append (quote_ends row.leaves row.end) (ending_events name row) (ends-outside row.leaves row.end) (ending-outside name row h)
+
+has_front-outside : (bytes : List ℕ) (row : Row) → HasFront bytes row → AreOutside row.front
+has_front-outside bytes row h = front-outside row.front (fronts-are bytes row.opens h.0 row.first row.front h.1)
+
 around-outside : (name : Name) (p q : Point) (inside : List Event) → is_heading name ≡ false → AreOutside inside → AreOutside (around name p q inside)
 around-outside name p q inside other h = (other, outside-append inside (exit name q ∷ []) h (refl, tt))
+
+-- what stands between the front of a line and its tail
+leaf-set : (front leaf titled tail es : List Event) → AreOutside front → AreOutside tail → ((es : List Event) → headings_resolved (leaf ++ es) ≡ titled ++ headings_resolved es) →
+    headings_resolved (((front ++ leaf) ++ tail) ++ es) ≡ ((front ++ titled) ++ tail) ++ headings_resolved es
+leaf-set front leaf titled tail es h k set =
+    ap headings_resolved (append_assoc (front ++ leaf) tail es ∙ append_assoc front leaf (tail ++ es))
+    ∙ outside-passes front (leaf ++ (tail ++ es)) h
+    ∙ ap (λ (l : List Event). front ++ l) (set (tail ++ es) ∙ ap (λ (l : List Event). titled ++ l) (outside-passes tail es k))
+    ∙ sym (append_assoc front titled (tail ++ headings_resolved es))
+    ∙ sym (append_assoc (front ++ titled) tail (headings_resolved es))
 
 -- the text of a line is set if it is a heading
 single-set : (options : ParseOptions) (bytes : List ℕ) (row : Row) (es : List Event) → IsSingle options bytes row → (kind : RowKind) → row.kind ≡ kind →
     headings_resolved (row_events_by kind row ++ es) ≡ titled_row_by bytes kind row ++ headings_resolved es
 single-set options bytes row es is BlankRow e =
-    outside-passes (row.inside ++ ending_events n.BlankLineEnding row) es
-    (outside-append row.inside (ending_events n.BlankLineEnding row) (quiet-outside row.inside (is.is.inside (λ k. cc)).quiet) (ending-outside n.BlankLineEnding row refl))
+    leaf-set row.front row.inside row.inside (tail_events n.BlankLineEnding row) es (has_front-outside bytes row is.front) (tail-outside n.BlankLineEnding row refl)
+    (λ es. outside-passes row.inside es (quiet-outside row.inside (is.is.inside (λ k. cc)).quiet))
 single-set options bytes row es is HeadingRow e =
-    let ending : List Event = ending_events n.LineEnding row in
     let titled : Title → List Event = λ title. around n.HeadingAtx row.first row.end (unread_title title) in
-    let title : Title = title_of is.line row.first in
-    ap (λ (l : List Event). headings_resolved ((around n.HeadingAtx row.first row.end l ++ ending) ++ es)) (is.is.heading e)
-    ∙ ap headings_resolved (append_assoc (around n.HeadingAtx row.first row.end (line_runs heading.Apart is.line row.first)) ending es)
-    ∙ heading-resolved is.line row.first row.end (ending ++ es) (heading-kind options is.line (sym is.is.kind ∙ e))
-    ∙ ap (λ (l : List Event). titled title ++ l) (outside-passes ending es (ending-outside n.LineEnding row refl))
-    ∙ sym (append_assoc (titled title) ending (headings_resolved es))
-    ∙ ap (λ (line : List ℕ). (titled (title_of line row.first) ++ ending) ++ headings_resolved es) (sym is.is.text)
+    leaf-set row.front (around n.HeadingAtx row.first row.end row.inside) (titled (row_title bytes row)) (tail_events n.LineEnding row) es (has_front-outside bytes row is.front) (tail-outside n.LineEnding row refl)
+    (λ es.
+    ap (λ (l : List Event). headings_resolved (around n.HeadingAtx row.first row.end l ++ es)) (is.is.heading e)
+    ∙ heading-resolved is.line row.first row.end es (heading-kind options is.line (sym is.is.kind ∙ e))
+    ∙ ap (λ (line : List ℕ). titled (title_of line row.first) ++ headings_resolved es) (sym is.is.text))
 single-set options bytes row es is BreakRow e =
-    outside-passes (around n.ThematicBreak row.first row.end row.inside ++ ending_events n.LineEnding row) es
-    (outside-append (around n.ThematicBreak row.first row.end row.inside) (ending_events n.LineEnding row)
-    (around-outside n.ThematicBreak row.first row.end row.inside refl (quiet-outside row.inside (is.is.inside (λ k. cc)).quiet)) (ending-outside n.LineEnding row refl))
+    let leaf = around n.ThematicBreak row.first row.end row.inside in
+    leaf-set row.front leaf leaf (tail_events n.LineEnding row) es (has_front-outside bytes row is.front) (tail-outside n.LineEnding row refl)
+    (λ es. outside-passes leaf es (around-outside n.ThematicBreak row.first row.end row.inside refl (quiet-outside row.inside (is.is.inside (λ k. cc)).quiet)))
 single-set options bytes row es is TextRow e = absurd (is.other e)
 
 groups-set : (options : ParseOptions) (bytes : List ℕ) (gs : List Group) → AreGroups options bytes gs → headings_resolved (unread_groups gs) ≡ titled_groups bytes gs
@@ -323,14 +490,14 @@ groups-set options bytes (Single row ∷ gs) are =
     ∙ ap (λ (l : List Event). titled_row_by bytes row.kind row ++ l) (groups-set options bytes gs are.1)
 groups-set options bytes (Lines row rows ∷ gs) are =
     let last : Row = last_row row rows in
-    outside-passes (unread_group (Lines row rows)) (unread_groups gs)
-    (outside-append (unread_paragraph row rows) (ending_events n.LineEnding last) (around-outside n.Paragraph row.first last.end (linked n.Data text_link (chunks_of row rows)) refl (linked-outside text_link (chunks_of row rows))) (ending-outside n.LineEnding last refl))
-    ∙ ap (λ (l : List Event). unread_group (Lines row rows) ++ l) (groups-set options bytes gs are.2)
+    leaf-set row.front (unread_paragraph row rows) (unread_paragraph row rows) (tail_events n.LineEnding last) (unread_groups gs) (has_front-outside bytes row are.2) (tail-outside n.LineEnding last refl)
+    (λ es. outside-passes (unread_paragraph row rows) es (around-outside n.Paragraph row.first last.end (linked_lines n.Data text_link row rows) refl (linked-outside text_link row rows (paragraph-fronts options bytes row rows are.0))))
+    ∙ ap (λ (l : List Event). unread_group (Lines row rows) ++ l) (groups-set options bytes gs are.3)
 
 -- The text of each heading is set.
-pub headings-set : (options : ParseOptions) (bytes : List ℕ) (p : Point) (lines : List (List ℕ)) (rows : List Row) → AreRows options bytes p lines rows → EachNoContent rows →
+pub headings-set : (options : ParseOptions) (bytes : List ℕ) (depth : ℕ) (going : Bool) (p : Point) (lines : List (List ℕ)) (rows : List Row) → AreRows options bytes depth going p lines rows → EachNoContent rows →
     headings_resolved (unread_groups (groups rows)) ≡ titled_groups bytes (groups rows)
-headings-set options bytes p lines rows are quiet = groups-set options bytes (groups rows) (groups-are options bytes p lines rows are quiet)
+headings-set options bytes depth going p lines rows are quiet = groups-set options bytes (groups rows) (groups-are options bytes depth going p lines rows are quiet)
 
 -- no group is a heading
 abbrev NoTitles : List Group → Type 0
@@ -348,7 +515,11 @@ no_titles (row ∷ rows) h = onto (groups rows) (no_titles rows h.1) row.kind re
     onto gs k BreakRow e = (h.0, k)
     onto [] k TextRow e = tt
     onto (Single first ∷ gs) k TextRow e = k
-    onto (Lines first rows ∷ gs) k TextRow e = k
+    onto (Lines first rows ∷ gs) k TextRow e = go (goes_on row first)
+      where
+        go : (x : Bool) → NoTitles (cond x (Lines row (first ∷ rows) ∷ gs) (Lines row [] ∷ Lines first rows ∷ gs))
+        go true = k
+        go false = k
 
 no_titles-same : (bytes : List ℕ) (gs : List Group) → NoTitles gs → unread_groups gs ≡ titled_groups bytes gs
 no_titles-same bytes [] h = refl
@@ -411,6 +582,11 @@ title-lines options bytes line row is some =
     ∙ one-last (text_of line) some title.no_ending (same_place end end) (and_from _ _ (eq-eqb end.index end.index refl) (eq-eqb end.vs end.vs refl)))
     refl
 
+-- behind some bytes no tab is cut
+past-whole : (line : List ℕ) (p : Point) → 0 < length line → (past_text line p).vs ≡ 0
+past-whole [] p h = absurd (omega arith)
+past-whole (b ∷ bs) p h = past_text-whole bs (past_byte b p) refl
+
 -- the text of a heading is read
 text-becomes : (options : ParseOptions) (bytes line : List ℕ) (row : Row) (wants : Content → Bool) (reads : Readings) → wants content.Text ≡ true → ReadsText bytes reads →
     IsRow options bytes line row → Becomes wants reads (linked_text (title_of line row.first).text) (read_text bytes (title_of line row.first).text)
@@ -425,14 +601,15 @@ text-becomes options bytes line row wants reads w rt is = go (length (text_of li
     chunk : Chunk
     chunk = record { first = begin; after = end }
 
-    whole : list_all (λ (chunk : Chunk). chunk.after.vs == 0) (chunk ∷ []) ≡ true
-    whole = and_from (end.vs == 0) true (eq-eqb end.vs 0 (past_text-whole (take (front_len line + length (text_of line)) line) row.first is.first_whole)) refl
+    whole : 0 < length (text_of line) → list_all (λ (chunk : Chunk). chunk.after.vs == 0) (chunk ∷ []) ≡ true
+    whole some = and_from (end.vs == 0) true (eq-eqb end.vs 0 (past-whole (take (front_len line + length (text_of line)) line) row.first (let size = length-take-le (front_len line + length (text_of line)) line (title-fits line) in omega arith))) refl
 
     go : (x : Bool) → (length (text_of line) == 0) ≡ x → Becomes wants reads (linked_text (cond x None (Some chunk))) (read_text bytes (cond x None (Some chunk)))
     go true e = becomes-same wants reads [] tt
     go false e =
-        part-becomes wants reads n.HeadingAtxText n.Data heading_link begin end chunk [] (plain_events bytes (record { kind = Text; chunks = chunk ∷ [] })) w refl
-        (λ answer r. rt (chunk ∷ []) answer r end (title-lines options bytes line row is (grind (arith, nat_tests))) whole)
+        let some : 0 < length (text_of line) = grind (arith, nat_tests) in
+        part-becomes wants reads n.HeadingAtxText n.Data heading_link begin end chunk (plain_events bytes (record { kind = Text; chunks = chunk ∷ [] })) w refl
+        (λ answer r. rt (chunk ∷ []) answer r end (title-lines options bytes line row is some) (whole some))
 
 title-becomes : (options : ParseOptions) (bytes line : List ℕ) (row : Row) (wants : Content → Bool) (reads : Readings) → wants content.Text ≡ true → ReadsText bytes reads →
     IsRow options bytes line row → Becomes wants reads (unread_title (title_of line row.first)) (read_title bytes (title_of line row.first))
@@ -443,32 +620,114 @@ title-becomes options bytes line row wants reads w rt is =
     (text-becomes options bytes line row wants reads w rt is))
     (becomes-same wants reads title.back (no_links-unwanted wants title.back (back-unlinked line row.first)))
 
+-- what stands between the front of a line and its tail
+leaf-becomes : (wants : Content → Bool) (reads : Readings) (front leaf read tail : List Event) → Unwanted wants front → Unwanted wants tail → Becomes wants reads leaf read → Becomes wants reads ((front ++ leaf) ++ tail) ((front ++ read) ++ tail)
+leaf-becomes wants reads front leaf read tail h k becomes =
+    becomes-append wants reads (front ++ leaf) (front ++ read) tail tail
+    (becomes-append wants reads front front leaf read (becomes-same wants reads front h) becomes) (becomes-same wants reads tail k)
+
 single-becomes : (options : ParseOptions) (bytes : List ℕ) (row : Row) (wants : Content → Bool) (reads : Readings) → wants content.Text ≡ true → ReadsText bytes reads → IsSingle options bytes row →
     (kind : RowKind) → row.kind ≡ kind → Becomes wants reads (titled_row_by bytes kind row) (single_events_by bytes kind row)
 single-becomes options bytes row wants reads w rt is BlankRow e = becomes-same wants reads (row_events_by BlankRow row) (subst (λ (kind : RowKind). Unwanted wants (row_events_by kind row)) e (single-unwanted options bytes wants row is (λ k. cc)))
 single-becomes options bytes row wants reads w rt is HeadingRow e =
-    let ending : List Event = ending_events n.LineEnding row in
-    becomes-append wants reads (around n.HeadingAtx row.first row.end (unread_title (row_title bytes row))) (around n.HeadingAtx row.first row.end (read_title bytes (row_title bytes row))) ending ending
+    leaf-becomes wants reads row.front (around n.HeadingAtx row.first row.end (unread_title (row_title bytes row))) (around n.HeadingAtx row.first row.end (read_title bytes (row_title bytes row))) (tail_events n.LineEnding row)
+    (front-unwanted wants bytes row is.front) (tail-unwanted wants row)
     (becomes-around wants reads n.HeadingAtx row.first row.end (unread_title (row_title bytes row)) (read_title bytes (row_title bytes row))
     (subst (λ (line : List ℕ). Becomes wants reads (unread_title (title_of line row.first)) (read_title bytes (title_of line row.first))) (sym is.is.text)
     (title-becomes options bytes is.line row wants reads w rt is.is)))
-    (becomes-same wants reads ending (ending-unwanted wants row))
 single-becomes options bytes row wants reads w rt is BreakRow e = becomes-same wants reads (row_events_by BreakRow row) (subst (λ (kind : RowKind). Unwanted wants (row_events_by kind row)) e (single-unwanted options bytes wants row is (λ k. cc)))
 single-becomes options bytes row wants reads w rt is TextRow e = absurd (is.other e)
 
-lines-become : (options : ParseOptions) (bytes : List ℕ) (row : Row) (rows : List Row) (wants : Content → Bool) (reads : Readings) → wants content.Text ≡ true → ReadsText bytes reads → IsParagraph options bytes row rows →
+-- The text of a paragraph, cut at the ends of its lines.
+
+-- what the plain layer gives for a line belongs to its chunk
+plain-belongs : (p e q : Point) → p.index < q.index → e.index < q.index → AllBelong q.index (pair_unless_empty n.Data p e ++ pair_unless_empty n.LineEnding e q)
+plain-belongs p e q h k = go (same_place p e) (same_place e q)
+  where
+    ending : (y : Bool) → AllBelong q.index (cond y [] (pair n.LineEnding e q))
+    ending true = tt
+    ending false = (begins-before n.LineEnding e q.index k, (ends-before n.LineEnding q q.index (omega arith), tt))
+
+    go : (x y : Bool) → AllBelong q.index (cond x [] (pair n.Data p e) ++ cond y [] (pair n.LineEnding e q))
+    go true y = ending y
+    go false y = (begins-before n.Data p q.index h, (ends-before n.Data e q.index (omega arith), ending y))
+
+-- and what it gives for the next one does not
+plain-next : (p e : Point) (ys zs : List Event) (end : ℕ) → p.index < e.index → end ≤ p.index → NextBelongs end ((pair_unless_empty n.Data p e ++ ys) ++ zs)
+plain-next p e ys zs end h k =
+    let apart : same_place p e ≡ false = grind (arith, nat_tests) in
+    subst (λ (x : Bool). NextBelongs end ((cond x [] (pair n.Data p e) ++ ys) ++ zs)) (sym apart) (begins-behind n.Data p end k)
+
+-- a line without its ending
+without-none : (line : List ℕ) → NoEnding line → without_ending line ≡ line
+without-none [] h = refl
+without-none (b ∷ line) h =
+    take_while-cons (λ (b : ℕ). not (is_ending b)) b line
+    ∙ ap (λ (x : Bool). cond (not x) (b ∷ without_ending line) []) h.0
+    ∙ ap (λ (l : List ℕ). b ∷ l) (without-none line h.1)
+
+without-one : (line : List ℕ) (ending : Ending) → NoEnding line → without_ending (line ++ ending_bytes ending) ≡ line
+without-one [] LineFeed h = refl
+without-one [] Return h = refl
+without-one [] Both h = refl
+without-one (b ∷ line) ending h =
+    take_while-cons (λ (b : ℕ). not (is_ending b)) b (line ++ ending_bytes ending)
+    ∙ ap (λ (x : Bool). cond (not x) (b ∷ without_ending (line ++ ending_bytes ending)) []) h.0
+    ∙ ap (λ (l : List ℕ). b ∷ l) (without-one line ending h.1)
+
+-- the plain layer finds the end of a line, without its ending and with it
+pub line_end-alone : (options : ParseOptions) (bytes line : List ℕ) (row : Row) → IsRow options bytes line row → line_end bytes (record { first = row.first; after = row.end }) ≡ row.end
+line_end-alone options bytes line row is = ap (λ (l : List ℕ). past_text (without_ending l) row.first) is.text ∙ ap (λ (l : List ℕ). past_text l row.first) (without-none line is.no_ending) ∙ sym is.end
+
+pub line_end-ended : (options : ParseOptions) (bytes line : List ℕ) (row : Row) (q : Point) → IsRow options bytes line row → IsEnding bytes row.end q → line_end bytes (record { first = row.first; after = q }) ≡ row.end
+line_end-ended options bytes line row q is ending =
+    ap (λ (l : List ℕ). past_text (without_ending l) row.first) (line-text options bytes line row q is ending)
+    ∙ ap (λ (l : List ℕ). past_text l row.first) (without-one line ending.ending is.no_ending)
+    ∙ sym is.end
+
+line-ended : (options : ParseOptions) (bytes line : List ℕ) (row : Row) (q : Point) → IsRow options bytes line row → row.after ≡ Some q → IsEnding bytes row.end q → line_end bytes (record { first = row.first; after = behind_row row }) ≡ row.end
+line-ended options bytes line row q is after ending = ap (λ (q : Point). line_end bytes (record { first = row.first; after = q })) (behind-is row q after) ∙ line_end-ended options bytes line row q is ending
+
+-- the first line of a paragraph is not empty, so its text begins where it does
+plain-first : (options : ParseOptions) (bytes : List ℕ) (row : Row) (rows : List Row) (end : ℕ) → IsParagraph options bytes row rows → end ≤ row.first.index → NextBelongs end (plain_events bytes (record { kind = Text; chunks = chunks_of row rows }))
+plain-first options bytes row [] end h k =
+    let chunk : Chunk = record { first = row.first; after = row.end } in
+    let ends = ap (λ (p : Point). p.index) (line_end-alone options bytes h.0 row h.1) in
+    let grows = line-grows options bytes h.0 row h.1 h.2 in
+    plain-next row.first (line_end bytes chunk) (pair_unless_empty n.LineEnding (line_end bytes chunk) row.end) [] end (omega arith) k
+plain-first options bytes row (next ∷ rows) end h k =
+    let chunk : Chunk = record { first = row.first; after = behind_row row } in
+    let ends = ap (λ (p : Point). p.index) (line-ended options bytes h.0 row h.3 h.1 h.4 h.5) in
+    let grows = line-grows options bytes h.0 row h.1 h.2 in
+    plain-next row.first (line_end bytes chunk) (pair_unless_empty n.LineEnding (line_end bytes chunk) (behind_row row)) (plain_events bytes (record { kind = Text; chunks = chunks_of next rows })) end (omega arith) k
+
+-- the text of a paragraph
+text-cut : (options : ParseOptions) (bytes : List ℕ) (row : Row) (rows : List Row) → IsParagraph options bytes row rows → CutAt row rows (plain_events bytes (record { kind = Text; chunks = chunks_of row rows })) (read_lines bytes row rows)
+text-cut options bytes row [] h = sym (append-nil (plain_chunk bytes (record { first = row.first; after = row.end })))
+text-cut options bytes row (next ∷ rows) h =
+    let chunk : Chunk = record { first = row.first; after = behind_row row } in
+    let apart = are-apart options bytes row next rows h in
+    let ends = ap (λ (p : Point). p.index) (line-ended options bytes h.0 row h.3 h.1 h.4 h.5) in (
+      plain_chunk bytes chunk,
+      plain_events bytes (record { kind = Text; chunks = chunks_of next rows }),
+      read_lines bytes next rows,
+      refl,
+      plain-belongs row.first (line_end bytes chunk) (behind_row row) (omega (arith, apart.line, apart.ending)) (omega (arith, apart.ending)),
+      plain-first options bytes next rows (behind_row row).index h.7 apart.front,
+      append_assoc (plain_chunk bytes chunk) next.front (read_lines bytes next rows),
+      text-cut options bytes next rows h.7,
+    )
+
+lines-become : (options : ParseOptions) (bytes : List ℕ) (row : Row) (rows : List Row) (wants : Content → Bool) (reads : Readings) → wants content.Text ≡ true → ReadsText bytes reads → IsParagraph options bytes row rows → HasFront bytes row →
     Becomes wants reads (unread_group (Lines row rows)) (paragraph_events bytes row rows)
-lines-become options bytes row rows wants reads w rt is =
+lines-become options bytes row rows wants reads w rt is front =
     let last : Row = last_row row rows in
-    let ending : List Event = ending_events n.LineEnding last in
-    let plain : List Event = plain_events bytes (record { kind = Text; chunks = chunks_of row rows }) in
-    let some : (chunk : Chunk) × (chunks : List Chunk) × (chunks_of row rows ≡ chunk ∷ chunks) = chunks-some row rows in
-    let unique : (answer : List Event) → reads content.Text (chunks_of row rows) answer → answer ≡ plain = λ answer r. rt (chunks_of row rows) answer r last.end (paragraph-lines options bytes row rows is) (paragraph-whole options bytes row rows is) in
-    becomes-append wants reads (unread_paragraph row rows) (around n.Paragraph row.first last.end plain) ending ending
-    (subst (λ (chunks : List Chunk). Becomes wants reads (around n.Paragraph row.first last.end (linked n.Data text_link chunks)) (around n.Paragraph row.first last.end plain)) (sym some.2)
-    (part-becomes wants reads n.Paragraph n.Data text_link row.first last.end some.0 some.1 plain w refl
-    (subst (λ (chunks : List Chunk). (answer : List Event) → reads content.Text chunks answer → answer ≡ plain) some.2 unique)))
-    (becomes-same wants reads ending (ending-unwanted wants last))
+    let given : List Event = read_lines bytes row rows in
+    let unique : (answer : List Event) → reads content.Text (chunks_of row rows) answer → answer ≡ plain_events bytes (record { kind = Text; chunks = chunks_of row rows }) =
+    λ answer r. rt (chunks_of row rows) answer r last.end (paragraph-lines options bytes row rows is) (paragraph-whole options bytes row rows is) in
+    leaf-becomes wants reads row.front (unread_paragraph row rows) (around n.Paragraph row.first last.end given) (tail_events n.LineEnding last) (front-unwanted wants bytes row front) (tail-unwanted wants last)
+    (lines-becomes wants reads n.Paragraph n.Data text_link row.first last.end row rows given w refl (paragraph-fronts options bytes row rows is)
+    (λ answer r. subst (λ (l : List Event). CutAt row rows l given) (sym (unique answer r)) (text-cut options bytes row rows is)))
 
 groups-become : (options : ParseOptions) (bytes : List ℕ) (wants : Content → Bool) (reads : Readings) → wants content.Text ≡ true → ReadsText bytes reads →
     (gs : List Group) → AreGroups options bytes gs → Becomes wants reads (titled_groups bytes gs) (groups_events bytes gs)
@@ -478,15 +737,15 @@ groups-become options bytes wants reads w rt (Single row ∷ gs) are =
     (single-becomes options bytes row wants reads w rt are.0 row.kind refl) (groups-become options bytes wants reads w rt gs are.1)
 groups-become options bytes wants reads w rt (Lines row rows ∷ gs) are =
     becomes-append wants reads (titled_group bytes (Lines row rows)) (group_events bytes (Lines row rows)) (titled_groups bytes gs) (groups_events bytes gs)
-    (lines-become options bytes row rows wants reads w rt are.0) (groups-become options bytes wants reads w rt gs are.2)
+    (lines-become options bytes row rows wants reads w rt are.0 are.2) (groups-become options bytes wants reads w rt gs are.3)
 
 -- The text of headings and paragraphs, read: the events of a text.
-pub text-read : (options : ParseOptions) (bytes : List ℕ) (p : Point) (lines : List (List ℕ)) (rows : List Row) → AreRows options bytes p lines rows → EachNoContent rows →
+pub text-read : (options : ParseOptions) (bytes : List ℕ) (depth : ℕ) (going : Bool) (p : Point) (lines : List (List ℕ)) (rows : List Row) → AreRows options bytes depth going p lines rows → EachNoContent rows →
     (wants : Content → Bool) (reads : Readings) → wants content.Text ≡ true → ReadsText bytes reads →
     (events : List Event) → Substituted wants reads [] 0 (titled_groups bytes (groups rows)) events → events ≡ groups_events bytes (groups rows)
-text-read options bytes p lines rows are quiet wants reads w rt events s =
+text-read options bytes depth going p lines rows are quiet wants reads w rt events s =
     let titled : List Event = titled_groups bytes (groups rows) in
     let rest : Rest wants reads (groups_events bytes (groups rows)) [] events =
-    groups-become options bytes wants reads w rt (groups rows) (groups-are options bytes p lines rows are quiet) [] [] events
+    groups-become options bytes wants reads w rt (groups rows) (groups-are options bytes depth going p lines rows are quiet) [] [] events
     (subst (λ (l : List Event). Substituted wants reads [] 0 l events) (sym (append-nil titled)) s) in
     rest.2 ∙ ap (λ (l : List Event). groups_events bytes (groups rows) ++ l) rest.3 ∙ append-nil (groups_events bytes (groups rows))

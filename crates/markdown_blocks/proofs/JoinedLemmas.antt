@@ -1,7 +1,8 @@
 -- Lines of text that follow one another, joined.
-use Rattle.std.proofs.Common.{◌≡◌, ℕ, zero, suc, Bool, true, false, cond, ◌&&◌, nat_eq, List, [], ◌∷◌, ◌++◌, refl, ap, sym, ◌∙◌, append_assoc}
-use Rattle.std.specs.Prelude.{Option, Some, None}
+use Rattle.std.proofs.Common.{◌≡◌, ℕ, zero, suc, Bool, true, false, cond, ◌&&◌, nat_eq, List, [], ◌∷◌, ◌++◌, refl, ap, sym, ◌∙◌, subst, append_assoc, arith}
+use Rattle.std.specs.Prelude.{◌==◌, Option, Some, None}
 use Rattle.std.proofs.lemmas.Bool.{and_right}
+use Rattle.std.proofs.lemmas.Bool.Decides.{nat_tests}
 use Rattle.md_engine.specs.declared.configuration.ParseOptions.{ParseOptions}
 use Rattle.md_engine.specs.declared.event.Content.{Content}
 use Rattle.md_engine.specs.declared.event.Content.TheVariants as content
@@ -15,12 +16,15 @@ use Rattle.md_content.specs.Joined.{content_behind, goes_on, is_content, joined}
 use Rattle.md_leaves.specs.BreakRule.{Apart, Marks, Run, White, runs}
 use Rattle.md_leaves.specs.HeadingRule as heading
 use Rattle.md_seam.specs.Ahead.{begins_white, from_ending, line_cells, line_end, white_end, white_rest}
+use Rattle.md_seam.specs.Inline.{is_line_ending}
 use Rattle.md_seam.specs.Nested.{around, enter, enter_link, exit, pair, is_enter, is_exit}
 use Rattle.md_seam.specs.Spaces.{small_indent}
 use Rattle.md_seam.specs.Substituted.{is_prefix, wanted}
-use Rattle.markdown_blocks.specs.Rows.{BlankRow, BreakRow, Group, HeadingRow, Lines, Row, RowKind, Single, TextRow, behind_row, ending_events, first_cell, groups, inside_of, onto_groups, row_events, row_events_by, row_kind, rows_at, rows_events}
-use Rattle.markdown_blocks.specs.Unread.{joined_groups}
-use Rattle.markdown_blocks.proofs.SubstitutedLemmas.{Unwanted}
+use Rattle.markdown_blocks.specs.Rows.{BlankRow, BreakRow, Group, HeadingRow, Held, Lines, Row, RowKind, Single, TextRow, behind_row, ending_events, ending_of, first_cell, groups, held_at, inside_of, is_text, last_row, leaf_events, onto_groups, onto_lines, quote_ends, row_events, row_events_by, row_kind, rows_at, rows_by, rows_events, tail_events}
+use Rattle.markdown_blocks.specs.Rows as lines
+use Rattle.markdown_blocks.specs.Unread.{joined_groups, linked_lines}
+use Rattle.markdown_blocks.proofs.FrontNames.{AreFront, HasFront, front-content, fronts-are, fronts-prefixes, fronts-stop, prefixes-content}
+use Rattle.markdown_blocks.proofs.SubstitutedLemmas.{Unwanted, no_link-unwanted}
 
 -- events none of which is content, or begins a chunk that the reader wants
 abbrev pub NoContent : (Content → Bool) → List Event → Type 0
@@ -115,13 +119,16 @@ inside-no_content wants options cells p BreakRow w =
 inside-no_content wants options cells p TextRow w = tt
 
 -- no content stands inside the lines that flow reads
-pub rows_at-no_content : (options : ParseOptions) (size : ℕ) (cells : List Cell) (p : Point) → EachNoContent (rows_at options size cells p)
-rows_at-no_content options zero cells p = tt
-rows_at-no_content options (suc size) cells p = (λ wants w. inside-no_content wants options cells p (row_kind options cells) w, go (rows_at-no_content options size) (from_ending cells))
+pub rows_at-no_content : (options : ParseOptions) (size depth : ℕ) (going : Bool) (cells : List Cell) (p : Point) → EachNoContent (rows_at options size depth going cells p)
+rows_at-no_content options zero depth going cells p = tt
+rows_at-no_content options (suc size) depth going cells p = by (rows_at-no_content options size) (held_at options depth going cells p)
   where
-    go : ((cells : List Cell) (p : Point) → EachNoContent (rows_at options size cells p)) → (rest : List Cell) → EachNoContent (elim rest [ [] ↦ [] | c ∷ cs ↦ rows_at options size cs c.after ])
-    go further [] = tt
-    go further (c ∷ cs) = further cs c.after
+    by : ((depth : ℕ) (going : Bool) (cells : List Cell) (p : Point) → EachNoContent (rows_at options size depth going cells p)) → (h : Held) → EachNoContent (rows_by options h (rows_at options size))
+    by further h = (λ wants w. inside-no_content wants options h.cells h.point (row_kind options h.cells) w, go (from_ending h.cells))
+      where
+        go : (rest : List Cell) → EachNoContent (elim rest [ [] ↦ [] | c ∷ cs ↦ rows_at options size h.depth (is_text (row_kind options h.cells)) cs c.after ])
+        go [] = tt
+        go (c ∷ cs) = further h.depth (is_text (row_kind options h.cells)) cs c.after
 
 -- Their events.
 
@@ -132,20 +139,45 @@ ending-no_content wants name row h = go row.after
     go None = tt
     go (Some q) = (refl, h, (refl, h, tt))
 
--- what stands in a block on a line, with its ending
-around-no_content : (wants : Content → Bool) (name : Name) (row : Row) → is_content name ≡ false → NoContent wants row.inside → NoContent wants (around name row.first row.end row.inside ++ ending_events n.LineEnding row)
-around-no_content wants name row other h = (
-  refl,
-  other,
-  no_content-append wants (row.inside ++ exit name row.end ∷ []) (ending_events n.LineEnding row) (no_content-append wants row.inside (exit name row.end ∷ []) h (refl, other, tt)) (ending-no_content wants n.LineEnding row refl),
-)
+pub ends-no_content : (wants : Content → Bool) (many : ℕ) (p : Point) → NoContent wants (quote_ends many p)
+ends-no_content wants zero p = tt
+ends-no_content wants (suc many) p = (refl, refl, ends-no_content wants many p)
+
+-- what stands behind a line
+pub tail-no_content : (wants : Content → Bool) (name : Name) (row : Row) → is_content name ≡ false → NoContent wants (tail_events name row)
+tail-no_content wants name row h = no_content-append wants (quote_ends row.leaves row.end) (ending_events name row) (ends-no_content wants row.leaves row.end) (ending-no_content wants name row h)
+
+-- and in front of it
+pub front-no_content : (wants : Content → Bool) (es : List Event) → AreFront es → NoContent wants es
+front-no_content wants [] h = tt
+front-no_content wants (e ∷ es) h = (no_link-unwanted wants e h.1, front-content e.name h.0, front-no_content wants es h.2)
+
+pub has_front-no_content : (wants : Content → Bool) (bytes : List ℕ) (row : Row) → HasFront bytes row → NoContent wants row.front
+has_front-no_content wants bytes row h = front-no_content wants row.front (fronts-are bytes row.opens h.0 row.first row.front h.1)
+
+-- what stands in a block on a line
+around-no_content : (wants : Content → Bool) (name : Name) (row : Row) → is_content name ≡ false → NoContent wants row.inside → NoContent wants (around name row.first row.end row.inside)
+around-no_content wants name row other h = (refl, other, no_content-append wants row.inside (exit name row.end ∷ []) h (refl, other, tt))
 
 -- what a line adds that is not text
-pub events-no_content : (wants : Content → Bool) (row : Row) (kind : RowKind) → row.kind ≡ kind → (kind ≡ TextRow → ⊥) → NoContent wants row.inside → NoContent wants (row_events row)
-events-no_content wants row BlankRow e other h = rw e (no_content-append wants row.inside (ending_events n.BlankLineEnding row) h (ending-no_content wants n.BlankLineEnding row refl))
-events-no_content wants row HeadingRow e other h = rw e (around-no_content wants n.HeadingAtx row refl h)
-events-no_content wants row BreakRow e other h = rw e (around-no_content wants n.ThematicBreak row refl h)
-events-no_content wants row TextRow e other h = absurd (other refl)
+pub events-no_content : (wants : Content → Bool) (bytes : List ℕ) (row : Row) (kind : RowKind) → row.kind ≡ kind → (kind ≡ TextRow → ⊥) → HasFront bytes row → NoContent wants row.inside → NoContent wants (row_events row)
+events-no_content wants bytes row kind e other front h =
+    subst (λ (k : RowKind). NoContent wants (row_events_by k row)) (sym e)
+    (no_content-append wants (row.front ++ leaf_events kind row) (tail_events (ending_of kind) row)
+    (no_content-append wants row.front (leaf_events kind row) (has_front-no_content wants bytes row front) (leaf kind other))
+    (tail-no_content wants (ending_of kind) row (ending kind)))
+  where
+    leaf : (kind : RowKind) → (kind ≡ TextRow → ⊥) → NoContent wants (leaf_events kind row)
+    leaf BlankRow other = h
+    leaf HeadingRow other = around-no_content wants n.HeadingAtx row refl h
+    leaf BreakRow other = around-no_content wants n.ThematicBreak row refl h
+    leaf TextRow other = absurd (other refl)
+
+    ending : (kind : RowKind) → is_content (ending_of kind) ≡ false
+    ending BlankRow = refl
+    ending HeadingRow = refl
+    ending BreakRow = refl
+    ending TextRow = refl
 
 -- Joining.
 
@@ -184,83 +216,203 @@ behind-is row q after = ap (λ (x : Option Point). elim x [ None ↦ row.end | S
 pub behind-none : (row : Row) → row.after ≡ None → behind_row row ≡ row.end
 behind-none row after = ap (λ (x : Option Point). elim x [ None ↦ row.end | Some q ↦ q ]) after
 
--- a line of content that goes on takes its ending, and another keeps its end
+-- in front of each line stand prefixes and begins of quotes
+abbrev pub EachFront : List ℕ → List Row → Type 0
+EachFront bytes [] = Unit {0}
+EachFront bytes (row ∷ rows) = HasFront bytes row × EachFront bytes rows
+
+-- the events of a line of text
+abbrev text_events : Row → List Event
+text_events row = enter_link n.Content row.first content_link ∷ exit n.Content row.end ∷ []
+
+-- a line of content that goes on takes its ending
 text-goes_on : (first end q : Point) (es : List Event) → content_behind es ≡ true →
     joined (enter_link n.Content first content_link ∷ exit n.Content end ∷ pair n.LineEnding end q ++ es) ≡ enter_link n.Content first content_link ∷ exit n.Content q ∷ joined es
 text-goes_on first end q es h =
     ap (λ (x : Bool). enter_link n.Content first content_link ∷ cond x (exit n.Content q ∷ joined es) (exit n.Content end ∷ joined (pair n.LineEnding end q ++ es))) h
 
-text-ends : (first end q : Point) (es : List Event) → content_behind es ≡ false →
-    joined (enter_link n.Content first content_link ∷ exit n.Content end ∷ pair n.LineEnding end q ++ es) ≡ enter_link n.Content first content_link ∷ exit n.Content end ∷ pair n.LineEnding end q ++ joined es
-text-ends first end q es h =
-    ap (λ (x : Bool). enter_link n.Content first content_link ∷ cond x (exit n.Content q ∷ joined es) (exit n.Content end ∷ joined (pair n.LineEnding end q ++ es))) h
-    ∙ ap (λ (l : List Event). enter_link n.Content first content_link ∷ exit n.Content end ∷ l) (joined-passes (pair n.LineEnding end q) es (refl, refl, (refl, refl, tt)))
+-- an event that is not joined with what follows
+joined-keeps : (e : Event) (es : List Event) → goes_on es ≡ false → joined (e ∷ es) ≡ e ∷ joined es
+joined-keeps e [] h = refl
+joined-keeps e (f ∷ []) h = refl
+joined-keeps e (f ∷ g ∷ es) h = ap (λ (x : Bool). cond x (record e { point = g.point } ∷ joined es) (e ∷ joined (f ∷ g ∷ es))) (and_right (is_exit e.kind && is_content e.name) (goes_on (f ∷ g ∷ es)) h)
 
--- a blank line, with what follows it, is no line of content
-blank-behind : (row : Row) (rows : List Row) → EachEnds (row ∷ rows) → NoContent nothing row.inside → content_behind ((row.inside ++ ending_events n.BlankLineEnding row) ++ rows_events rows) ≡ false
-blank-behind row [] ends h = behind-passes (row.inside ++ ending_events n.BlankLineEnding row) [] (no_content-append nothing row.inside (ending_events n.BlankLineEnding row) h (ending-no_content nothing n.BlankLineEnding row refl)) refl
-blank-behind row (below ∷ rows) ends h =
-    ap content_behind (append_assoc row.inside (ending_events n.BlankLineEnding row) (rows_events (below ∷ rows)))
-    ∙ behind-passes row.inside (ending_events n.BlankLineEnding row ++ rows_events (below ∷ rows)) h (ap (λ (l : List Event). content_behind (l ++ rows_events (below ∷ rows))) (ending-is n.BlankLineEnding row ends.0 ends.1))
+-- nothing goes on over what is no line ending
+no_ending-stops : (e : Event) (es : List Event) → is_line_ending e.name ≡ false → goes_on (e ∷ es) ≡ false
+no_ending-stops e [] h = refl
+no_ending-stops e (f ∷ es) h = ap (λ (x : Bool). x && content_behind es) h
 
--- a line of text, and the lines from the next one on
-text-rows : (row below : Row) (rows : List Row) (kind : RowKind) (q : Point) → row.after ≡ Some q → EachEnds (below ∷ rows) → NoContent nothing below.inside → below.kind ≡ kind →
-    joined (rows_events (below ∷ rows)) ≡ joined_groups (onto_groups below kind (groups rows)) →
-    joined (enter_link n.Content row.first content_link ∷ exit n.Content row.end ∷ ending_events n.LineEnding row ++ rows_events (below ∷ rows)) ≡ joined_groups (onto_groups row TextRow (onto_groups below kind (groups rows)))
-text-rows row below rows TextRow q after ends h e same =
-    ap (λ (l : List Event). joined (enter_link n.Content row.first content_link ∷ exit n.Content row.end ∷ l ++ rows_events (below ∷ rows))) (ending-is n.LineEnding row q after)
-    ∙ text-goes_on row.first row.end q (rows_events (below ∷ rows)) (rw e refl)
-    ∙ ap (λ (l : List Event). enter_link n.Content row.first content_link ∷ exit n.Content q ∷ l) same
-    ∙ ap (λ (p : Point). enter_link n.Content row.first content_link ∷ exit n.Content p ∷ joined_groups (onto_groups below TextRow (groups rows))) (sym (behind-is row q after))
-    ∙ onto (groups rows)
+-- a line of text that does not go on
+text-ends : (row : Row) (es : List Event) → goes_on (tail_events n.LineEnding row ++ es) ≡ false → joined ((text_events row ++ tail_events n.LineEnding row) ++ es) ≡ (text_events row ++ tail_events n.LineEnding row) ++ joined es
+text-ends row es h =
+    let tail = tail_events n.LineEnding row in
+    joined-one (enter_link n.Content row.first content_link) (exit n.Content row.end ∷ tail ++ es) refl
+    ∙ ap (λ (l : List Event). enter_link n.Content row.first content_link ∷ l) (joined-keeps (exit n.Content row.end) (tail ++ es) h ∙ ap (λ (l : List Event). exit n.Content row.end ∷ l) (joined-passes tail es (tail-no_content nothing n.LineEnding row refl)))
+
+-- where a quote ends behind a line, or no line of content follows, it does not go on
+tail-stops : (row : Row) (es : List Event) (q : Point) → row.after ≡ Some q → ((row.leaves == 0) && content_behind es) ≡ false → goes_on (tail_events n.LineEnding row ++ es) ≡ false
+tail-stops row es q after h =
+    ap (λ (l : List Event). goes_on ((quote_ends row.leaves row.end ++ l) ++ es)) (ending-is n.LineEnding row q after) ∙ go row.leaves h
   where
-    onto : (gs : List Group) → enter_link n.Content row.first content_link ∷ exit n.Content (behind_row row) ∷ joined_groups (onto_groups below TextRow gs) ≡ joined_groups (onto_groups row TextRow (onto_groups below TextRow gs))
-    onto [] = refl
-    onto (Single first ∷ gs) = refl
-    onto (Lines first rows ∷ gs) = refl
-text-rows row below rows BlankRow q after ends h e same =
-    ap (λ (l : List Event). joined (enter_link n.Content row.first content_link ∷ exit n.Content row.end ∷ l ++ rows_events (below ∷ rows))) (ending-is n.LineEnding row q after)
-    ∙ text-ends row.first row.end q (rows_events (below ∷ rows)) (rw e (blank-behind below rows ends h))
-    ∙ ap (λ (l : List Event). enter_link n.Content row.first content_link ∷ exit n.Content row.end ∷ pair n.LineEnding row.end q ++ l) same
-    ∙ ap (λ (l : List Event). enter_link n.Content row.first content_link ∷ exit n.Content row.end ∷ l ++ joined_groups (Single below ∷ groups rows)) (sym (ending-is n.LineEnding row q after))
-text-rows row below rows HeadingRow q after ends h e same =
-    ap (λ (l : List Event). joined (enter_link n.Content row.first content_link ∷ exit n.Content row.end ∷ l ++ rows_events (below ∷ rows))) (ending-is n.LineEnding row q after)
-    ∙ text-ends row.first row.end q (rows_events (below ∷ rows)) (rw e refl)
-    ∙ ap (λ (l : List Event). enter_link n.Content row.first content_link ∷ exit n.Content row.end ∷ pair n.LineEnding row.end q ++ l) same
-    ∙ ap (λ (l : List Event). enter_link n.Content row.first content_link ∷ exit n.Content row.end ∷ l ++ joined_groups (Single below ∷ groups rows)) (sym (ending-is n.LineEnding row q after))
-text-rows row below rows BreakRow q after ends h e same =
-    ap (λ (l : List Event). joined (enter_link n.Content row.first content_link ∷ exit n.Content row.end ∷ l ++ rows_events (below ∷ rows))) (ending-is n.LineEnding row q after)
-    ∙ text-ends row.first row.end q (rows_events (below ∷ rows)) (rw e refl)
-    ∙ ap (λ (l : List Event). enter_link n.Content row.first content_link ∷ exit n.Content row.end ∷ pair n.LineEnding row.end q ++ l) same
-    ∙ ap (λ (l : List Event). enter_link n.Content row.first content_link ∷ exit n.Content row.end ∷ l ++ joined_groups (Single below ∷ groups rows)) (sym (ending-is n.LineEnding row q after))
+    go : (many : ℕ) → ((many == 0) && content_behind es) ≡ false → goes_on ((quote_ends many row.end ++ pair n.LineEnding row.end q) ++ es) ≡ false
+    go zero h = h
+    go (suc many) h = no_ending-stops (exit n.BlockQuote row.end) ((quote_ends many row.end ++ pair n.LineEnding row.end q) ++ es) refl
+
+-- what stands behind the front of a line
+abbrev behind_front : Row → List Event → List Event
+behind_front row es = (leaf_events row.kind row ++ tail_events (ending_of row.kind) row) ++ es
+
+events-front : (row : Row) (es : List Event) → row_events row ++ es ≡ row.front ++ behind_front row es
+events-front row es =
+    ap (λ (l : List Event). l ++ es) (append_assoc row.front (leaf_events row.kind row) (tail_events (ending_of row.kind) row))
+    ∙ append_assoc row.front (leaf_events row.kind row ++ tail_events (ending_of row.kind) row) es
+
+-- and what stands in front of it
+text-apart : (bytes : List ℕ) (row : Row) (es : List Event) → HasFront bytes row → goes_on (tail_events n.LineEnding row ++ es) ≡ false → joined (row_events_by TextRow row ++ es) ≡ row_events_by TextRow row ++ joined es
+text-apart bytes row es front h =
+    let tail = tail_events n.LineEnding row in
+    let text = text_events row in
+    ap joined (ap (λ (l : List Event). l ++ es) (append_assoc row.front text tail) ∙ append_assoc row.front (text ++ tail) es)
+    ∙ joined-passes row.front ((text ++ tail) ++ es) (has_front-no_content nothing bytes row front)
+    ∙ ap (λ (l : List Event). row.front ++ l) (text-ends row es h)
+    ∙ sym (ap (λ (l : List Event). l ++ joined es) (append_assoc row.front text tail) ∙ append_assoc row.front (text ++ tail) (joined es))
+
+-- behind a line that is no text the one before does not go on
+other-behind : (bytes : List ℕ) (row : Row) (rows : List Row) → EachEnds (row ∷ rows) → HasFront bytes row → NoContent nothing row.inside → (kind : RowKind) → row.kind ≡ kind → (kind ≡ TextRow → ⊥) → content_behind (rows_events (row ∷ rows)) ≡ false
+other-behind bytes row rows ends front h kind e other =
+    ap content_behind (events-front row (rows_events rows))
+    ∙ ap (λ (k : RowKind). content_behind (row.front ++ ((leaf_events k row ++ tail_events (ending_of k) row) ++ rows_events rows))) e
+    ∙ behind-passes row.front ((leaf_events kind row ++ tail_events (ending_of kind) row) ++ rows_events rows) (has_front-no_content nothing bytes row front) (go kind other)
+  where
+    ending : (rows : List Row) → EachEnds (row ∷ rows) → content_behind (ending_events n.BlankLineEnding row ++ rows_events rows) ≡ false
+    ending [] ends = last row.after
+      where
+        last : (after : Option Point) → content_behind (elim after [ None ↦ [] | Some q ↦ pair n.BlankLineEnding row.end q ] ++ []) ≡ false
+        last None = refl
+        last (Some q) = refl
+    ending (below ∷ rows) ends = ap (λ (l : List Event). content_behind (l ++ rows_events (below ∷ rows))) (ending-is n.BlankLineEnding row ends.0 ends.1)
+
+    tail : (many : ℕ) → content_behind ((quote_ends many row.end ++ ending_events n.BlankLineEnding row) ++ rows_events rows) ≡ false
+    tail zero = ending rows ends
+    tail (suc many) = refl
+
+    go : (kind : RowKind) → (kind ≡ TextRow → ⊥) → content_behind ((leaf_events kind row ++ tail_events (ending_of kind) row) ++ rows_events rows) ≡ false
+    go BlankRow other =
+        ap content_behind (append_assoc row.inside (tail_events n.BlankLineEnding row) (rows_events rows))
+        ∙ behind-passes row.inside (tail_events n.BlankLineEnding row ++ rows_events rows) h (tail row.leaves)
+    go HeadingRow other = refl
+    go BreakRow other = refl
+    go TextRow other = absurd (other refl)
+
+-- a line of text begins a paragraph with those behind it
+lines-first : (Q : List Group → Type 0) (row : Row) (gs : List Group) → ((more : List Row) (rest : List Group) → Q (Lines row more ∷ rest)) → Q (onto_groups row TextRow gs)
+lines-first Q row [] h = h [] []
+lines-first Q row (Single first ∷ gs) h = h [] (Single first ∷ gs)
+lines-first Q row (Lines first rows ∷ gs) h = go (lines.goes_on row first)
+  where
+    go : (x : Bool) → Q (cond x (Lines row (first ∷ rows) ∷ gs) (Lines row [] ∷ Lines first rows ∷ gs))
+    go true = h (first ∷ rows) gs
+    go false = h [] (Lines first rows ∷ gs)
+
+-- a line that goes on
+line-joins : (front below parts tail rest : List Event) (e f : Event) → front ++ (e ∷ f ∷ ((below ++ parts) ++ tail) ++ rest) ≡ ((front ++ (e ∷ f ∷ below ++ parts)) ++ tail) ++ rest
+line-joins front below parts tail rest e f =
+    sym (append_assoc (front ++ (e ∷ f ∷ below ++ parts)) tail rest ∙ append_assoc front (e ∷ f ∷ below ++ parts) (tail ++ rest) ∙ ap (λ (l : List Event). front ++ (e ∷ f ∷ l)) (sym (append_assoc (below ++ parts) tail rest)))
+
+-- a line of text in front of a paragraph
+text-lines : (bytes : List ℕ) (row below : Row) (more rows : List Row) (gs : List Group) (q : Point) → row.after ≡ Some q → HasFront bytes row → HasFront bytes below → below.kind ≡ TextRow →
+    joined (rows_events (below ∷ rows)) ≡ joined_groups (Lines below more ∷ gs) →
+    joined (row_events_by TextRow row ++ rows_events (below ∷ rows)) ≡ joined_groups (onto_lines row below more gs)
+text-lines bytes row below more rows gs q after front under text same = go (row.leaves == 0) refl (below.opens == 0) refl
+  where
+    es : List Event
+    es = rows_events (below ∷ rows)
+
+    goes : Bool → List Group
+    goes x = cond x (Lines row (below ∷ more) ∷ gs) (Lines row [] ∷ Lines below more ∷ gs)
+
+    apart : ((row.leaves == 0) && content_behind es) ≡ false → joined (row_events_by TextRow row ++ es) ≡ joined_groups (Lines row [] ∷ Lines below more ∷ gs)
+    apart h = text-apart bytes row es front (tail-stops row es q after h) ∙ ap (λ (l : List Event). row_events_by TextRow row ++ l) same
+
+    behind : (below.opens == 0) ≡ false → content_behind es ≡ false
+    behind k = ap content_behind (events-front below (rows_events rows)) ∙ fronts-stop bytes below.opens under.0 below.first below.front (behind_front below (rows_events rows)) (grind (arith, nat_tests)) under.1
+
+    joins : row.leaves ≡ 0 → below.opens ≡ 0 → joined (row_events_by TextRow row ++ es) ≡ joined_groups (Lines row (below ∷ more) ∷ gs)
+    joins none same_quotes =
+        let begin = enter_link n.Content row.first content_link in
+        let tail = tail_events n.LineEnding row in
+        let goes_behind : content_behind es ≡ true =
+        ap content_behind (events-front below (rows_events rows))
+        ∙ prefixes-content below.front (behind_front below (rows_events rows)) (fronts-prefixes bytes below.opens under.0 below.first below.front same_quotes under.1)
+        ∙ ap (λ (kind : RowKind). content_behind ((leaf_events kind below ++ tail_events (ending_of kind) below) ++ rows_events rows)) text in
+        ap joined (ap (λ (l : List Event). l ++ es) (append_assoc row.front (text_events row) tail) ∙ append_assoc row.front (text_events row ++ tail) es)
+        ∙ joined-passes row.front ((text_events row ++ tail) ++ es) (has_front-no_content nothing bytes row front)
+        ∙ ap (λ (l : List Event). row.front ++ joined ((text_events row ++ l) ++ es)) (ap (λ (k : ℕ). quote_ends k row.end ++ ending_events n.LineEnding row) none ∙ ending-is n.LineEnding row q after)
+        ∙ ap (λ (l : List Event). row.front ++ l) (text-goes_on row.first row.end q es goes_behind)
+        ∙ ap (λ (l : List Event). row.front ++ (begin ∷ exit n.Content q ∷ l)) same
+        ∙ ap (λ (p : Point). row.front ++ (begin ∷ exit n.Content p ∷ joined_groups (Lines below more ∷ gs))) (sym (behind-is row q after))
+        ∙ line-joins row.front below.front (linked_lines n.Content content_link below more) (tail_events n.LineEnding (last_row below more)) (joined_groups gs) begin (exit n.Content (behind_row row))
+
+    go : (x : Bool) → (row.leaves == 0) ≡ x → (y : Bool) → (below.opens == 0) ≡ y → joined (row_events_by TextRow row ++ es) ≡ joined_groups (onto_lines row below more gs)
+    go true e true k = joins (grind (arith, nat_tests)) (grind (arith, nat_tests)) ∙ sym (ap (λ (x : Bool). joined_groups (goes x)) (ap (λ (x : Bool). x && (below.opens == 0)) e ∙ k))
+    go true e false k = apart (ap (λ (x : Bool). x && content_behind es) e ∙ behind k) ∙ sym (ap (λ (x : Bool). joined_groups (goes x)) (ap (λ (x : Bool). x && (below.opens == 0)) e ∙ k))
+    go false e y k = apart (ap (λ (x : Bool). x && content_behind es) e) ∙ sym (ap (λ (x : Bool). joined_groups (goes x)) (ap (λ (x : Bool). x && (below.opens == 0)) e))
+
+-- a line of text in front of others
+text-rows : (bytes : List ℕ) (row below : Row) (rows : List Row) (q : Point) → row.after ≡ Some q → EachFront bytes (row ∷ below ∷ rows) → EachEnds (below ∷ rows) → NoContent nothing below.inside → (kind : RowKind) → below.kind ≡ kind →
+    joined (rows_events (below ∷ rows)) ≡ joined_groups (onto_groups below kind (groups rows)) →
+    joined (row_events_by TextRow row ++ rows_events (below ∷ rows)) ≡ joined_groups (onto_groups row TextRow (onto_groups below kind (groups rows)))
+text-rows bytes row below rows q after fronts ends h kind e same = go kind e same
+  where
+    es : List Event
+    es = rows_events (below ∷ rows)
+
+    other : (kind : RowKind) → below.kind ≡ kind → (kind ≡ TextRow → ⊥) → joined es ≡ joined_groups (Single below ∷ groups rows) → joined (row_events_by TextRow row ++ es) ≡ joined_groups (Lines row [] ∷ Single below ∷ groups rows)
+    other kind e apart same =
+        text-apart bytes row es fronts.0 (tail-stops row es q after (and_right (row.leaves == 0) (content_behind es) (other-behind bytes below rows ends fronts.1.0 h kind e apart)))
+        ∙ ap (λ (l : List Event). row_events_by TextRow row ++ l) same
+
+    go : (kind : RowKind) → below.kind ≡ kind → joined es ≡ joined_groups (onto_groups below kind (groups rows)) → joined (row_events_by TextRow row ++ es) ≡ joined_groups (onto_groups row TextRow (onto_groups below kind (groups rows)))
+    go BlankRow e same = other BlankRow e (λ k. cc) same
+    go HeadingRow e same = other HeadingRow e (λ k. cc) same
+    go BreakRow e same = other BreakRow e (λ k. cc) same
+    go TextRow e same =
+        lines-first (λ (gs : List Group). joined es ≡ joined_groups gs → joined (row_events_by TextRow row ++ es) ≡ joined_groups (onto_groups row TextRow gs)) below (groups rows)
+        (λ more rest same. text-lines bytes row below more rows rest q after fronts.0 fronts.1.0 e same) same
 
 -- a line that is not text, and what follows it
 single-rows : (row : Row) (rows : List Row) → NoContent nothing (row_events row) → joined (rows_events rows) ≡ joined_groups (groups rows) → joined (row_events row ++ rows_events rows) ≡ joined_groups (Single row ∷ groups rows)
 single-rows row rows h same = joined-passes (row_events row) (rows_events rows) h ∙ ap (λ (l : List Event). row_events row ++ l) same
 
 -- the last line is text
-text-last : (row : Row) → joined (enter_link n.Content row.first content_link ∷ exit n.Content row.end ∷ ending_events n.LineEnding row ++ []) ≡ joined_groups (Lines row [] ∷ [])
-text-last row = go row.after
+text-last : (bytes : List ℕ) (row : Row) → HasFront bytes row → joined (row_events_by TextRow row ++ []) ≡ joined_groups (Lines row [] ∷ [])
+text-last bytes row front = text-apart bytes row [] front (go row.leaves row.after)
   where
-    go : (after : Option Point) → joined (enter_link n.Content row.first content_link ∷ exit n.Content row.end ∷ elim after [ None ↦ [] | Some q ↦ pair n.LineEnding row.end q ] ++ []) ≡
-        enter_link n.Content row.first content_link ∷ exit n.Content row.end ∷ elim after [ None ↦ [] | Some q ↦ pair n.LineEnding row.end q ] ++ []
-    go None = refl
-    go (Some q) = refl
+    go : (many : ℕ) (after : Option Point) → goes_on ((quote_ends many row.end ++ elim after [ None ↦ [] | Some q ↦ pair n.LineEnding row.end q ]) ++ []) ≡ false
+    go zero None = refl
+    go zero (Some q) = refl
+    go (suc many) after = no_ending-stops (exit n.BlockQuote row.end) ((quote_ends many row.end ++ elim after [ None ↦ [] | Some q ↦ pair n.LineEnding row.end q ]) ++ []) refl
 
--- Joined, the events of lines are those of their groups: lines of text that follow one another stand next to each other.
-pub joined-rows : (rows : List Row) → EachEnds rows → EachNoContent rows → joined (rows_events rows) ≡ joined_groups (groups rows)
-joined-rows [] ends h = refl
-joined-rows (row ∷ []) ends h = go row.kind refl
+-- Joined, the events of lines are those of their groups: lines of text that follow one another in the same quotes are joined.
+pub joined-rows : (bytes : List ℕ) (rows : List Row) → EachFront bytes rows → EachEnds rows → EachNoContent rows → joined (rows_events rows) ≡ joined_groups (groups rows)
+joined-rows bytes [] fronts ends h = refl
+joined-rows bytes (row ∷ []) fronts ends h = go row.kind refl
   where
+    other : (kind : RowKind) → row.kind ≡ kind → (kind ≡ TextRow → ⊥) → joined (row_events row ++ []) ≡ joined_groups (Single row ∷ [])
+    other kind e apart = single-rows row [] (events-no_content nothing bytes row kind e apart fronts.0 (h.0 nothing (λ k. refl))) refl
+
     go : (kind : RowKind) → row.kind ≡ kind → joined (row_events row ++ []) ≡ joined_groups (onto_groups row kind [])
-    go BlankRow e = single-rows row [] (events-no_content nothing row BlankRow e (λ k. cc) (h.0 nothing (λ k. refl))) refl
-    go HeadingRow e = single-rows row [] (events-no_content nothing row HeadingRow e (λ k. cc) (h.0 nothing (λ k. refl))) refl
-    go BreakRow e = single-rows row [] (events-no_content nothing row BreakRow e (λ k. cc) (h.0 nothing (λ k. refl))) refl
-    go TextRow e = ap (λ (kind : RowKind). joined (row_events_by kind row ++ [])) e ∙ text-last row
-joined-rows (row ∷ below ∷ rows) ends h = go (joined-rows (below ∷ rows) ends.2 h.1) row.kind refl
+    go BlankRow e = other BlankRow e (λ k. cc)
+    go HeadingRow e = other HeadingRow e (λ k. cc)
+    go BreakRow e = other BreakRow e (λ k. cc)
+    go TextRow e = ap (λ (kind : RowKind). joined (row_events_by kind row ++ [])) e ∙ text-last bytes row fronts.0
+joined-rows bytes (row ∷ below ∷ rows) fronts ends h = go (joined-rows bytes (below ∷ rows) fronts.1 ends.2 h.1) row.kind refl
   where
+    other : joined (rows_events (below ∷ rows)) ≡ joined_groups (groups (below ∷ rows)) → (kind : RowKind) → row.kind ≡ kind → (kind ≡ TextRow → ⊥) → joined (row_events row ++ rows_events (below ∷ rows)) ≡ joined_groups (Single row ∷ groups (below ∷ rows))
+    other same kind e apart = single-rows row (below ∷ rows) (events-no_content nothing bytes row kind e apart fronts.0 (h.0 nothing (λ k. refl))) same
+
     go : joined (rows_events (below ∷ rows)) ≡ joined_groups (groups (below ∷ rows)) → (kind : RowKind) → row.kind ≡ kind → joined (row_events row ++ rows_events (below ∷ rows)) ≡ joined_groups (onto_groups row kind (groups (below ∷ rows)))
-    go same BlankRow e = single-rows row (below ∷ rows) (events-no_content nothing row BlankRow e (λ k. cc) (h.0 nothing (λ k. refl))) same
-    go same HeadingRow e = single-rows row (below ∷ rows) (events-no_content nothing row HeadingRow e (λ k. cc) (h.0 nothing (λ k. refl))) same
-    go same BreakRow e = single-rows row (below ∷ rows) (events-no_content nothing row BreakRow e (λ k. cc) (h.0 nothing (λ k. refl))) same
-    go same TextRow e = ap (λ (kind : RowKind). joined (row_events_by kind row ++ rows_events (below ∷ rows))) e ∙ (text-rows row below rows below.kind ends.0 ends.1 ends.2 (h.1.0 nothing (λ k. refl)) refl same)
+    go same BlankRow e = other same BlankRow e (λ k. cc)
+    go same HeadingRow e = other same HeadingRow e (λ k. cc)
+    go same BreakRow e = other same BreakRow e (λ k. cc)
+    go same TextRow e = ap (λ (kind : RowKind). joined (row_events_by kind row ++ rows_events (below ∷ rows))) e ∙ text-rows bytes row below rows ends.0 ends.1 fronts ends.2 (h.1.0 nothing (λ k. refl)) below.kind refl same

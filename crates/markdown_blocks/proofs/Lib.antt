@@ -8,6 +8,7 @@ pub mod PiecesLemmas
 pub mod FrontFacts
 pub mod FrontLemmas
 pub mod FrontPlaces
+pub mod FrontNames
 pub mod RowFacts
 pub mod HeadingSpread
 pub mod LineKinds

@@ -1,8 +1,10 @@
 -- What stands in the places of parts, part by part.
-use Rattle.std.proofs.Common.{◌≡◌, ℕ, zero, suc, Bool, true, false, cond, List, [], ◌∷◌, ◌++◌, length, take, drop, refl, ap, sym, ◌∙◌, subst, append_assoc, arith}
+use Rattle.std.proofs.Common.{◌≡◌, ℕ, ◌+◌, zero, suc, Bool, true, false, cond, List, [], ◌∷◌, ◌++◌, length, take, drop, refl, ap, sym, ◌∙◌, subst, append_assoc, arith}
 use Rattle.std.specs.Prelude.{Option, Some, None}
+use Rattle.std.specs.List.{prefix_len}
 use Rattle.std.specs.Option.{is_some}
-use Rattle.std.proofs.lemmas.List.{take-append-drop, take_all}
+use Rattle.std.proofs.Math.Seq.{drop-append_seam, take-append_seam}
+use Rattle.std.proofs.lemmas.List.{take_all}
 use Rattle.md_engine.specs.declared.event.Content.{Content}
 use Rattle.md_engine.specs.declared.event.Event.{Event}
 use Rattle.md_engine.specs.declared.event.Kind.{Kind}
@@ -12,8 +14,10 @@ use Rattle.md_engine.specs.declared.event.Name.{Name}
 use Rattle.md_engine.specs.declared.event.Point.{Point}
 use Rattle.md_seam.specs.declared.inline.Chunk.{Chunk}
 use Rattle.md_seam.specs.Nested.{around, enter, enter_link, exit}
-use Rattle.md_seam.specs.Substituted.{Readings, Substituted, chunk_of, chunks_behind, is_prefix, share, wanted, wanted_at}
-use Rattle.markdown_blocks.specs.Unread.{linked}
+use Rattle.md_seam.specs.Substituted.{Readings, belongs, Substituted, chunk_of, chunks_behind, is_prefix, share, wanted, wanted_at}
+use Rattle.markdown_blocks.specs.Rows.{Row, behind_row, chunks_of}
+use Rattle.markdown_blocks.specs.Unread.{linked_lines}
+use Rattle.markdown_blocks.proofs.FrontNames.{ArePrefixes}
 use Rattle.markdown_blocks.proofs.TitleFacts.{NoLinks}
 
 -- events none of which begins a chunk that the reader wants
@@ -22,7 +26,7 @@ Unwanted wants [] = Unit {0}
 Unwanted wants (e ∷ es) = (wanted wants e ≡ None) × Unwanted wants es
 
 -- an event with no link begins no chunk
-no_link-unwanted : (wants : Content → Bool) (e : Event) → e.link ≡ None → wanted wants e ≡ None
+pub no_link-unwanted : (wants : Content → Bool) (e : Event) → e.link ≡ None → wanted wants e ≡ None
 no_link-unwanted wants e h = go e.kind e.link h
   where
     go : (kind : Kind) (link : Option Link) → link ≡ None → wanted_at wants kind link ≡ None
@@ -62,53 +66,167 @@ passes wants reads left chunks (e ∷ xs) ys out h s =
     let more : (rest : List Event) × (is : one.0 ≡ xs ++ rest) × Substituted wants reads left chunks ys rest = passes wants reads left chunks xs ys one.0 h.1 one.2 in
     (more.0, one.1 ∙ ap (λ (l : List Event). e ∷ l) more.1, more.2)
 
--- the chunks of a part are all that is linked next to its first
-chunks-linked : (wants : Content → Bool) (name : Name) (link : Link) (chunks : List Chunk) (ys : List Event) → wants link.content ≡ true → chunks_behind wants ys ≡ [] → chunks_behind wants (linked name link chunks ++ ys) ≡ chunks
-chunks-linked wants name link [] ys w h = h
-chunks-linked wants name link (chunk ∷ chunks) ys w h =
-    ap (λ (x : Bool). cond (is_some (cond x (Some link.content) None)) (chunk ∷ chunks_behind wants (linked name link chunks ++ ys)) (cond (is_prefix name) (chunks_behind wants (exit name chunk.after ∷ linked name link chunks ++ ys)) [])) w
-    ∙ ap (λ (l : List Chunk). chunk ∷ l) (chunks-linked wants name link chunks ys w h)
-
 -- what is left of a part stands in the places of its further chunks, however it is shared
 abbrev pub Rest : (Content → Bool) → Readings → List Event → List Event → List Event → Type 0
 Rest wants reads left ys out = (rest over : List Event) × (is : out ≡ left ++ rest) × Substituted wants reads over 0 ys rest
 
-shares : (wants : Content → Bool) (reads : Readings) (name : Name) (link : Link) (chunks : List Chunk) (ys left : List Event) (end : ℕ) (out rest : List Event) → wants link.content ≡ true →
-    out ≡ take (share (length chunks) left end) left ++ rest → Substituted wants reads (drop (share (length chunks) left end) left) (length chunks) (linked name link chunks ++ ys) rest → Rest wants reads left ys out
-shares wants reads name link [] ys left end out rest w is s = (rest, drop (length left) left, is ∙ ap (λ (l : List Event). l ++ rest) (take_all (length left) left (omega arith)), s)
-shares wants reads name link (chunk ∷ chunks) ys left end out rest w is s =
-    let k : ℕ = share (suc (length chunks)) left end in
-    let one : (next : List Event) × (is : rest ≡ take (share (length chunks) (drop k left) chunk.after.index) (drop k left) ++ next)
-    × Substituted wants reads (drop (share (length chunks) (drop k left) chunk.after.index) (drop k left)) (length chunks) (linked name link chunks ++ ys) next =
-    subst (SubstitutedBy wants reads (drop k left) (suc (length chunks)) (enter_link name chunk.first link) (exit name chunk.after) (linked name link chunks ++ ys) rest) (ap (λ (x : Bool). cond x (Some link.content) None) w) s in
-    let more : Rest wants reads (drop k left) ys rest = shares wants reads name link chunks ys (drop k left) chunk.after.index rest one.0 w one.1 one.2 in (
-      more.0,
-      more.1,
-      is ∙ ap (λ (l : List Event). take k left ++ l) more.2 ∙ sym (append_assoc (take k left) (drop k left) more.0) ∙ ap (λ (l : List Event). l ++ more.0) (take-append-drop k left),
-      more.3,
-    )
-
--- What is read of a part, all of whose chunks stand directly next to each other, stands in their place.
-pub places : (wants : Content → Bool) (reads : Readings) (left : List Event) (name : Name) (link : Link) (chunk : Chunk) (chunks : List Chunk) (ys out : List Event) → wants link.content ≡ true → chunks_behind wants ys ≡ [] →
-    Substituted wants reads left 0 (linked name link (chunk ∷ chunks) ++ ys) out →
-    (answer : List Event) × (read : reads link.content (chunk ∷ chunks) answer) × Rest wants reads answer ys out
-places wants reads left name link chunk chunks ys out w h s = go (chunks_behind wants (linked name link chunks ++ ys)) (chunks-linked wants name link chunks ys w h)
-    (subst (SubstitutedBy wants reads left 0 (enter_link name chunk.first link) (exit name chunk.after) (linked name link chunks ++ ys) out) (ap (λ (x : Bool). cond x (Some link.content) None) w) s)
+-- What is read of a part of one chunk stands in its place.
+pub place : (wants : Content → Bool) (reads : Readings) (left : List Event) (name : Name) (link : Link) (chunk : Chunk) (ys out : List Event) → wants link.content ≡ true → chunks_behind wants ys ≡ [] →
+    Substituted wants reads left 0 (enter_link name chunk.first link ∷ exit name chunk.after ∷ ys) out →
+    (answer : List Event) × (read : reads link.content (chunk ∷ []) answer) × Rest wants reads answer ys out
+place wants reads left name link chunk ys out w none s = go (chunks_behind wants ys) none
+    (subst (SubstitutedBy wants reads left 0 (enter_link name chunk.first link) (exit name chunk.after) ys out) (ap (λ (x : Bool). cond x (Some link.content) None) w) s)
   where
-    go : (behind : List Chunk) → behind ≡ chunks →
+    go : (behind : List Chunk) → behind ≡ [] →
         (answer rest : List Event) × (read : reads link.content (chunk ∷ behind) answer)
         × (is : out ≡ take (share (length behind) answer chunk.after.index) answer ++ rest)
-        × Substituted wants reads (drop (share (length behind) answer chunk.after.index) answer) (length behind) (linked name link chunks ++ ys) rest →
-        (answer : List Event) × (read : reads link.content (chunk ∷ chunks) answer) × Rest wants reads answer ys out
-    go behind e k = by (subst (λ (l : List Chunk). (answer rest : List Event) × (read : reads link.content (chunk ∷ l) answer)
-        × (is : out ≡ take (share (length l) answer chunk.after.index) answer ++ rest)
-        × Substituted wants reads (drop (share (length l) answer chunk.after.index) answer) (length l) (linked name link chunks ++ ys) rest) e k)
-      where
-        by : (answer rest : List Event) × (read : reads link.content (chunk ∷ chunks) answer)
-            × (is : out ≡ take (share (length chunks) answer chunk.after.index) answer ++ rest)
-            × Substituted wants reads (drop (share (length chunks) answer chunk.after.index) answer) (length chunks) (linked name link chunks ++ ys) rest →
-            (answer : List Event) × (read : reads link.content (chunk ∷ chunks) answer) × Rest wants reads answer ys out
-        by one = (one.0, one.2, shares wants reads name link chunks ys one.0 chunk.after.index out one.1 w one.3 one.4)
+        × Substituted wants reads (drop (share (length behind) answer chunk.after.index) answer) (length behind) ys rest →
+        (answer : List Event) × (read : reads link.content (chunk ∷ []) answer) × Rest wants reads answer ys out
+    go [] e one = (one.0, one.2, (one.1, drop (length one.0) one.0, one.3 ∙ ap (λ (l : List Event). l ++ one.1) (take_all (length one.0) one.0 (omega arith)), one.4))
+    go (next ∷ behind) e one = cc
+
+-- Parts of lines with prefixes between them.
+
+-- over prefixes a part goes on
+prefixes-behind : (wants : Content → Bool) (xs ys : List Event) → ArePrefixes xs → chunks_behind wants (xs ++ ys) ≡ chunks_behind wants ys
+prefixes-behind wants [] ys h = refl
+prefixes-behind wants (e ∷ []) [] h = refl
+prefixes-behind wants (e ∷ []) (f ∷ ys) h = behind-one wants e f ys h.0 h.1
+  where
+    behind-one : (wants : Content → Bool) (e f : Event) (es : List Event) → is_prefix e.name ≡ true → e.link ≡ None → chunks_behind wants (e ∷ f ∷ es) ≡ chunks_behind wants (f ∷ es)
+    behind-one wants e f es name link =
+        ap (λ (x : Option Content). cond (is_some x) (chunk_of e f ∷ chunks_behind wants es) (cond (is_prefix e.name) (chunks_behind wants (f ∷ es)) [])) (no_link-unwanted wants e link)
+        ∙ ap (λ (x : Bool). cond x (chunks_behind wants (f ∷ es)) []) name
+prefixes-behind wants (e ∷ f ∷ xs) ys h =
+    ap (λ (x : Option Content). cond (is_some x) (chunk_of e f ∷ chunks_behind wants (xs ++ ys)) (cond (is_prefix e.name) (chunks_behind wants (f ∷ xs ++ ys)) [])) (no_link-unwanted wants e h.1)
+    ∙ ap (λ (x : Bool). cond x (chunks_behind wants (f ∷ xs ++ ys)) []) h.0
+    ∙ prefixes-behind wants (f ∷ xs) ys h.2
+
+prefixes-unwanted : (wants : Content → Bool) (es : List Event) → ArePrefixes es → Unwanted wants es
+prefixes-unwanted wants [] h = tt
+prefixes-unwanted wants (e ∷ es) h = (no_link-unwanted wants e h.1, prefixes-unwanted wants es h.2)
+
+-- in front of each of these lines stand prefixes
+abbrev pub EachPrefixed : List Row → Type 0
+EachPrefixed [] = Unit {0}
+EachPrefixed (row ∷ rows) = ArePrefixes row.front × EachPrefixed rows
+
+-- where the chunk of a line ends: behind its ending if another line follows
+abbrev pub line_after : Row → List Row → Point
+line_after row [] = row.end
+line_after row (next ∷ rows) = behind_row row
+
+-- the chunks of further lines
+abbrev further_chunks : List Row → List Chunk
+further_chunks [] = []
+further_chunks (next ∷ rows) = chunks_of next rows
+
+chunks-are : (row : Row) (rows : List Row) → chunks_of row rows ≡ (record { first = row.first; after = line_after row rows }) ∷ further_chunks rows
+chunks-are row [] = refl
+chunks-are row (next ∷ rows) = refl
+
+chunks-many : (rows : List Row) → length (further_chunks rows) ≡ length rows
+chunks-many [] = refl
+chunks-many (next ∷ rows) = ap length (chunks-are next rows) ∙ ap suc (chunks-many rows)
+
+-- further lines, each behind what stands in front of it
+abbrev further_lines : Name → Link → List Row → List Event → List Event
+further_lines name link [] ys = ys
+further_lines name link (next ∷ rows) ys = next.front ++ (linked_lines name link next rows ++ ys)
+
+lines-are : (name : Name) (link : Link) (row : Row) (rows : List Row) (ys : List Event) →
+    linked_lines name link row rows ++ ys ≡ enter_link name row.first link ∷ exit name (line_after row rows) ∷ further_lines name link rows ys
+lines-are name link row [] ys = refl
+lines-are name link row (next ∷ rows) ys = ap (λ (l : List Event). enter_link name row.first link ∷ exit name (behind_row row) ∷ l) (append_assoc next.front (linked_lines name link next rows) ys)
+
+-- the chunks that go on a part are those of its further lines
+chunks-further : (wants : Content → Bool) (name : Name) (link : Link) (rows : List Row) (ys : List Event) → wants link.content ≡ true → chunks_behind wants ys ≡ [] → EachPrefixed rows →
+    chunks_behind wants (further_lines name link rows ys) ≡ further_chunks rows
+chunks-further wants name link [] ys w none fits = none
+chunks-further wants name link (next ∷ rows) ys w none fits =
+    let rest : List Event = exit name (line_after next rows) ∷ further_lines name link rows ys in
+    let chunk : Chunk = record { first = next.first; after = line_after next rows } in
+    prefixes-behind wants next.front (linked_lines name link next rows ++ ys) fits.0
+    ∙ ap (chunks_behind wants) (lines-are name link next rows ys)
+    ∙ ap (λ (x : Bool). cond (is_some (cond x (Some link.content) None)) (chunk ∷ chunks_behind wants (further_lines name link rows ys)) (cond (is_prefix name) (chunks_behind wants rest) [])) w
+    ∙ ap (λ (l : List Chunk). chunk ∷ l) (chunks-further wants name link rows ys w none fits.1)
+    ∙ sym (chunks-are next rows)
+
+-- events that belong to a chunk that ends at this byte
+abbrev pub AllBelong : ℕ → List Event → Type 0
+AllBelong end [] = Unit {0}
+AllBelong end (e ∷ es) = (belongs end e ≡ true) × AllBelong end es
+
+-- events the first of which does not
+abbrev pub NextBelongs : ℕ → List Event → Type 0
+NextBelongs end [] = Unit {0}
+NextBelongs end (e ∷ es) = belongs end e ≡ false
+
+-- Of the events for the lines of a part, those of each line stand in its place, and between them what stands in front of lines.
+abbrev pub CutAt : Row → List Row → List Event → List Event → Type 0
+CutAt row [] left done = done ≡ left
+CutAt row (next ∷ rows) left done =
+    (mine more rest : List Event) × (left_is : left ≡ mine ++ more) × (here : AllBelong (behind_row row).index mine) × (behind : NextBelongs (behind_row row).index more)
+    × (done_is : done ≡ mine ++ (next.front ++ rest)) × CutAt next rows more rest
+
+-- where the events of a chunk end, its share ends
+belongs-cut : (end : ℕ) (xs ys : List Event) → AllBelong end xs → NextBelongs end ys → prefix_len (belongs end) (xs ++ ys) ≡ length xs
+belongs-cut end [] [] h k = refl
+belongs-cut end [] (y ∷ ys) h k = ap (λ (x : Bool). cond x (1 + prefix_len (belongs end) ys) 0) k
+belongs-cut end (x ∷ xs) ys h k = let more = belongs-cut end xs ys h.1 k in ap (λ (t : Bool). cond t (1 + prefix_len (belongs end) (xs ++ ys)) 0) h.0 ∙ omega arith
+
+-- the events of a line, and what stands behind it
+share-joins : (mine front more rest over left out done : List Event) → out ≡ mine ++ rest → rest ≡ front ++ over → over ≡ more ++ left → done ≡ mine ++ (front ++ more) → out ≡ done ++ left
+share-joins mine front more rest over left out done here between below all =
+    here
+    ∙ ap (λ (l : List Event). mine ++ l) (between ∙ ap (λ (l : List Event). front ++ l) below ∙ sym (append_assoc front more left))
+    ∙ sym (append_assoc mine (front ++ more) left)
+    ∙ ap (λ (l : List Event). l ++ left) (sym all)
+
+-- each line takes its share of what is left
+shares : (wants : Content → Bool) (reads : Readings) (name : Name) (link : Link) (row : Row) (rows : List Row) (ys left done out rest : List Event) → wants link.content ≡ true → EachPrefixed rows → CutAt row rows left done →
+    out ≡ take (share (length rows) left (line_after row rows).index) left ++ rest →
+    Substituted wants reads (drop (share (length rows) left (line_after row rows).index) left) (length rows) (further_lines name link rows ys) rest → Rest wants reads done ys out
+shares wants reads name link row [] ys left done out rest w fits cut is s = (rest, drop (length left) left, is ∙ ap (λ (l : List Event). l ++ rest) (take_all (length left) left (omega arith) ∙ sym cut), s)
+shares wants reads name link row (next ∷ rows) ys left done out rest w fits cut is s =
+    let end : ℕ = (behind_row row).index in
+    let mine : List Event = cut.0 in
+    let more : List Event = cut.1 in
+    let many : ℕ = suc (length rows) in
+    let size : share many left end ≡ length mine = ap (prefix_len (belongs end)) cut.3 ∙ belongs-cut end mine more cut.4 cut.5 in
+    let before : take (share many left end) left ≡ mine = ap (λ (k : ℕ). take k left) size ∙ ap (take (length mine)) cut.3 ∙ take-append_seam mine more in
+    let after : drop (share many left end) left ≡ more = ap (λ (k : ℕ). drop k left) size ∙ ap (drop (length mine)) cut.3 ∙ drop-append_seam mine more in
+    let one : (over : List Event) × (is : rest ≡ next.front ++ over) × Substituted wants reads more many (linked_lines name link next rows ++ ys) over =
+    passes wants reads more many next.front (linked_lines name link next rows ++ ys) rest (prefixes-unwanted wants next.front fits.0)
+    (subst (λ (l : List Event). Substituted wants reads l many (further_lines name link (next ∷ rows) ys) rest) after s) in
+    let here : SubstitutedBy wants reads more many (enter_link name next.first link) (exit name (line_after next rows)) (further_lines name link rows ys) one.0 (Some link.content) =
+    subst (SubstitutedBy wants reads more many (enter_link name next.first link) (exit name (line_after next rows)) (further_lines name link rows ys) one.0) (ap (λ (x : Bool). cond x (Some link.content) None) w)
+    (subst (λ (l : List Event). Substituted wants reads more many l one.0) (lines-are name link next rows ys) one.2) in
+    let below : Rest wants reads cut.2 ys one.0 = shares wants reads name link next rows ys more cut.2 one.0 here.0 w fits.1 cut.7 here.1 here.2 in (
+      below.0,
+      below.1,
+      share-joins mine next.front cut.2 rest one.0 below.0 out done (is ∙ ap (λ (l : List Event). l ++ rest) before) one.1 below.2 cut.6,
+      below.3,
+    )
+
+-- What is read of a part of lines stands in their places.
+pub places : (wants : Content → Bool) (reads : Readings) (left : List Event) (name : Name) (link : Link) (row : Row) (rows : List Row) (ys done out : List Event) → wants link.content ≡ true → chunks_behind wants ys ≡ [] → EachPrefixed rows →
+    ((answer : List Event) → reads link.content (chunks_of row rows) answer → CutAt row rows answer done) →
+    Substituted wants reads left 0 (linked_lines name link row rows ++ ys) out → Rest wants reads done ys out
+places wants reads left name link row rows ys done out w none fits cuts s =
+    let chunk : Chunk = record { first = row.first; after = line_after row rows } in
+    let rest : List Event = further_lines name link rows ys in
+    let behind : List Chunk = chunks_behind wants rest in
+    let here : SubstitutedBy wants reads left 0 (enter_link name row.first link) (exit name (line_after row rows)) rest out (Some link.content) =
+    subst (SubstitutedBy wants reads left 0 (enter_link name row.first link) (exit name (line_after row rows)) rest out) (ap (λ (x : Bool). cond x (Some link.content) None) w)
+    (subst (λ (l : List Event). Substituted wants reads left 0 l out) (lines-are name link row rows ys) s) in
+    let chunks : behind ≡ further_chunks rows = chunks-further wants name link rows ys w none fits in
+    let size : length behind ≡ length rows = ap length chunks ∙ chunks-many rows in
+    let answer : List Event = here.0 in
+    let read : reads link.content (chunks_of row rows) answer = subst (λ (l : List Chunk). reads link.content l answer) (ap (λ (l : List Chunk). chunk ∷ l) chunks ∙ sym (chunks-are row rows)) here.2 in
+    shares wants reads name link row rows ys answer done out here.1 w fits (cuts answer read)
+    (subst (λ (k : ℕ). out ≡ take (share k answer (line_after row rows).index) answer ++ here.1) size here.3)
+    (subst (λ (k : ℕ). Substituted wants reads (drop (share k answer (line_after row rows).index) answer) k rest here.1) size here.4)
 
 -- Events that become others, whatever stands behind them.
 abbrev pub Becomes : (Content → Bool) → Readings → List Event → List Event → Type 0
@@ -132,7 +250,7 @@ becomes-around wants reads name p q xs zs h =
     (becomes-append wants reads xs zs (exit name q ∷ []) (exit name q ∷ []) h (becomes-same wants reads (exit name q ∷ []) (refl, tt)))
 
 -- behind the end of a block no more of its part stands
-behind-exit : (wants : Content → Bool) (name : Name) (p : Point) (es : List Event) → is_prefix name ≡ false → chunks_behind wants (exit name p ∷ es) ≡ []
+pub behind-exit : (wants : Content → Bool) (name : Name) (p : Point) (es : List Event) → is_prefix name ≡ false → chunks_behind wants (exit name p ∷ es) ≡ []
 behind-exit wants name p [] h = refl
 behind-exit wants name p (e ∷ es) h = ap (λ (x : Bool). cond x (chunks_behind wants (e ∷ es)) []) h
 
@@ -141,21 +259,36 @@ part-joins e f given answer rest more begun out begins is unique ends =
     begins
     ∙ ap (λ (l : List Event). e ∷ l) (is ∙ ap (λ (l : List Event). l ++ rest) unique ∙ ap (λ (l : List Event). given ++ l) ends ∙ sym (append_assoc given (f ∷ []) more))
 
--- a part that is all of a block becomes what the reader gives for it
-pub part-becomes : (wants : Content → Bool) (reads : Readings) (outer name : Name) (link : Link) (p q : Point) (chunk : Chunk) (chunks : List Chunk) (given : List Event) → wants link.content ≡ true → is_prefix outer ≡ false →
-    ((answer : List Event) → reads link.content (chunk ∷ chunks) answer → answer ≡ given) →
-    Becomes wants reads (around outer p q (linked name link (chunk ∷ chunks))) (around outer p q given)
-part-becomes wants reads outer name link p q chunk chunks given w apart unique left ys out s =
-    let inside : List Event = linked name link (chunk ∷ chunks) in
-    let begun : (rest : List Event) × (is : out ≡ enter outer p ∷ rest) × Substituted wants reads left 0 (inside ++ exit outer q ∷ ys) rest =
-    passes wants reads left 0 (enter outer p ∷ []) (inside ++ exit outer q ∷ ys) out (refl, tt)
-    (subst (λ (l : List Event). Substituted wants reads left 0 (enter outer p ∷ l) out) (append_assoc inside (exit outer q ∷ []) ys) s) in
-    let one : (answer : List Event) × (read : reads link.content (chunk ∷ chunks) answer) × Rest wants reads answer (exit outer q ∷ ys) begun.0 =
-    places wants reads left name link chunk chunks (exit outer q ∷ ys) begun.0 w (behind-exit wants outer q ys apart) begun.2 in
+-- a part of one chunk that is all of a block becomes what the reader gives for it
+pub part-becomes : (wants : Content → Bool) (reads : Readings) (outer name : Name) (link : Link) (p q : Point) (chunk : Chunk) (given : List Event) → wants link.content ≡ true → is_prefix outer ≡ false →
+    ((answer : List Event) → reads link.content (chunk ∷ []) answer → answer ≡ given) →
+    Becomes wants reads (around outer p q (enter_link name chunk.first link ∷ exit name chunk.after ∷ [])) (around outer p q given)
+part-becomes wants reads outer name link p q chunk given w apart unique left ys out s =
+    let begun : (rest : List Event) × (is : out ≡ enter outer p ∷ rest) × Substituted wants reads left 0 (enter_link name chunk.first link ∷ exit name chunk.after ∷ exit outer q ∷ ys) rest =
+    passes wants reads left 0 (enter outer p ∷ []) (enter_link name chunk.first link ∷ exit name chunk.after ∷ exit outer q ∷ ys) out (refl, tt) s in
+    let one : (answer : List Event) × (read : reads link.content (chunk ∷ []) answer) × Rest wants reads answer (exit outer q ∷ ys) begun.0 =
+    place wants reads left name link chunk (exit outer q ∷ ys) begun.0 w (behind-exit wants outer q ys apart) begun.2 in
     let rest : Rest wants reads one.0 (exit outer q ∷ ys) begun.0 = one.2 in
     let two : (more : List Event) × (is : rest.0 ≡ exit outer q ∷ more) × Substituted wants reads rest.1 0 ys more = passes wants reads rest.1 0 (exit outer q ∷ []) ys rest.0 (refl, tt) rest.3 in (
       two.0,
       rest.1,
       part-joins (enter outer p) (exit outer q) given one.0 rest.0 two.0 begun.0 out begun.1 rest.2 (unique one.0 one.1) two.1,
+      two.2,
+    )
+
+-- and so does a part of lines
+pub lines-becomes : (wants : Content → Bool) (reads : Readings) (outer name : Name) (link : Link) (p q : Point) (row : Row) (rows : List Row) (given : List Event) → wants link.content ≡ true → is_prefix outer ≡ false → EachPrefixed rows →
+    ((answer : List Event) → reads link.content (chunks_of row rows) answer → CutAt row rows answer given) →
+    Becomes wants reads (around outer p q (linked_lines name link row rows)) (around outer p q given)
+lines-becomes wants reads outer name link p q row rows given w apart fits cuts left ys out s =
+    let inside : List Event = linked_lines name link row rows in
+    let begun : (rest : List Event) × (is : out ≡ enter outer p ∷ rest) × Substituted wants reads left 0 (inside ++ exit outer q ∷ ys) rest =
+    passes wants reads left 0 (enter outer p ∷ []) (inside ++ exit outer q ∷ ys) out (refl, tt)
+    (subst (λ (l : List Event). Substituted wants reads left 0 (enter outer p ∷ l) out) (append_assoc inside (exit outer q ∷ []) ys) s) in
+    let rest : Rest wants reads given (exit outer q ∷ ys) begun.0 = places wants reads left name link row rows (exit outer q ∷ ys) given begun.0 w (behind-exit wants outer q ys apart) fits cuts begun.2 in
+    let two : (more : List Event) × (is : rest.0 ≡ exit outer q ∷ more) × Substituted wants reads rest.1 0 ys more = passes wants reads rest.1 0 (exit outer q ∷ []) ys rest.0 (refl, tt) rest.3 in (
+      two.0,
+      rest.1,
+      part-joins (enter outer p) (exit outer q) given given rest.0 two.0 begun.0 out begun.1 rest.2 refl two.1,
       two.2,
     )
