@@ -169,7 +169,7 @@ under-line bytes size p row name inside events o most h on =
     (under-before left row.end (behind_row row) ending events (ending-nested name row o.ends) on))))
 
 -- what stands in the place of a line, in front of what stands in those of the next ones of its paragraph
-under-next : (size : ℕ) (p q r end : Point) (front xs inside tail events : List Event) → Nested_in p q xs → Balanced front → Under size q ((front ++ around n.Paragraph r end inside ++ tail) ++ events) →
+pub under-next : (size : ℕ) (p q r end : Point) (front xs inside tail events : List Event) → Nested_in p q xs → Balanced front → Under size q ((front ++ around n.Paragraph r end inside ++ tail) ++ events) →
     Under size p (around n.Paragraph p end (xs ++ front ++ inside) ++ (tail ++ events))
 under-next size p q r end front xs inside tail events h b on =
     let old : List Event = inside ++ (exit n.Paragraph end ∷ (tail ++ events)) in

@@ -342,7 +342,7 @@ titled-by_lines bytes = record {
       let tail : List Event = tail_events n.LineEnding last in
       let more : List Event = titled_groups bytes gs in
       let whole : List Event = around n.Paragraph row.first last.end (chunk ++ below.front ++ lines) in
-      let apart : (row.front ++ whole ++ tail) ++ more ≡ row.front ++ (whole ++ (tail ++ more)) = simp append_assoc in
+      let apart : (row.front ++ whole ++ tail) ++ more ≡ row.front ++ (whole ++ (tail ++ more)) = append_assoc (row.front ++ whole) tail more ∙ append_assoc row.front whole (tail ++ more) in
       subst (Under size p) (sym apart)
       (under-turn size (size + row.opens) p row.first row.front (whole ++ (tail ++ more)) (fronts-turn bytes row.opens size p row.first row.front o.front) (fronts-spans bytes row.opens p row.first row.front o.front)
       (under-next (size + row.opens) row.first q below.first last.end below.front chunk lines tail more (linked-nested text_link row.first q (behind-order bytes p row o))
