@@ -1,5 +1,5 @@
--- What a text is read as, where only headings and breaks are on: its events nest, spell its tree and tile it.
-use Rattle.std.proofs.Common.{◌≡◌, ◌^◌, ◌<◌, ◌⊎◌, inl, inr, arith, ℕ, Bool, true, suc, List, [], ◌++◌, length, drop, refl, ap, sym, ◌∙◌, subst}
+-- What a text is read as, where quotes, headings and breaks may be on: its events nest, spell its tree and tile it.
+use Rattle.std.proofs.Common.{◌≡◌, ◌^◌, ◌<◌, ◌⊎◌, inl, inr, arith, ℕ, Bool, true, false, suc, List, [], ◌++◌, length, drop, refl, ap, sym, ◌∙◌, subst}
 use Rattle.std.specs.Prelude.{IsTrue}
 use Rattle.std.specs.Str.{IsUtf8}
 use Rattle.md_engine.specs.declared.configuration.ParseOptions.{ParseOptions}
@@ -26,24 +26,21 @@ use Rattle.markdown_blocks.specs.Outlined.{IsOutlined, are_shallow}
 use Rattle.markdown_blocks.specs.Parsed.{IsBuilt, IsSmall, reads_plain}
 use Rattle.markdown_blocks.specs.Resolved.{resolved_as}
 use Rattle.markdown_blocks.specs.Rows.{Row, groups, groups_events}
-use Rattle.markdown_blocks.specs.Sections.{sections}
 use Rattle.markdown_blocks.specs.Unread.{titled_groups, unread_groups}
 use Rattle.markdown_blocks.proofs.BetweenRows.{rows-between}
 use Rattle.markdown_blocks.proofs.GroupLemmas.{ReadsText, content-read, headings-set, no-content, no-headings, text-read}
 use Rattle.markdown_blocks.proofs.JoinedLemmas.{EachNoContent, rows_at-no_content}
-use Rattle.markdown_blocks.proofs.MarkLemmas.{body-between, body-column, body-index, body-vs, mark-nested, mark-outlined, mark-spelled, without-mark}
+use Rattle.markdown_blocks.proofs.MarkLemmas.{body-between, body-column, body-index, body-vs, mark-nested, mark-outlined, mark-spelled}
 use Rattle.markdown_blocks.proofs.NestedRows.{Nests, rows-nest}
 use Rattle.markdown_blocks.proofs.ParagraphReads.{content-reads}
 use Rattle.markdown_blocks.proofs.PartFacts.{EachUnlinked, rows_at-unlinked}
 use Rattle.markdown_blocks.proofs.PlainEvents.{groups-outlined}
 use Rattle.markdown_blocks.proofs.RowFacts.{AreRows}
 use Rattle.markdown_blocks.proofs.RowLemmas.{fresh-rows}
-use Rattle.markdown_blocks.proofs.SectionsLemmas.{sections-shallow}
-use Rattle.markdown_blocks.proofs.SpelledRows.{spelled-rows}
 use Rattle.markdown_blocks.proofs.TileCovers.{blocks-cover}
 use Rattle.markdown_blocks.proofs.TileParts.{blocks-chunks, blocks-nested, blocks-stand}
 use Rattle.markdown_blocks.proofs.TileReads.{groups-empty, text-filled}
-use Rattle.markdown_blocks.proofs.TreeSections.{tree-sections}
+use Rattle.markdown_blocks.proofs.TreeRows.{tree-rows, tree-shallow}
 
 -- the lines of a text, behind its mark
 abbrev lines_of : List ℕ → List (List ℕ)
@@ -53,9 +50,9 @@ abbrev rows_of : ParseOptions → List ℕ → List Row
 rows_of options bytes = text_rows options bytes (body_point bytes)
 
 text-quiet : (options : ParseOptions) (bytes : List ℕ) (p : Point) → EachNoContent (text_rows options bytes p)
-text-quiet options bytes p = rows_at-no_content options (suc (length (text_cells bytes options p))) (text_cells bytes options p) p
+text-quiet options bytes p = rows_at-no_content options (suc (length (text_cells bytes options p))) 0 false (text_cells bytes options p) p
 
-text-are : (options : ParseOptions) (bytes : List ℕ) → IsBuilt options → length bytes < 2 ^ 61 → AreRows options bytes (body_point bytes) (lines_of bytes) (rows_of options bytes)
+text-are : (options : ParseOptions) (bytes : List ℕ) → IsBuilt options → length bytes < 2 ^ 61 → AreRows options bytes 0 false (body_point bytes) (lines_of bytes) (rows_of options bytes)
 text-are options bytes built small = fresh-rows options bytes (body_point bytes) built.code_indented small (body-index bytes) (body-vs bytes) (body-column bytes)
 
 -- The events of a text, once flow and content were read.
@@ -71,7 +68,7 @@ content-are options bytes built small found new flow = go flow.reads
         let resolves : Resolves flow.at h.more flow.mid = h.resolved in
         let here : Substituted wants_content (content_readings bytes options) [] 0 (joined flow.at.events) flow.mid.events =
         subst (λ (x : Setting). Substituted wants_content (content_readings x.bytes x.options) [] 0 (joined flow.at.events) flow.mid.events) flow.setting resolves.events in
-        content-read options bytes (body_point bytes) (lines_of bytes) rows (text-are options bytes built small) (text-quiet options bytes (body_point bytes))
+        content-read options bytes 0 false (body_point bytes) (lines_of bytes) rows (text-are options bytes built small) (text-quiet options bytes (body_point bytes))
         wants_content (content_readings bytes options) refl refl (content-reads options options bytes small) flow.mid.events
         (subst (λ (l : List Event). Substituted wants_content (content_readings bytes options) [] 0 (joined l) flow.mid.events) flow.events here)
 
@@ -95,7 +92,7 @@ titles-are options bytes built small found new flow = go flow.sets
     go (inr h) =
         ap (λ (w : World). w.events) h.resolved.1
         ∙ ap headings_resolved before
-        ∙ headings-set options bytes (body_point bytes) (lines_of bytes) rows (text-are options bytes built small) (text-quiet options bytes (body_point bytes))
+        ∙ headings-set options bytes 0 false (body_point bytes) (lines_of bytes) rows (text-are options bytes built small) (text-quiet options bytes (body_point bytes))
 
 -- And then texts were read.
 pub events-are : (options : ParseOptions) (bytes : List ℕ) → IsBuilt options → length bytes < 2 ^ 61 → (found : Found) (new : World) → FlowReads resolved_as bytes options (body_point bytes) found new →
@@ -103,11 +100,11 @@ pub events-are : (options : ParseOptions) (bytes : List ℕ) → IsBuilt options
     events ≡ groups_events bytes (groups (text_rows options bytes (body_point bytes)))
 events-are options bytes built small found new flow wants reads wanted text events substituted =
     let titled : new.events ≡ titled_groups bytes (groups (rows_of options bytes)) = titles-are options bytes built small found new flow in
-    text-read options bytes (body_point bytes) (lines_of bytes) (rows_of options bytes) (text-are options bytes built small) (text-quiet options bytes (body_point bytes)) wants reads wanted text events
+    text-read options bytes 0 false (body_point bytes) (lines_of bytes) (rows_of options bytes) (text-are options bytes built small) (text-quiet options bytes (body_point bytes)) wants reads wanted text events
     (subst (λ (l : List Event). Substituted wants reads [] 0 l events) titled substituted)
 
 text-unlinked : (options : ParseOptions) (bytes : List ℕ) → EachUnlinked (rows_of options bytes)
-text-unlinked options bytes = rows_at-unlinked options (suc (length (text_cells bytes options (body_point bytes)))) (text_cells bytes options (body_point bytes)) (body_point bytes)
+text-unlinked options bytes = rows_at-unlinked options (suc (length (text_cells bytes options (body_point bytes)))) 0 false (text_cells bytes options (body_point bytes)) (body_point bytes)
 
 -- With what was read in the place of its chunks, the block list of a text tiles it.
 tiles-are : (options : ParseOptions) (bytes : List ℕ) → IsBuilt options → length bytes < 2 ^ 61 → IsTrue (are_placed bytes (mark_events bytes ++ titled_groups bytes (groups (rows_of options bytes)))) →
@@ -116,15 +113,15 @@ tiles-are options bytes built small placed =
     let p : Point = body_point bytes in
     let lines : List (List ℕ) = lines_of bytes in
     let rows : List Row = rows_of options bytes in
-    let are : AreRows options bytes p lines rows = text-are options bytes built small in
+    let are : AreRows options bytes 0 false p lines rows = text-are options bytes built small in
     let fills = text-filled options bytes p lines are in
     record {
       blocks = mark_events bytes ++ titled_groups bytes (groups rows);
       block_list = record {
         nested = blocks-nested options bytes lines rows are;
         placed = placed;
-        lines = blocks-stand options bytes p lines rows are (text-quiet options bytes p) (text-unlinked options bytes);
-        chunks = blocks-chunks options bytes p lines rows are (text-quiet options bytes p) (text-unlinked options bytes);
+        lines = blocks-stand options bytes 0 false p lines rows are (text-quiet options bytes p) (text-unlinked options bytes);
+        chunks = blocks-chunks options bytes 0 false p lines rows are (text-quiet options bytes p) (text-unlinked options bytes);
       };
       covers = blocks-cover options bytes lines rows are;
       lists = fills.lists;
@@ -147,13 +144,13 @@ text-reads options bytes built utf8 small events is =
     let lines : List (List ℕ) = lines_of bytes in
     let rows : List Row = rows_of options bytes in
     let body : List Event = groups_events bytes (groups rows) in
-    let are : AreRows options bytes p lines rows = text-are options bytes built small in
+    let are : AreRows options bytes 0 false p lines rows = text-are options bytes built small in
     let nests : Nests bytes p (groups rows) = rows-nest options bytes p lines rows are in
-    let spells : spelled body bytes ≡ sections options [] lines = spelled-rows options bytes p lines rows are in
+    let spells : spelled body bytes ≡ tree options bytes = tree-rows options built bytes rows are in
     subst (λ (l : List Event). Reads options bytes (mark_events bytes ++ titled_groups bytes (groups rows)) (mark_events bytes ++ l)) (sym is) (record {
       nested = mark-nested bytes body nests.balanced nests.forward;
-      outlined = mark-outlined bytes body (groups-outlined options bytes p lines rows are utf8 nests.balanced (rows-between options bytes p lines rows (body-between bytes) are) (ap are_shallow spells ∙ sections-shallow options [] lines));
-      tree = mark-spelled bytes body ∙ spells ∙ ap (λ (l : List ℕ). sections options [] (split_lines l)) (sym (without-mark bytes)) ∙ sym (tree-sections options bytes built);
+      outlined = mark-outlined bytes body (groups-outlined options bytes p lines rows are utf8 nests.balanced (rows-between options bytes p lines rows (body-between bytes) are) (ap are_shallow spells ∙ tree-shallow options bytes built));
+      tree = mark-spelled bytes body ∙ spells;
       tiles = tiles-are options bytes built small;
     })
 
