@@ -3,6 +3,7 @@ use Rattle.std.proofs.Common.{◌≡◌, ℕ, zero, suc, ◌+◌, ◌-◌, ◌%�
 use Rattle.std.specs.Prelude.{nat_le, Option, Some, None}
 use Rattle.std.specs.List.{prefix_len}
 use Rattle.std.specs.Option.{is_some, option_or}
+use Rattle.std.proofs.lemmas.Bool.{and_parts}
 use Rattle.std.proofs.lemmas.Bool.Decides.{nat_tests}
 use Rattle.md_engine.specs.declared.configuration.ParseOptions.{ParseOptions}
 use Rattle.md_leaves.specs.HeadingRule.{is_heading}
@@ -524,3 +525,131 @@ quoted-lazy options p r lazy = go (is_lazy (is_going p) new.many (line_kind opti
     go : (x : Bool) → x ≡ true → depth_of p - cond x (depth_of p) on.many ≡ 0
     go true e = omega arith
     go false e = cc
+
+-- Plain paths stay such.
+
+plain-kept : (options : ParseOptions) (n : ℕ) (p : Path) → IsPlain p → IsPlain (kept_to options n p)
+plain-kept options zero p plain = tt
+plain-kept options (suc n) (At s) plain = tt
+plain-kept options (suc n) (Within before InQuote p) plain = plain-kept options n p plain
+plain-kept options (suc n) (Within before container p) plain = absurd plain
+
+pub plain-longer : (p : Path) (k : Kept) (ks : List Kept) → IsPlain p → IsPlain (longer p (k ∷ ks))
+plain-longer (At s) k ks plain = go s.leaf plain
+  where
+    go : (leaf : Leaf) → IsPlainLeaf leaf → IsPlainLeaf (OpenParagraph (held_of leaf ++ k ∷ ks))
+    go NoLeaf h = tt
+    go (OpenParagraph (j ∷ js)) h = tt
+    go leaf h = absurd h
+plain-longer (Within before InQuote p) k ks plain = plain-longer p k ks plain
+plain-longer (Within before container p) k ks plain = absurd plain
+
+plain-behind : (p : Path) (f : Blocks → Path) → IsPlain p → ((bs : Blocks) → IsPlain (f bs)) → IsPlain (behind_path p f)
+plain-behind (At s) f plain each = each s.here
+plain-behind (Within before InQuote p) f plain each = plain-behind p f plain each
+plain-behind (Within before container p) f plain each = absurd plain
+
+plain-fresh : (options : ParseOptions) (bs : Blocks) (r : Rest) → IsBuilt options → IsPlainLeaf (fresh_line options bs r).leaf
+plain-fresh options bs r built = subst (λ (s : Spot). IsPlainLeaf s.leaf) (sym (fresh-found options bs r built)) (go (line_kind options r.bytes))
+  where
+    go : (kind : RowKind) → IsPlainLeaf (spot_by bs [] r kind).leaf
+    go BlankRow = tt
+    go HeadingRow = tt
+    go BreakRow = tt
+    go TextRow = tt
+
+plain-new_line : (options : ParseOptions) (n : ℕ) (r : Rest) (bs : Blocks) → IsBuilt options → IsPlain (new_line options n r bs)
+plain-new_line options zero r bs built = plain-fresh options bs r built
+plain-new_line options (suc n) r bs built = plain-new_line options n r End built
+
+pub plain-step : (options : ParseOptions) (p : Path) (r : Rest) → IsBuilt options → IsPlain p → IsPlain (step options p r)
+plain-step options p r built plain = subst IsPlain (sym (step-quoted options p r built plain)) (go (goes_lazy options p quotes))
+  where
+    quotes : Quoted
+    quotes = quoted_at options p r
+
+    go : (x : Bool) → IsPlain (cond x (longer p (kept quotes.rest ∷ [])) (new_path options p quotes))
+    go true = plain-longer p (kept quotes.rest) [] plain
+    go false = plain-behind (kept_to options (depth_of p - quotes.closes) p) (new_line options quotes.opens quotes.rest) (plain-kept options (depth_of p - quotes.closes) p plain) (λ bs. plain-new_line options quotes.opens quotes.rest bs built)
+
+-- a line that goes on the open paragraph opens nothing, and is text
+pub lazy-opens : (going : Bool) (many : ℕ) (kind : RowKind) → is_lazy going many kind ≡ true → many ≡ 0
+lazy-opens false many kind e = cc
+lazy-opens true zero kind e = refl
+lazy-opens true (suc many) kind e = let no = lazy-none true many kind in cc
+
+pub lazy-text : (going : Bool) (many : ℕ) (kind : RowKind) → is_lazy going many kind ≡ true → is_text kind ≡ true
+lazy-text going many kind e = (and_parts (going && (many == 0)) (is_text kind) e).1
+
+-- How many quotes are open behind a line.
+
+depth-longer : (p : Path) (ks : List Kept) → depth_of (longer p ks) ≡ depth_of p
+depth-longer (At s) ks = refl
+depth-longer (Within before container p) ks = ap (λ (n : ℕ). suc n) (depth-longer p ks)
+
+depth-behind : (p : Path) (f : Blocks → Path) (n : ℕ) → ((bs : Blocks) → depth_of (f bs) ≡ n) → depth_of (behind_path p f) ≡ depth_of p + n
+depth-behind (At s) f n each = let e = each s.here in omega arith
+depth-behind (Within before container p) f n each = let e = depth-behind p f n each in omega arith
+
+depth-kept : (options : ParseOptions) (n : ℕ) (p : Path) → n ≤ depth_of p → depth_of (kept_to options n p) ≡ n
+depth-kept options zero p le = refl
+depth-kept options (suc n) (At s) le = absurd (omega arith)
+depth-kept options (suc n) (Within before container p) le = let e = depth-kept options n p (omega arith) in omega arith
+
+depth-new_line : (options : ParseOptions) (n : ℕ) (r : Rest) (bs : Blocks) → depth_of (new_line options n r bs) ≡ n
+depth-new_line options zero r bs = refl
+depth-new_line options (suc n) r bs = let e = depth-new_line options n r End in omega arith
+
+pub depth-step : (options : ParseOptions) (p : Path) (r : Rest) → IsBuilt options → IsPlain p → depth_of (step options p r) ≡ (quoted_at options p r).depth
+unfolding quoted
+depth-step options p r built plain = ap depth_of (step-new options p r built plain) ∙ go (is_lazy (is_going p) new.many (line_kind options (rest_line new.rest))) refl
+  where
+    on : Prefixed
+    on = quotes_on options (depth_of p) r
+
+    new : Prefixed
+    new = all_new options on.rest
+
+    go : (x : Bool) → is_lazy (is_going p) new.many (line_kind options (rest_line new.rest)) ≡ x →
+        depth_of (cond x (longer p (kept new.rest ∷ [])) (behind_path (kept_to options on.many p) (new_line options new.many new.rest))) ≡ cond x (depth_of p) on.many + new.many
+    go true e = let same = depth-longer p (kept new.rest ∷ []) in let none = lazy-opens (is_going p) new.many (line_kind options (rest_line new.rest)) e in omega arith
+    go false e =
+        let le = on-many options (depth_of p) r in
+        let kept = depth-kept options on.many p le in
+        let sum = depth-behind (kept_to options on.many p) (new_line options new.many new.rest) new.many (λ bs. depth-new_line options new.many new.rest bs) in
+        omega arith
+
+-- Whether a paragraph is open behind a line.
+
+pub going-longer : (p : Path) (ks : List Kept) → is_going (longer p ks) ≡ true
+going-longer (At s) ks = refl
+going-longer (Within before container p) ks = going-longer p ks
+
+going-behind : (p : Path) (f : Blocks → Path) (x : Bool) → ((bs : Blocks) → is_going (f bs) ≡ x) → is_going (behind_path p f) ≡ x
+going-behind (At s) f x each = each s.here
+going-behind (Within before container p) f x each = going-behind p f x each
+
+going-new_line : (options : ParseOptions) (n : ℕ) (r : Rest) (bs : Blocks) → IsBuilt options → is_going (new_line options n r bs) ≡ is_text (line_kind options r.bytes)
+going-new_line options zero r bs built = ap (λ (s : Spot). is_open_text s.leaf) (fresh-found options bs r built) ∙ go (line_kind options r.bytes)
+  where
+    go : (kind : RowKind) → is_open_text (spot_by bs [] r kind).leaf ≡ is_text kind
+    go BlankRow = refl
+    go HeadingRow = refl
+    go BreakRow = refl
+    go TextRow = refl
+going-new_line options (suc n) r bs built = going-new_line options n r End built
+
+pub going-step : (options : ParseOptions) (p : Path) (r : Rest) → IsBuilt options → IsPlain p → is_going (step options p r) ≡ is_text (line_kind options (rest_line (quoted_at options p r).rest))
+going-step options p r built plain = ap is_going (step-quoted options p r built plain) ∙ go (goes_lazy options p quotes) refl
+  where
+    quotes : Quoted
+    quotes = quoted_at options p r
+
+    kind : RowKind
+    kind = line_kind options (rest_line quotes.rest)
+
+    go : (x : Bool) → goes_lazy options p quotes ≡ x → is_going (cond x (longer p (kept quotes.rest ∷ [])) (new_path options p quotes)) ≡ is_text kind
+    go true e = going-longer p (kept quotes.rest ∷ []) ∙ sym (lazy-text (is_going p) quotes.opens kind e)
+    go false e =
+        going-behind (kept_to options (depth_of p - quotes.closes) p) (new_line options quotes.opens quotes.rest) (is_text kind)
+        (λ bs. going-new_line options quotes.opens quotes.rest bs built ∙ ap is_text (sym (rest_line-kind options quotes.rest)))
