@@ -133,13 +133,13 @@ abbrev spot_with : Blocks → List Kept → Spot
 spot_with bs held = record { here = bs; leaf = leaf_of held }
 
 -- what is open behind a line of this kind
-abbrev spot_by : Blocks → List Kept → Rest → RowKind → Spot
+abbrev pub spot_by : Blocks → List Kept → Rest → RowKind → Spot
 spot_by bs held r BlankRow = spot_of (then_paragraph bs (texts held))
 spot_by bs held r HeadingRow = spot_of (then_block (then_paragraph bs (texts held)) (heading_block r.bytes))
 spot_by bs held r BreakRow = spot_of (then_block (then_paragraph bs (texts held)) Break)
 spot_by bs held r TextRow = with_line bs held r
 
-shut-lines : (options : ParseOptions) (bs : Blocks) (lines : List (List ℕ)) → options.constructs.definition ≡ false → shut_paragraph options bs lines ≡ then_paragraph bs lines
+pub shut-lines : (options : ParseOptions) (bs : Blocks) (lines : List (List ℕ)) → options.constructs.definition ≡ false → shut_paragraph options bs lines ≡ then_paragraph bs lines
 unfolding shut_paragraph
 shut-lines options bs lines off = rw off refl
 
@@ -148,7 +148,7 @@ shut-leaf options bs [] off = refl
 shut-leaf options bs (k ∷ ks) off = shut-lines options bs (texts (k ∷ ks)) off
 
 -- a line where nothing is open
-fresh-found : (options : ParseOptions) (bs : Blocks) (r : Rest) → IsBuilt options → fresh_line options bs r ≡ spot_by bs [] r (line_kind options r.bytes)
+pub fresh-found : (options : ParseOptions) (bs : Blocks) (r : Rest) → IsBuilt options → fresh_line options bs r ≡ spot_by bs [] r (line_kind options r.bytes)
 unfolding fresh_line
 fresh-found options bs r built = rw (starts-found options NoText r built) (go (is_blank r.bytes) (heads options r.bytes) (breaks options r.bytes))
   where
@@ -525,6 +525,11 @@ quoted-lazy options p r lazy = go (is_lazy (is_going p) new.many (line_kind opti
     go : (x : Bool) → x ≡ true → depth_of p - cond x (depth_of p) on.many ≡ 0
     go true e = omega arith
     go false e = cc
+
+-- no more quotes end than are open
+pub quoted-closes : (options : ParseOptions) (p : Path) (r : Rest) → (quoted_at options p r).closes ≤ depth_of p
+unfolding quoted
+quoted-closes options p r = omega arith
 
 -- Plain paths stay such.
 
