@@ -434,3 +434,132 @@ row-means options bytes p a line row gs last built plain is follows = go (goes_l
     go false e =
         subst (λ (x : Bool). Means options bytes p x row (onto_groups row row.kind gs) last) (sym (same ∙ e))
         (by row.kind refl (subst (λ (x : Path). Follows options bytes x row gs last) (stepped false e ∙ new-path options p quotes row.kind built (sym kind-is)) follows))
+
+-- Lines, one after another.
+
+-- what is left of each line, of which the first begins at this point
+abbrev pub rests_from : Point → List (List ℕ) → List Rest
+rests_from p [] = []
+rests_from p (line ∷ lines) = rest_from p line ∷ map (rest_at 0) lines
+
+-- behind an ending each begins at the first column
+rests-behind : (p : Point) (lines : List (List ℕ)) → p.column ≡ 1 → rests_from p lines ≡ map (rest_at 0) lines
+rests-behind p [] e = refl
+rests-behind p (line ∷ lines) e = let first : p.column - 1 ≡ 0 = omega arith in ap (λ (k : ℕ). rest_at k line ∷ map (rest_at 0) lines) first
+
+abbrev First : ParseOptions → List ℕ → ℕ → Bool → Point → List (List ℕ) → List Row → Type 0
+First options bytes depth going p (line ∷ lines) (row ∷ rows) = f.IsLine options bytes depth going p line row
+First options bytes depth going p _ _ = ⊥
+
+first-line : (options : ParseOptions) (bytes : List ℕ) (depth : ℕ) (going : Bool) (p : Point) (lines : List (List ℕ)) (rows : List Row) → f.AreRows options bytes depth going p lines rows → First options bytes depth going p lines rows
+first-line options bytes depth going p (line ∷ []) (row ∷ []) are = are.0
+first-line options bytes depth going p (line ∷ next ∷ lines) (row ∷ below ∷ rows) are = are.0
+first-line options bytes depth going p lines rows are = absurd are
+
+-- where a line of text follows that goes on no paragraph, a new one begins
+not-joined : (row below : Row) (gs : List Group) → is_lazy true below.opens below.kind ≡ false → onto_groups row TextRow (onto_groups below below.kind gs) ≡ Lines row [] ∷ onto_groups below below.kind gs
+not-joined row below gs lazy = go below.kind lazy
+  where
+    by : (rows : List Row) (more : List Group) → (below.opens == 0) ≡ false → onto_lines row below rows more ≡ Lines row [] ∷ Lines below rows ∷ more
+    by rows more e = go (row.leaves == 0)
+      where
+        go : (x : Bool) → cond (x && (below.opens == 0)) (Lines row (below ∷ rows) ∷ more) (Lines row [] ∷ Lines below rows ∷ more) ≡ Lines row [] ∷ Lines below rows ∷ more
+        go true = ap (λ (t : Bool). cond t (Lines row (below ∷ rows) ∷ more) (Lines row [] ∷ Lines below rows ∷ more)) e
+        go false = refl
+
+    opens : (x : Bool) → (x && true) ≡ false → x ≡ false
+    opens true e = cc
+    opens false e = refl
+
+    onto : (gs : List Group) → (below.opens == 0) ≡ false → onto_groups row TextRow (onto_groups below TextRow gs) ≡ Lines row [] ∷ onto_groups below TextRow gs
+    onto [] e = by [] [] e
+    onto (Single next ∷ more) e = by [] (Single next ∷ more) e
+    onto (Lines next rows ∷ more) e = join (goes_on below next)
+      where
+        join : (x : Bool) → onto_groups row TextRow (cond x (Lines below (next ∷ rows) ∷ more) (Lines below [] ∷ Lines next rows ∷ more)) ≡ Lines row [] ∷ cond x (Lines below (next ∷ rows) ∷ more) (Lines below [] ∷ Lines next rows ∷ more)
+        join true = by (next ∷ rows) more e
+        join false = by [] (Lines next rows ∷ more) e
+
+    go : (kind : RowKind) → is_lazy true below.opens kind ≡ false → onto_groups row TextRow (onto_groups below kind gs) ≡ Lines row [] ∷ onto_groups below kind gs
+    go BlankRow e = refl
+    go HeadingRow e = refl
+    go BreakRow e = refl
+    go TextRow e = onto gs (opens (below.opens == 0) e)
+
+-- what follows a line, by what is read of the lines below
+follows-below : (options : ParseOptions) (bytes : List ℕ) (p : Path) (row below : Row) (gs : List Group) (q : Point) (line : List ℕ) (last : Path) → IsBuilt options → IsPlain p → is_going p ≡ is_text row.kind →
+    row.leaves ≡ below.closes → f.IsEnding bytes row.end q → f.IsLine options bytes (depth_of p) (is_going p) q line below →
+    (x : Bool) → is_lazy (is_going p) below.opens below.kind ≡ x → Means options bytes p x below (onto_groups below below.kind gs) last → Follows options bytes p row (onto_groups below below.kind gs) last
+follows-below options bytes p row below gs q line last built plain going leaves ending is true lazy means =
+    let quotes : Quoted = quoted_at options p (rest_from q line) in
+    let goes : goes_lazy options p quotes ≡ true = ap (is_lazy (is_going p) quotes.opens) (sym is.is.kind) ∙ ap (λ (k : ℕ). is_lazy (is_going p) k below.kind) (sym is.opens) ∙ lazy in
+    let none : below.opens ≡ 0 = lazy-opens (is_going p) below.opens below.kind lazy in
+    inr (record {
+      text = sym going ∙ lazy-going (is_going p) below.opens below.kind lazy;
+      next = below;
+      starts = means;
+      leaves = leaves ∙ is.closes ∙ quoted-lazy options p (rest_from q line) goes;
+      opens = none;
+      after = q;
+      ending = ending;
+      fronts = subst (λ (k : ℕ). Fronts bytes k q below.first below.front) none is.front;
+    })
+  where
+    lazy-going : (going : Bool) (many : ℕ) (kind : RowKind) → is_lazy going many kind ≡ true → going ≡ true
+    lazy-going true many kind e = refl
+    lazy-going false many kind e = cc
+follows-below options bytes p row below gs q line last built plain going leaves ending is false lazy means = inl (record {
+  apart = λ text. not-joined row below gs (ap (λ (x : Bool). is_lazy x below.opens below.kind) (sym (going ∙ ap is_text text)) ∙ lazy);
+  reads = ap (λ (k : ℕ). read bytes (lefts k (reading options p)) (groups_events bytes (onto_groups below below.kind gs))) leaves ∙ means;
+})
+
+-- what the first line is read as
+abbrev RowsMean : ParseOptions → List ℕ → Path → Path → List Row → Type 0
+RowsMean options bytes p last [] = ⊥
+RowsMean options bytes p last (row ∷ rows) = Means options bytes p (is_lazy (is_going p) row.opens row.kind) row (groups (row ∷ rows)) last
+
+-- The groups of the lines of a text are read as what its lines do.
+rows-mean : (options : ParseOptions) (bytes : List ℕ) (a : Path) (p : Point) (lines : List (List ℕ)) (rows : List Row) → IsBuilt options → IsPlain a →
+    f.AreRows options bytes (depth_of a) (is_going a) p lines rows → RowsMean options bytes a (steps options a (rests_from p lines)) rows
+rows-mean options bytes a p (line ∷ []) (row ∷ []) built plain are =
+    let b : Path = step options a (rest_from p line) in
+    let all : row.leaves ≡ depth_of b = are.1 ∙ sym (depth-step options a (rest_from p line) built plain) in
+    row-means options bytes a p line row [] b built plain are.0
+    (inl (record { apart = λ text. refl; reads = ap (λ (k : ℕ). lefts k (reading options b)) all ∙ lefts-all options [] b (plain-step options a (rest_from p line) built plain) }))
+rows-mean options bytes a p (line ∷ next ∷ lines) (row ∷ below ∷ rows) built plain are =
+    let r : Rest = rest_from p line in
+    let b : Path = step options a r in
+    let q : Point = are.2 in
+    let depth : depth_of b ≡ f.depth_behind options (depth_of a) (is_going a) p line = depth-step options a r built plain in
+    let going : is_going b ≡ is_text row.kind = going-step options a r built plain ∙ ap is_text (sym are.0.is.kind) in
+    let plain_b : IsPlain b = plain-step options a r built plain in
+    let are_b : f.AreRows options bytes (depth_of b) (is_going b) q (next ∷ lines) (below ∷ rows) =
+    subst (λ (d : ℕ). f.AreRows options bytes d (is_going b) q (next ∷ lines) (below ∷ rows)) (sym depth)
+    (subst (λ (g : Bool). f.AreRows options bytes (f.depth_behind options (depth_of a) (is_going a) p line) g q (next ∷ lines) (below ∷ rows)) (sym going) are.5) in
+    let further : RowsMean options bytes b (steps options b (rests_from q (next ∷ lines))) (below ∷ rows) = rows-mean options bytes b q (next ∷ lines) (below ∷ rows) built plain_b are_b in
+    let last : Path = steps options b (map (rest_at 0) (next ∷ lines)) in
+    let same : steps options b (rests_from q (next ∷ lines)) ≡ last = ap (steps options b) (rests-behind q (next ∷ lines) are.4.column) in
+    row-means options bytes a p line row (groups (below ∷ rows)) last built plain are.0
+    (follows-below options bytes b row below (groups rows) q next last built plain_b going are.1 are.4 (first-line options bytes (depth_of b) (is_going b) q (next ∷ lines) (below ∷ rows) are_b)
+    (is_lazy (is_going b) below.opens below.kind) refl (subst (λ (l : Path). RowsMean options bytes b l (below ∷ rows)) same further))
+rows-mean options bytes a p lines rows built plain are = absurd are
+
+-- The events of a text are read as what its lines come to.
+pub spelled-rows : (options : ParseOptions) (bytes : List ℕ) (p : Point) (lines : List (List ℕ)) (rows : List Row) → IsBuilt options → f.AreRows options bytes 0 false p lines rows →
+    spelled (groups_events bytes (groups rows)) bytes ≡ closed options (steps options (At (spot_of End)) (rests_from p lines))
+unfolding spelled
+spelled-rows options bytes p lines rows built are = go lines rows (first-line options bytes 0 false p lines rows are) (rows-mean options bytes (At (spot_of End)) p lines rows built tt are)
+  where
+    -- no quote ends in front of the first line
+    none : (closes : ℕ) → closes ≤ 0 → lefts closes unread ≡ unread
+    none zero le = refl
+    none (suc k) le = absurd (omega arith)
+
+    go : (ls : List (List ℕ)) (rs : List Row) → First options bytes 0 false p ls rs → RowsMean options bytes (At (spot_of End)) (steps options (At (spot_of End)) (rests_from p lines)) rs →
+        (read bytes unread (groups_events bytes (groups rs))).here ≡ closed options (steps options (At (spot_of End)) (rests_from p lines))
+    go (line ∷ ls) (row ∷ rs) is means =
+        let closes = quoted-closes options (At (spot_of End)) (rest_from p line) in
+        let same = is.closes in
+        ap (λ (r : Reading). (read bytes r (groups_events bytes (groups (row ∷ rs)))).here) (sym (none row.closes (omega arith))) ∙ ap (λ (r : Reading). r.here) means
+    go [] rs is means = absurd is
+    go (line ∷ ls) [] is means = absurd is
