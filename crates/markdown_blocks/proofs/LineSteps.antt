@@ -461,7 +461,7 @@ stepped-within options before p many new = go (is_lazy (is_going p) new.many (li
 abbrev on_by : ParseOptions → ℕ → Rest → Option Taken → Prefixed
 on_by options n r o = elim o [ None ↦ no_prefix r | Some t ↦ one_more (quotes_on options n t.rest) ]
 
-step-new : (options : ParseOptions) (p : Path) (r : Rest) → IsBuilt options → IsPlain p → step options p r ≡ stepped options p (quotes_on options (depth_of p) r).many (all_new options (quotes_on options (depth_of p) r).rest)
+pub step-new : (options : ParseOptions) (p : Path) (r : Rest) → IsBuilt options → IsPlain p → step options p r ≡ stepped options p (quotes_on options (depth_of p) r).many (all_new options (quotes_on options (depth_of p) r).rest)
 step-new options (At s) r built plain = step-at options s r built plain
 step-new options (Within before InQuote p) r built plain = go (λ s. step-new options p s built plain) (quote_taken options r) (taken-quote options r)
   where
