@@ -1,5 +1,5 @@
 -- What one line does to the quotes and the paragraph that are open, where quotes, headings and breaks alone may be on.
-use Rattle.std.proofs.Common.{◌≡◌, ℕ, zero, suc, ◌+◌, ◌-◌, ◌%◌, ◌<◌, ◌≤◌, Bool, true, false, cond, not, ◌==◌, ◌&&◌, ◌||◌, List, [], ◌∷◌, ◌++◌, map, length, drop, refl, ap, sym, ◌∙◌, subst, append_assoc, arith}
+use Rattle.std.proofs.Common.{◌≡◌, ℕ, zero, suc, ◌+◌, ◌-◌, ◌%◌, ◌<◌, ◌≤◌, Bool, true, false, cond, ◌==◌, ◌&&◌, ◌||◌, List, [], ◌∷◌, ◌++◌, length, drop, refl, ap, sym, ◌∙◌, subst, arith}
 use Rattle.std.specs.Prelude.{nat_le, Option, Some, None}
 use Rattle.std.specs.List.{prefix_len}
 use Rattle.std.specs.Option.{is_some, option_or}
@@ -12,9 +12,9 @@ use Rattle.md_seam.specs.Leaves.{Against, Came, Finished, LazyText, NoText, Text
 use Rattle.md_seam.specs.Lines.{begins_with}
 use Rattle.md_seam.specs.Preamble.{rest_at}
 use Rattle.md_seam.specs.Rest.{Rest, behind, behind_indent, has_small_indent, indent, is_blank, is_parted, is_white, lose, run_len, trim_start, without_column}
-use Rattle.md_seam.specs.State.{At, Container, InFootnote, InItem, InQuote, Kept, Leaf, NoLeaf, OpenCode, OpenFence, OpenHtml, OpenParagraph, OpenTable, Path, Spot, Within, at_spot, closed, container_block, kept, shut, shut_paragraph, spot, texts, then_block, then_leaf, then_paragraph}
-use Rattle.md_seam.specs.Step.{all_continued, all_continued_by, entered, fresh_by, fresh_line, is_concrete, is_open_text, lazy_by, leaf_line, opened, spot_of, step, steps, stopped, stopped_by, text_by, text_line, with_lazy}
-use Rattle.md_seam.specs.Tree.{Blocks, Break, End, More, Paragraph, Quote}
+use Rattle.md_seam.specs.State.{At, Container, InQuote, Kept, Leaf, NoLeaf, OpenParagraph, Path, Spot, Within, at_spot, closed, kept, shut, shut_paragraph, spot, texts, then_block, then_paragraph}
+use Rattle.md_seam.specs.Step.{all_continued, all_continued_by, entered, fresh_by, fresh_line, is_concrete, is_open_text, lazy_by, leaf_line, opened, spot_of, step, stopped, stopped_by, text_by, text_line, with_lazy}
+use Rattle.md_seam.specs.Tree.{Blocks, Break, End, Quote}
 use Rattle.md_seam.proofs.ColumnLemmas.{opened_by, step_by}
 use Rattle.markdown_blocks.specs.Fronted.{Prefixed, cut_tab, Quoted, no_prefix, one_more, quoted, quotes_new, quotes_on, rest_line}
 use Rattle.markdown_blocks.specs.Parsed.{IsBuilt}
@@ -124,14 +124,6 @@ starts-found options against r built =
 
 -- Lines, one after another.
 
--- what is open where a paragraph has these lines
-abbrev leaf_of : List Kept → Leaf
-leaf_of [] = NoLeaf
-leaf_of (k ∷ ks) = OpenParagraph (k ∷ ks)
-
-abbrev spot_with : Blocks → List Kept → Spot
-spot_with bs held = record { here = bs; leaf = leaf_of held }
-
 -- what is open behind a line of this kind
 abbrev pub spot_by : Blocks → List Kept → Rest → RowKind → Spot
 spot_by bs held r BlankRow = spot_of (then_paragraph bs (texts held))
@@ -142,10 +134,6 @@ spot_by bs held r TextRow = with_line bs held r
 pub shut-lines : (options : ParseOptions) (bs : Blocks) (lines : List (List ℕ)) → options.constructs.definition ≡ false → shut_paragraph options bs lines ≡ then_paragraph bs lines
 unfolding shut_paragraph
 shut-lines options bs lines off = rw off refl
-
-shut-leaf : (options : ParseOptions) (bs : Blocks) (held : List Kept) → options.constructs.definition ≡ false → then_leaf options bs (leaf_of held) ≡ then_paragraph bs (texts held)
-shut-leaf options bs [] off = refl
-shut-leaf options bs (k ∷ ks) off = shut-lines options bs (texts (k ∷ ks)) off
 
 -- a line where nothing is open
 pub fresh-found : (options : ParseOptions) (bs : Blocks) (r : Rest) → IsBuilt options → fresh_line options bs r ≡ spot_by bs [] r (line_kind options r.bytes)
@@ -162,14 +150,13 @@ fresh-found options bs r built = rw (starts-found options NoText r built) (go (i
 text-found : (options : ParseOptions) (bs : Blocks) (lines : List Kept) (k : Kept) (r : Rest) → IsBuilt options → text_line options bs (k ∷ lines) r ≡ spot_by bs (k ∷ lines) r (line_kind options r.bytes)
 unfolding text_line
 text-found options bs lines k r built =
-    rw (underline-off options r built.heading_setext, starts-found options Text r built, shut-leaf options bs (k ∷ lines) built.definition) (go (is_blank r.bytes) (heads options r.bytes) (breaks options r.bytes))
+    rw (underline-off options r built.heading_setext, starts-found options Text r built, shut-lines options bs (texts (k ∷ lines)) built.definition) (go (is_blank r.bytes) (heads options r.bytes) (breaks options r.bytes))
   where
     go : (x y z : Bool) → cond x (spot_of (then_paragraph bs (texts (k ∷ lines)))) (text_by options bs (k ∷ lines) r (block_if y z r.bytes)) ≡ spot_by bs (k ∷ lines) r (cond x BlankRow (cond y HeadingRow (cond z BreakRow TextRow)))
     go true y z = refl
-    go false true z = ap (λ (x : Blocks). spot_of (then_block x (heading_block r.bytes))) (shut-leaf options bs (k ∷ lines) built.definition)
-    go false false true = ap (λ (x : Blocks). spot_of (then_block x Break)) (shut-leaf options bs (k ∷ lines) built.definition)
+    go false true z = ap (λ (x : Blocks). spot_of (then_block x (heading_block r.bytes))) (shut-lines options bs (texts (k ∷ lines)) built.definition)
+    go false false true = ap (λ (x : Blocks). spot_of (then_block x Break)) (shut-lines options bs (texts (k ∷ lines)) built.definition)
     go false false false = rw (table-off options bs (k ∷ lines) r built.gfm_table) refl
-
 
 -- The quotes that open.
 

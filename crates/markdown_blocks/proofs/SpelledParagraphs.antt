@@ -1,6 +1,6 @@
 -- What the events of a paragraph are read as, where prefixes of quotes stand in front of its lines: its lines without them.
-use Rattle.std.proofs.Common.{◌≡◌, ℕ, zero, suc, ◌+◌, ◌-◌, ◌<◌, ◌≤◌, Bool, true, false, cond, ◌&&◌, ◌||◌, List, [], ◌∷◌, ◌++◌, length, take, drop, slice_range, refl, ap, sym, ◌∙◌, subst, append_assoc, append-nil, arith}
-use Rattle.std.specs.Prelude.{◌==◌, IsTrue, nat_le, nat_lt, Option, Some, None}
+use Rattle.std.proofs.Common.{◌≡◌, ℕ, zero, suc, ◌+◌, ◌-◌, ◌≤◌, Bool, true, false, cond, ◌&&◌, List, [], ◌∷◌, ◌++◌, length, take, drop, slice_range, refl, ap, sym, ◌∙◌, subst, append_assoc, append-nil, arith}
+use Rattle.std.specs.Prelude.{◌==◌, IsTrue, None}
 use Rattle.std.specs.List.{prefix_len}
 use Rattle.std.proofs.lemmas.Bool.{and_from, and_parts}
 use Rattle.std.proofs.lemmas.Bool.Decides.{nat_tests}
@@ -28,7 +28,7 @@ use Rattle.md_seam.proofs.RestCells.{Cut}
 use Rattle.md_seam.proofs.SpelledLemmas.{Between, QuietOrEnding, Roles, roles-append, text-inline, text_after, text_after-append}
 use Rattle.md_seam.proofs.TextsLemmas.{Both, Ending, EndsBefore, IsOfLines, LineFeed, NoEnding, Return, ending_bytes}
 use Rattle.markdown_blocks.specs.Fronted.{cut_tab, rest_line}
-use Rattle.markdown_blocks.specs.Rows.{BlankRow, BreakRow, HeadingRow, Row, RowKind, TextRow, behind_row, last_row, line_kind, read_lines}
+use Rattle.markdown_blocks.specs.Rows.{BlankRow, BreakRow, HeadingRow, Row, TextRow, behind_row, last_row, read_lines}
 use Rattle.markdown_blocks.proofs.LineSteps.{rest_line-kind}
 use Rattle.markdown_blocks.proofs.FrontFacts as front
 use Rattle.markdown_blocks.proofs.FrontFacts.{Behind, Begins, Fronts, Goes}
@@ -143,9 +143,11 @@ collects-fronts bytes opens p q es ys end all (Goes many a b d xs zs prefix more
     let next = collects-fronts bytes many b d zs ys end all more none c in
     let le = marker-behind a prefix.marker prefix.indent prefix.marker_whole in
     let here : List ℕ = slice_range bytes (byte_at a) prefix.marker.index in
-    let all_of : Collects bytes (xs ++ (zs ++ ys)) (byte_at a) end (here ++ (next.0 ++ all)) = collects-prefix bytes a b xs (zs ++ ys) (byte_at a) end (next.0 ++ all) prefix le next.2 in
-    (here ++ next.0, blank-append here next.0 (blank-before bytes a prefix.marker.index le prefix.white_before) next.1,
-    subst (λ (l : List Event). Collects bytes l (byte_at a) end ((here ++ next.0) ++ all)) (sym (append_assoc xs zs ys)) (subst (Collects bytes (xs ++ (zs ++ ys)) (byte_at a) end) (sym (append_assoc here next.0 all)) all_of))
+    let all_of : Collects bytes (xs ++ (zs ++ ys)) (byte_at a) end (here ++ (next.0 ++ all)) = collects-prefix bytes a b xs (zs ++ ys) (byte_at a) end (next.0 ++ all) prefix le next.2 in (
+      here ++ next.0,
+      blank-append here next.0 (blank-before bytes a prefix.marker.index le prefix.white_before) next.1,
+      subst (λ (l : List Event). Collects bytes l (byte_at a) end ((here ++ next.0) ++ all)) (sym (append_assoc xs zs ys)) (subst (Collects bytes (xs ++ (zs ++ ys)) (byte_at a) end) (sym (append_assoc here next.0 all)) all_of),
+    )
 collects-fronts bytes opens p q es ys end all (Begins many a b d xs zs prefix more) none c = absurd (omega arith)
 
 -- Lines.
@@ -168,12 +170,13 @@ line-bytes options bytes r row is cut = go r.spaces cut is.text is.size
     go (suc k) within text size =
         let some : (row.first.vs == 0) ≡ false = let more = within.0 in grind (arith, nat_tests) in
         let here : byte_at row.first ≡ row.first.index + 1 = ap (λ (x : Bool). cond x row.first.index (row.first.index + 1)) some in
-        let end : row.first.index + 1 + length r.bytes ≡ row.end.index = omega arith in
-        (ap (λ (i : ℕ). slice_range bytes i row.end.index) here
-        ∙ ap (slice_range bytes (row.first.index + 1)) (sym end)
-        ∙ slice-inside bytes (9 ∷ r.bytes) row.first.index row.end.index 1 (length r.bytes) text size (omega arith)
-        ∙ take_all (length r.bytes) r.bytes (omega arith),
-        omega arith)
+        let end : row.first.index + 1 + length r.bytes ≡ row.end.index = omega arith in (
+          ap (λ (i : ℕ). slice_range bytes i row.end.index) here
+              ∙ ap (slice_range bytes (row.first.index + 1)) (sym end)
+              ∙ slice-inside bytes (9 ∷ r.bytes) row.first.index row.end.index 1 (length r.bytes) text size (omega arith)
+              ∙ take_all (length r.bytes) r.bytes (omega arith),
+          omega arith,
+        )
 
 text-filled : (options : ParseOptions) (bytes : List ℕ) (r : Rest) (row : Row) → f.IsRow options bytes (rest_line r) row → row.kind ≡ TextRow → IsFilled r.bytes
 text-filled options bytes r row is text = record {

@@ -1,6 +1,6 @@
 -- What the events of a text are read as, where quotes, headings and breaks alone may be on: what its lines do to the quotes and
 -- the paragraph that are open.
-use Rattle.std.proofs.Common.{◌≡◌, ◌≢◌, ℕ, zero, suc, ◌+◌, ◌-◌, ◌≤◌, Bool, true, false, cond, ◌&&◌, List, [], ◌∷◌, ◌++◌, map, length, drop, refl, ap, sym, ◌∙◌, subst, append_assoc, inl, inr, ◌⊎◌, arith}
+use Rattle.std.proofs.Common.{◌≡◌, ◌≢◌, ℕ, zero, suc, ◌-◌, ◌≤◌, Bool, true, false, cond, ◌&&◌, List, [], ◌∷◌, ◌++◌, map, drop, refl, ap, sym, ◌∙◌, subst, append_assoc, inl, inr, ◌⊎◌, arith}
 use Rattle.std.specs.Prelude.{◌==◌, Option, Some, None}
 use Rattle.std.proofs.lemmas.Bool.Decides.{nat_tests}
 use Rattle.md_engine.specs.declared.configuration.ParseOptions.{ParseOptions}
@@ -8,26 +8,23 @@ use Rattle.md_engine.specs.declared.event.Event.{Event}
 use Rattle.md_engine.specs.declared.event.Name.{Name}
 use Rattle.md_engine.specs.declared.event.Name.TheVariants as n
 use Rattle.md_engine.specs.declared.event.Point.{Point}
-use Rattle.md_leaves.specs.HeadingRule.{is_heading}
 use Rattle.md_seam.specs.Leaves.{heading_lines, heading_text}
 use Rattle.md_seam.specs.Nested.{around}
 use Rattle.md_seam.specs.Preamble.{rest_at}
-use Rattle.md_seam.specs.Rest.{Rest, run_len, trim_start}
-use Rattle.md_seam.specs.Spelled.{Around, IsQuiet, QuoteShape, Reading, Role, add_block, left, read, role, spelled, unread}
-use Rattle.md_seam.specs.State.{At, InQuote, Kept, Leaf, NoLeaf, OpenParagraph, Path, Spot, Within, closed, kept, shut, shut_paragraph, spot, texts, then_block, then_leaf, then_paragraph}
-use Rattle.md_seam.specs.Step.{fresh_line, spot_of, step, steps}
-use Rattle.md_seam.specs.Tree.{Block, Blocks, Break, End, Heading, Paragraph}
+use Rattle.md_seam.specs.Rest.{Rest, run_len}
+use Rattle.md_seam.specs.Spelled.{Around, QuoteShape, Reading, add_block, left, read, role, spelled, unread}
+use Rattle.md_seam.specs.State.{At, InQuote, Kept, Leaf, NoLeaf, OpenParagraph, Path, Spot, Within, closed, kept, shut, spot, texts, then_leaf}
+use Rattle.md_seam.specs.Step.{spot_of, step, steps}
+use Rattle.md_seam.specs.Tree.{Block, Blocks, End, Heading, Paragraph}
 use Rattle.md_seam.proofs.BlocksLemmas.{read-break}
 use Rattle.md_seam.proofs.RestCells.{Cut}
 use Rattle.md_seam.proofs.SpelledLemmas.{Between, Quiet, QuietOrPrefix, Roles, read-between, read-from, read-prefixes, read-quiet}
-use Rattle.markdown_blocks.specs.Fronted.{Quoted, cut_tab, quoted, rest_from, rest_line}
+use Rattle.markdown_blocks.specs.Fronted.{Quoted, cut_tab, rest_from, rest_line}
 use Rattle.markdown_blocks.specs.Parsed.{IsBuilt}
-use Rattle.markdown_blocks.specs.Rows.{BlankRow, BreakRow, Group, HeadingRow, Lines, Row, RowKind, Single, TextRow, ending_events, goes_on, group_events, groups, groups_events, is_lazy, is_text, last_row, line_kind, onto_groups, onto_lines, quote_ends, read_lines, read_title, row_title, single_events_by, tail_events}
-use Rattle.markdown_blocks.specs.Sections.{heading_block}
-use Rattle.markdown_blocks.proofs.FrontFacts as front
+use Rattle.markdown_blocks.specs.Rows.{BlankRow, BreakRow, Group, HeadingRow, Lines, Row, RowKind, Single, TextRow, ending_events, goes_on, groups, groups_events, is_lazy, is_text, last_row, line_kind, onto_groups, onto_lines, quote_ends, read_lines, read_title, row_title, single_events_by, tail_events}
 use Rattle.markdown_blocks.proofs.FrontFacts.{Behind, Begins, Fronts, Goes}
 use Rattle.markdown_blocks.proofs.LineKinds.{heading-kind}
-use Rattle.markdown_blocks.proofs.LineSteps.{IsPlain, IsPlainLeaf, behind_path, depth-step, depth_of, fresh-found, going-step, goes_lazy, held_of, is_going, kept_to, lazy-opens, lazy-text, longer, new_line, new_path, plain-step, quoted-closes, quoted-lazy, quoted_at, rest_line-kind, rest_line-trim, shut-lines, spot_by, step-quoted}
+use Rattle.markdown_blocks.proofs.LineSteps.{IsPlain, behind_path, depth-step, depth_of, fresh-found, going-step, goes_lazy, held_of, is_going, kept_to, lazy-opens, lazy-text, longer, new_line, new_path, plain-step, quoted-closes, quoted-lazy, quoted_at, rest_line-kind, rest_line-trim, shut-lines, spot_by, step-quoted}
 use Rattle.markdown_blocks.proofs.RowFacts as f
 use Rattle.markdown_blocks.proofs.SpelledHeadings.{Begun, Whole, WithTab, read-heading}
 use Rattle.markdown_blocks.proofs.SpelledParagraphs.{IsRead, prefix-roles, read-lines, read-more, read-one}

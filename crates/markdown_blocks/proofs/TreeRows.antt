@@ -1,5 +1,5 @@
 -- The tree of a text where quotes, headings and breaks alone may be on is what the events of its lines are read as.
-use Rattle.std.proofs.Common.{◌≡◌, ℕ, zero, suc, ◌+◌, ◌-◌, Bool, true, false, cond, not, ◌==◌, ◌&&◌, ◌||◌, List, [], ◌∷◌, ◌++◌, map, length, drop, refl, ap, sym, ◌∙◌, subst, inl, inr, ◌⊎◌, arith}
+use Rattle.std.proofs.Common.{◌≡◌, ℕ, zero, suc, ◌+◌, ◌-◌, Bool, true, false, cond, not, ◌==◌, ◌&&◌, ◌||◌, List, [], ◌∷◌, ◌++◌, map, drop, refl, ap, sym, ◌∙◌, subst, inl, inr, ◌⊎◌, arith}
 use Rattle.std.specs.Prelude.{nat_le, Option, Some, None}
 use Rattle.std.specs.List.{onto_first}
 use Rattle.std.proofs.lemmas.Bool.{and_from, and_parts}
@@ -22,7 +22,7 @@ use Rattle.md_seam.specs.Texts.{split_lines}
 use Rattle.md_seam.specs.Tree.{Block, Blocks, Break, End, Heading, More, Paragraph, Quote}
 use Rattle.md_seam.proofs.LinesLemmas.{without_ending-onto}
 use Rattle.markdown_blocks.specs.Document.{body_point, mark_end}
-use Rattle.markdown_blocks.specs.Fronted.{Prefixed, Quoted, no_prefix, one_more, quotes_on, rest_from}
+use Rattle.markdown_blocks.specs.Fronted.{Prefixed, Quoted, no_prefix, one_more, quotes_on}
 use Rattle.markdown_blocks.specs.Outlined.{are_shallow, is_shallow}
 use Rattle.markdown_blocks.specs.Parsed.{IsBuilt}
 use Rattle.markdown_blocks.specs.Rows.{BlankRow, BreakRow, HeadingRow, Row, RowKind, TextRow, groups, groups_events, is_lazy, line_kind}
