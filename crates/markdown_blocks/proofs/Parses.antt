@@ -26,24 +26,21 @@ use Rattle.markdown_blocks.specs.Outlined.{IsOutlined, are_shallow}
 use Rattle.markdown_blocks.specs.Parsed.{IsBuilt, IsSmall, reads_plain}
 use Rattle.markdown_blocks.specs.Resolved.{resolved_as}
 use Rattle.markdown_blocks.specs.Rows.{Row, groups, groups_events}
-use Rattle.markdown_blocks.specs.Sections.{sections}
 use Rattle.markdown_blocks.specs.Unread.{titled_groups, unread_groups}
 use Rattle.markdown_blocks.proofs.BetweenRows.{rows-between}
 use Rattle.markdown_blocks.proofs.GroupLemmas.{ReadsText, content-read, headings-set, no-content, no-headings, text-read}
 use Rattle.markdown_blocks.proofs.JoinedLemmas.{EachNoContent, rows_at-no_content}
-use Rattle.markdown_blocks.proofs.MarkLemmas.{body-between, body-column, body-index, body-vs, mark-nested, mark-outlined, mark-spelled, without-mark}
+use Rattle.markdown_blocks.proofs.MarkLemmas.{body-between, body-column, body-index, body-vs, mark-nested, mark-outlined, mark-spelled}
 use Rattle.markdown_blocks.proofs.NestedRows.{Nests, rows-nest}
 use Rattle.markdown_blocks.proofs.ParagraphReads.{content-reads}
 use Rattle.markdown_blocks.proofs.PartFacts.{EachUnlinked, rows_at-unlinked}
 use Rattle.markdown_blocks.proofs.PlainEvents.{groups-outlined}
 use Rattle.markdown_blocks.proofs.RowFacts.{AreRows}
 use Rattle.markdown_blocks.proofs.RowLemmas.{fresh-rows}
-use Rattle.markdown_blocks.proofs.SectionsLemmas.{sections-shallow}
-use Rattle.markdown_blocks.proofs.SpelledRows.{spelled-rows}
 use Rattle.markdown_blocks.proofs.TileCovers.{blocks-cover}
 use Rattle.markdown_blocks.proofs.TileParts.{blocks-chunks, blocks-nested, blocks-stand}
 use Rattle.markdown_blocks.proofs.TileReads.{groups-empty, text-filled}
-use Rattle.markdown_blocks.proofs.TreeSections.{tree-sections}
+use Rattle.markdown_blocks.proofs.TreeRows.{tree-rows, tree-shallow}
 
 -- the lines of a text, behind its mark
 abbrev lines_of : List ℕ → List (List ℕ)
@@ -149,11 +146,11 @@ text-reads options bytes built utf8 small events is =
     let body : List Event = groups_events bytes (groups rows) in
     let are : AreRows options bytes p lines rows = text-are options bytes built small in
     let nests : Nests bytes p (groups rows) = rows-nest options bytes p lines rows are in
-    let spells : spelled body bytes ≡ sections options [] lines = spelled-rows options bytes p lines rows are in
+    let spells : spelled body bytes ≡ tree options bytes = tree-rows options built bytes rows are in
     subst (λ (l : List Event). Reads options bytes (mark_events bytes ++ titled_groups bytes (groups rows)) (mark_events bytes ++ l)) (sym is) (record {
       nested = mark-nested bytes body nests.balanced nests.forward;
-      outlined = mark-outlined bytes body (groups-outlined options bytes p lines rows are utf8 nests.balanced (rows-between options bytes p lines rows (body-between bytes) are) (ap are_shallow spells ∙ sections-shallow options [] lines));
-      tree = mark-spelled bytes body ∙ spells ∙ ap (λ (l : List ℕ). sections options [] (split_lines l)) (sym (without-mark bytes)) ∙ sym (tree-sections options bytes built);
+      outlined = mark-outlined bytes body (groups-outlined options bytes p lines rows are utf8 nests.balanced (rows-between options bytes p lines rows (body-between bytes) are) (ap are_shallow spells ∙ tree-shallow options bytes built));
+      tree = mark-spelled bytes body ∙ spells;
       tiles = tiles-are options bytes built small;
     })
 
