@@ -22,13 +22,14 @@ pub mod FlowReads
 pub mod SubstitutedLemmas
 pub mod JoinedLemmas
 pub mod GroupLemmas
-pub mod SectionsLemmas
+pub mod LineSteps
 pub mod PlainRoles
 pub mod SpelledHeadings
+pub mod SpelledParagraphs
 pub mod SpelledRows
 pub mod NestedRows
 pub mod BetweenRows
-pub mod TreeSections
+pub mod TreeRows
 pub mod Parses
 pub mod TextCuts
 pub mod Sketches

@@ -1,5 +1,5 @@
 -- What the events of a heading are read as: its markers, and its text.
-use Rattle.std.proofs.Common.{◌≡◌, ℕ, zero, suc, ◌+◌, ◌≤◌, Bool, true, false, cond, ◌&&◌, List, [], ◌∷◌, ◌++◌, length, take, drop, reverse, slice_range, refl, ap, sym, ◌∙◌, subst, drop-drop, arith}
+use Rattle.std.proofs.Common.{◌≡◌, ℕ, zero, suc, ◌+◌, ◌≤◌, Bool, true, false, cond, ◌&&◌, List, [], ◌∷◌, ◌++◌, length, take, drop, reverse, slice_range, refl, ap, sym, ◌∙◌, subst, drop-drop, inl, inr, ◌⊎◌, ◌<◌, arith}
 use Rattle.std.specs.Prelude.{◌==◌, nat_le, Option, Some, None, option_map}
 use Rattle.std.specs.List.{prefix_len}
 use Rattle.std.proofs.lemmas.Bool.{and_parts}
@@ -322,7 +322,9 @@ not-empty (b ∷ bs) h = (b, bs, refl)
 record IsAt (bytes line : List ℕ) (p : Point) (end : ℕ) : Type 0 where
   text : slice_range bytes p.index end ≡ line
   size : end ≡ p.index + length line
-  whole : p.vs ≡ 0
+  -- no tab is cut where its markers and where its text begin
+  whole : (behind_white line p).vs ≡ 0
+  text_whole : (past_text (take (front_len line) line) p).vs ≡ 0
   no_ending : NoEnding line
   heading : is_heading (trim_start line) ≡ true
   -- where the text of the heading stands in it
@@ -339,7 +341,7 @@ markers-are bytes line p end is =
     let q = behind_white line p in
     let fits = is.fits in
     let place : q.index ≡ p.index + indent = past-index (take indent line) p ∙ ap (λ (k : ℕ). p.index + k) (length-prefix_len is_white line) in
-    ap (λ (vs : ℕ). length (slice_range bytes (cond (vs == 0) q.index (q.index + 1)) (q.index + depth))) (past_text-whole (take indent line) p is.whole)
+    ap (λ (vs : ℕ). length (slice_range bytes (cond (vs == 0) q.index (q.index + 1)) (q.index + depth))) is.whole
     ∙ ap (λ (k : ℕ). length (slice_range bytes k (k + depth))) place
     ∙ ap length (slice-inside bytes line p.index end indent depth is.text is.size (omega (arith, fits)))
     ∙ length-prefix_len (λ (c : ℕ). c == 35) (trim_start line)
@@ -361,7 +363,7 @@ read-inside bytes line p end r is t =
     let some = not-empty markers (omega (arith, depth, markers-are bytes line p end is)) in
     read-from bytes opened (titled r markers lines) (title.front ++ read_text bytes title.text) title.back
     (read-from bytes opened (marked r markers) title.front (read_text bytes title.text) (read-front bytes opened Apart line p tt is.heading refl)
-    ∙ read-part bytes r markers from to (text_of line) (past_text-whole (take first line) p is.whole) is.title.slice is.title.no_ending (bare-text (drop (prefix_len is_white line + run_len 35 (trim_start line)) line)))
+    ∙ read-part bytes r markers from to (text_of line) is.text_whole is.title.slice is.title.no_ending (bare-text (drop (prefix_len is_white line + run_len 35 (trim_start line)) line)))
     ∙ read-runs bytes (titled r markers lines) leaf some.0 some.1 Apart (drop (first + size) line) to refl some.2 refl
     ∙ ap (λ (x : Option Text). record r { text = x; leaf = Some leaf }) (sym t)
 
@@ -374,9 +376,36 @@ read-at bytes line p q end r is t l =
     ∙ ap (λ (k : ℕ). add_block (Heading k (heading_lines (text_of line))) r) (markers-are bytes line p end is)
     ∙ ap (λ (x : List ℕ). add_block (Heading depth (heading_lines (heading_text x))) r) (sym (drop-drop depth indent line))
 
+-- behind a byte no tab is cut
+taken-whole : (n : ℕ) (line : List ℕ) (p : Point) → (p.vs ≡ 0) ⊎ ((0 < n) × (0 < length line)) → (past_text (take n line) p).vs ≡ 0
+taken-whole n line p (inl whole) = past_text-whole (take n line) p whole
+taken-whole zero line p (inr some) = absurd (omega arith)
+taken-whole (suc n) [] p (inr some) = absurd (omega arith)
+taken-whole (suc n) (b ∷ bs) p (inr some) = past_text-whole (take n bs) (past_byte b p) refl
+
+-- a heading has a byte, and its markers
+heading-some : (line : List ℕ) → is_heading (trim_start line) ≡ true → (0 < front_len line) × (0 < length line)
+heading-some line h =
+    let depth = heading-depth (trim_start line) h in
+    let fits = title-fits line in
+    let front : 1 ≤ front_len line = omega (arith, depth) in
+    (omega arith, omega arith)
+
+-- a line begins a byte, or with a tab
+pub data Begun (line : List ℕ) (p : Point) : Type 0 where
+  Whole : p.vs ≡ 0 → Begun line p
+  WithTab : (bytes : List ℕ) → line ≡ 9 ∷ bytes → Begun line p
+
+markers-whole : (line : List ℕ) (p : Point) → Begun line p → (behind_white line p).vs ≡ 0
+markers-whole line p (Whole whole) = past_text-whole (take (prefix_len is_white line) line) p whole
+markers-whole line p (WithTab bytes e) =
+    let size = count-one is_white 9 bytes refl in
+    ap (λ (l : List ℕ). (behind_white l p).vs) e
+    ∙ taken-whole (prefix_len is_white (9 ∷ bytes)) (9 ∷ bytes) p (inr (omega arith, omega arith))
+
 -- The events of a line that is a heading are read as its heading.
-pub read-heading : (options : ParseOptions) (bytes line : List ℕ) (row : Row) (r : Reading) → IsRow options bytes line row → is_heading (trim_start line) ≡ true → r.text ≡ None → r.leaf ≡ None →
+pub read-heading : (options : ParseOptions) (bytes line : List ℕ) (row : Row) (r : Reading) → IsRow options bytes line row → Begun line row.first → is_heading (trim_start line) ≡ true → r.text ≡ None → r.leaf ≡ None →
     read bytes r (around n.HeadingAtx row.first row.end (read_title bytes (row_title bytes row))) ≡ add_block (heading_block line) r
-read-heading options bytes line row r is h t l =
+read-heading options bytes line row r is begun_so h t l =
     ap (λ (x : List ℕ). read bytes r (around n.HeadingAtx row.first row.end (read_title bytes (title_of x row.first)))) is.text
-    ∙ read-at bytes line row.first row.end row.end.index r (record { text = is.text; size = is.size; whole = is.first_whole; no_ending = is.no_ending; heading = h; title = title-is options bytes line row is; fits = title-fits line }) t l
+    ∙ read-at bytes line row.first row.end row.end.index r (record { text = is.text; size = is.size; whole = markers-whole line row.first begun_so; text_whole = taken-whole (front_len line) line row.first (inr (heading-some line h)); no_ending = is.no_ending; heading = h; title = title-is options bytes line row is; fits = title-fits line }) t l

@@ -1,65 +1,207 @@
--- What the events of a text are read as, where only headings and breaks are on: its blocks, line by line.
-use Rattle.std.proofs.Common.{◌≡◌, ℕ, zero, suc, ◌+◌, ◌-◌, ◌≤◌, cond, List, [], ◌∷◌, ◌++◌, length, take, drop, slice_range, refl, ap, sym, ◌∙◌, subst, append_assoc, arith}
+-- What the events of a text are read as, where quotes, headings and breaks alone may be on: what its lines do to the quotes and
+-- the paragraph that are open.
+use Rattle.std.proofs.Common.{◌≡◌, ◌≢◌, ℕ, zero, suc, ◌-◌, ◌≤◌, Bool, true, false, cond, ◌&&◌, List, [], ◌∷◌, ◌++◌, map, drop, refl, ap, sym, ◌∙◌, subst, append_assoc, inl, inr, ◌⊎◌, arith}
 use Rattle.std.specs.Prelude.{◌==◌, Option, Some, None}
+use Rattle.std.proofs.lemmas.Bool.Decides.{nat_tests}
 use Rattle.md_engine.specs.declared.configuration.ParseOptions.{ParseOptions}
 use Rattle.md_engine.specs.declared.event.Event.{Event}
 use Rattle.md_engine.specs.declared.event.Name.{Name}
 use Rattle.md_engine.specs.declared.event.Name.TheVariants as n
 use Rattle.md_engine.specs.declared.event.Point.{Point}
-use Rattle.md_seam.specs.declared.inline.PartKind.TheVariants.{Text}
-use Rattle.md_seam.specs.Inline.{plain_chunks, plain_events, together}
+use Rattle.md_seam.specs.Leaves.{heading_lines, heading_text}
 use Rattle.md_seam.specs.Nested.{around}
-use Rattle.md_seam.specs.Rest.{trim_start}
-use Rattle.md_seam.specs.Spelled.{IsQuiet, Reading, Role, add_block, begun, read, role, spelled, text_to, unread}
-use Rattle.md_seam.specs.Texts.{trim_each}
-use Rattle.md_seam.specs.Tree.{Block, Blocks, Break, End, More, Paragraph}
-use Rattle.md_seam.proofs.BlocksLemmas.{read-break, read-paragraph}
-use Rattle.md_seam.proofs.SpelledLemmas.{Between, Quiet, QuietOrEnding, Roles, read-between, read-from, roles-append, text-inline, text_after}
-use Rattle.md_seam.proofs.TextsLemmas.{Both, EndsBefore, Ending, IsOfLines, LineFeed, NoEnding, Return, ending_bytes}
-use Rattle.markdown_blocks.specs.Rows.{BlankRow, BreakRow, Group, HeadingRow, Lines, Row, RowKind, Single, TextRow, chunks_of, ending_events, groups, groups_events, last_row, onto_groups, read_title, row_title, single_events_by}
-use Rattle.markdown_blocks.specs.Sections.{heading_block, sections, with_open}
-use Rattle.markdown_blocks.proofs.PlainRoles.{plain-roles}
-use Rattle.markdown_blocks.proofs.RowFacts as f
-use Rattle.markdown_blocks.proofs.SectionsLemmas.{sections_by, then_block-blocks, then_blocks, then_blocks-end}
-use Rattle.markdown_blocks.proofs.SpelledHeadings.{read-heading}
+use Rattle.md_seam.specs.Preamble.{rest_at}
+use Rattle.md_seam.specs.Rest.{Rest, run_len}
+use Rattle.md_seam.specs.Spelled.{Around, QuoteShape, Reading, add_block, left, read, role, spelled, unread}
+use Rattle.md_seam.specs.State.{At, InQuote, Kept, Leaf, NoLeaf, OpenParagraph, Path, Spot, Within, closed, kept, shut, spot, texts, then_leaf}
+use Rattle.md_seam.specs.Step.{spot_of, step, steps}
+use Rattle.md_seam.specs.Tree.{Block, Blocks, End, Heading, Paragraph}
+use Rattle.md_seam.proofs.BlocksLemmas.{read-break}
+use Rattle.md_seam.proofs.RestCells.{Cut}
+use Rattle.md_seam.proofs.SpelledLemmas.{Between, Quiet, QuietOrPrefix, Roles, read-between, read-from, read-prefixes, read-quiet}
+use Rattle.markdown_blocks.specs.Fronted.{Quoted, cut_tab, rest_from, rest_line}
+use Rattle.markdown_blocks.specs.Parsed.{IsBuilt}
+use Rattle.markdown_blocks.specs.Rows.{BlankRow, BreakRow, Group, HeadingRow, Lines, Row, RowKind, Single, TextRow, ending_events, goes_on, groups, groups_events, is_lazy, is_text, last_row, line_kind, onto_groups, onto_lines, quote_ends, read_lines, read_title, row_title, single_events_by, tail_events}
+use Rattle.markdown_blocks.proofs.FrontFacts.{Behind, Begins, Fronts, Goes}
 use Rattle.markdown_blocks.proofs.LineKinds.{heading-kind}
+use Rattle.markdown_blocks.proofs.LineSteps.{IsPlain, behind_path, depth-step, depth_of, fresh-found, going-step, goes_lazy, held_of, is_going, kept_to, lazy-opens, lazy-text, longer, new_line, new_path, plain-step, quoted-closes, quoted-lazy, quoted_at, rest_line-kind, rest_line-trim, shut-lines, spot_by, step-quoted}
+use Rattle.markdown_blocks.proofs.RowFacts as f
+use Rattle.markdown_blocks.proofs.SpelledHeadings.{Begun, Whole, WithTab, read-heading}
+use Rattle.markdown_blocks.proofs.SpelledParagraphs.{IsRead, prefix-roles, read-lines, read-more, read-one}
 
--- Endings.
+-- Readings of paths.
 
--- what stands behind an ending is looked at no further than its first byte
-ends-front : (ending : Ending) (size : ℕ) (rest : List ℕ) → EndsBefore ending rest → EndsBefore ending (take size rest)
-ends-front LineFeed size rest h = tt
-ends-front Both size rest h = tt
-ends-front Return zero rest h = refl
-ends-front Return (suc size) [] h = refl
-ends-front Return (suc size) (b ∷ rest) h = h
+abbrev quote_around : Blocks → Around
+quote_around before = record { shape = QuoteShape; before = before }
 
--- Blocks.
+-- the quotes of a path, the innermost first, inside of these
+abbrev outer_on : List Around → Path → List Around
+outer_on outer (At s) = outer
+outer_on outer (Within before container p) = outer_on (quote_around before ∷ outer) p
 
--- these events, read between blocks, add these blocks
-abbrev pub Spells : List ℕ → List Event → Blocks → Type 0
-Spells bytes events bs = (r : Reading) → r.text ≡ None → r.leaf ≡ None → read bytes r events ≡ record r { here = then_blocks r.here bs }
+abbrev reading_on : ParseOptions → List Around → Path → Reading
+reading_on options outer p = record { outer = outer_on outer p; here = shut options (spot p); leaf = None; text = None }
 
--- these events, read between blocks, add this block
-abbrev SpellsBlock : List ℕ → List Event → Block → Type 0
-SpellsBlock bytes events b = (r : Reading) → r.text ≡ None → r.leaf ≡ None → read bytes r events ≡ add_block b r
+-- what is read where this path is open; an open paragraph is read already
+abbrev pub reading : ParseOptions → Path → Reading
+reading options p = reading_on options [] p
 
-spells-none : (bytes : List ℕ) → Spells bytes [] End
-spells-none bytes r t l = ap (λ (x : Blocks). record r { here = x }) (sym (then_blocks-end r.here))
+-- where all of it is closed
+abbrev pub final : ParseOptions → Path → Reading
+final options p = record { outer = []; here = closed options p; leaf = None; text = None }
 
-spells-behind : (bytes : List ℕ) (xs ys : List Event) (bs : Blocks) → Roles Between xs → Spells bytes ys bs → Spells bytes (xs ++ ys) bs
-spells-behind bytes xs ys bs between spells r t l = read-from bytes r r xs ys (read-between bytes r xs t l between) ∙ spells r t l
+-- so many quotes end
+abbrev lefts : ℕ → Reading → Reading
+lefts zero r = r
+lefts (suc size) r = lefts size (left r.outer r)
 
-spells-block : (bytes : List ℕ) (xs ys : List Event) (b : Block) (bs : Blocks) → SpellsBlock bytes xs b → Spells bytes ys bs → Spells bytes (xs ++ ys) (More b bs)
-spells-block bytes xs ys b bs is spells r t l =
-    read-from bytes r (add_block b r) xs ys (is r t l) ∙ spells (add_block b r) t l ∙ ap (λ (x : Blocks). record r { here = x }) (then_block-blocks r.here b bs)
+lefts-one : (size : ℕ) (r : Reading) → lefts (suc size) r ≡ left (lefts size r).outer (lefts size r)
+lefts-one zero r = refl
+lefts-one (suc size) r = lefts-one size (left r.outer r)
 
--- a block, the ending of its last line, and what follows
-spells-ended : (bytes : List ℕ) (xs ys zs : List Event) (b : Block) (bs : Blocks) → SpellsBlock bytes xs b → Roles Between ys → Spells bytes zs bs → Spells bytes ((xs ++ ys) ++ zs) (More b bs)
-spells-ended bytes xs ys zs b bs is between spells =
-    subst (λ (l : List Event). Spells bytes l (More b bs)) (sym (append_assoc xs ys zs)) (spells-block bytes xs (ys ++ zs) b bs is (spells-behind bytes ys zs bs between spells))
+lefts-between : (size : ℕ) (r : Reading) → r.text ≡ None → r.leaf ≡ None → ((lefts size r).text ≡ None) × ((lefts size r).leaf ≡ None)
+lefts-between zero r t l = (t, l)
+lefts-between (suc size) r t l = let next = go r.outer in lefts-between size (left r.outer r) next.0 next.1
+  where
+    go : (outer : List Around) → ((left outer r).text ≡ None) × ((left outer r).leaf ≡ None)
+    go [] = (t, l)
+    go (x ∷ outer) = (t, l)
 
--- Roles.
+-- where all quotes of a path end, all of it is closed
+lefts-all : (options : ParseOptions) (outer : List Around) (p : Path) → IsPlain p → lefts (depth_of p) (reading_on options outer p) ≡ record { outer = outer; here = closed options p; leaf = None; text = None }
+lefts-all options outer (At s) plain = refl
+lefts-all options outer (Within before InQuote p) plain =
+    lefts-one (depth_of p) (reading_on options (quote_around before ∷ outer) p)
+    ∙ ap (λ (r : Reading). left r.outer r) (lefts-all options (quote_around before ∷ outer) p plain)
+lefts-all options outer (Within before container p) plain = absurd plain
+
+-- where some end, the others are kept
+lefts-kept : (options : ParseOptions) (n : ℕ) (outer : List Around) (p : Path) → IsPlain p → n ≤ depth_of p → lefts (depth_of p - n) (reading_on options outer p) ≡ reading_on options outer (kept_to options n p)
+lefts-kept options zero outer p plain le = let all : depth_of p - 0 ≡ depth_of p = omega arith in ap (λ (k : ℕ). lefts k (reading_on options outer p)) all ∙ lefts-all options outer p plain
+lefts-kept options (suc n) outer (At s) plain le = absurd (omega arith)
+lefts-kept options (suc n) outer (Within before InQuote p) plain le =
+    let less : suc (depth_of p) - suc n ≡ depth_of p - n = omega arith in
+    ap (λ (k : ℕ). lefts k (reading_on options (quote_around before ∷ outer) p)) less ∙ lefts-kept options n (quote_around before ∷ outer) p plain (omega arith)
+lefts-kept options (suc n) outer (Within before container p) plain le = absurd plain
+
+-- so many quotes begin
+abbrev enters : ℕ → Reading → Reading
+enters zero r = r
+enters (suc size) r = enters size (record r { outer = quote_around r.here ∷ r.outer; here = End })
+
+enters-between : (size : ℕ) (r : Reading) → r.text ≡ None → r.leaf ≡ None → ((enters size r).text ≡ None) × ((enters size r).leaf ≡ None)
+enters-between zero r t l = (t, l)
+enters-between (suc size) r t l = enters-between size (record r { outer = quote_around r.here ∷ r.outer; here = End }) t l
+
+-- so many new quotes with nothing in them
+abbrev new_none : ℕ → Blocks → Path
+new_none zero bs = At (spot_of bs)
+new_none (suc size) bs = Within bs InQuote (new_none size End)
+
+-- what is open behind the quotes of a line, where it does not go on a paragraph
+abbrev open_path : ParseOptions → Path → Quoted → Path
+open_path options p quotes = behind_path (kept_to options (depth_of p - quotes.closes) p) (new_none quotes.opens)
+
+reading-behind : (options : ParseOptions) (outer : List Around) (p : Path) (f : Blocks → Path) → reading_on options outer (behind_path p f) ≡ reading_on options (outer_on outer p) (f (spot p).here)
+reading-behind options outer (At s) f = refl
+reading-behind options outer (Within before container p) f = reading-behind options (quote_around before ∷ outer) p f
+
+kept-none : (options : ParseOptions) (n : ℕ) (p : Path) → (spot (kept_to options n p)).leaf ≡ NoLeaf
+kept-none options zero p = refl
+kept-none options (suc n) (At s) = refl
+kept-none options (suc n) (Within before container p) = kept-none options n p
+
+none-shut : (options : ParseOptions) (s : Spot) → s.leaf ≡ NoLeaf → shut options s ≡ s.here
+none-shut options s e = ap (then_leaf options s.here) e
+
+reading-none : (options : ParseOptions) (outer : List Around) (n : ℕ) (bs : Blocks) → reading_on options outer (new_none n bs) ≡ enters n (record { outer = outer; here = bs; leaf = None; text = None })
+reading-none options outer zero bs = refl
+reading-none options outer (suc n) bs = reading-none options (quote_around bs ∷ outer) n End
+
+-- behind the ends and the begins of quotes
+reading-open : (options : ParseOptions) (p : Path) (quotes : Quoted) → IsPlain p → quotes.closes ≤ depth_of p → reading options (open_path options p quotes) ≡ enters quotes.opens (lefts quotes.closes (reading options p))
+reading-open options p quotes plain le =
+    let n : ℕ = depth_of p - quotes.closes in
+    let k : Path = kept_to options n p in
+    let same : depth_of p - n ≡ quotes.closes = omega arith in
+    reading-behind options [] k (new_none quotes.opens)
+    ∙ reading-none options (outer_on [] k) quotes.opens (spot k).here
+    ∙ ap (λ (bs : Blocks). enters quotes.opens (record { outer = outer_on [] k; here = bs; leaf = None; text = None })) (sym (none-shut options (spot k) (kept-none options n p)))
+    ∙ ap (enters quotes.opens) (sym (lefts-kept options n [] p plain (omega arith)) ∙ ap (λ (m : ℕ). lefts m (reading options p)) same)
+
+-- Leaves.
+
+-- a path whose innermost container has something else in it
+abbrev with_spot : Path → (Blocks → Spot) → Path
+with_spot p s = behind_path p (λ bs. At (s bs))
+
+outer-with : (outer : List Around) (p : Path) (s : Blocks → Spot) → outer_on outer (with_spot p s) ≡ outer_on outer p
+outer-with outer (At x) s = refl
+outer-with outer (Within before container p) s = outer-with (quote_around before ∷ outer) p s
+
+spot-with : (p : Path) (s : Blocks → Spot) → spot (with_spot p s) ≡ s (spot p).here
+spot-with (At x) s = refl
+spot-with (Within before container p) s = spot-with p s
+
+behind-behind : (p : Path) (f : Blocks → Path) (s : Blocks → Spot) → with_spot (behind_path p f) s ≡ behind_path p (λ bs. with_spot (f bs) s)
+behind-behind (At x) f s = refl
+behind-behind (Within before container p) f s = ap (Within before container) (behind-behind p f s)
+
+behind-ap : (p : Path) (f g : Blocks → Path) → ((bs : Blocks) → f bs ≡ g bs) → behind_path p f ≡ behind_path p g
+behind-ap (At x) f g each = each x.here
+behind-ap (Within before container p) f g each = ap (Within before container) (behind-ap p f g each)
+
+new-with : (options : ParseOptions) (n : ℕ) (r : Rest) (bs : Blocks) → IsBuilt options → new_line options n r bs ≡ with_spot (new_none n bs) (λ cs. spot_by cs [] r (line_kind options r.bytes))
+new-with options zero r bs built = ap At (fresh-found options bs r built)
+new-with options (suc n) r bs built = ap (Within bs InQuote) (new-with options n r End built)
+
+-- what a line begins stands behind its quotes
+new-path : (options : ParseOptions) (p : Path) (quotes : Quoted) (kind : RowKind) → IsBuilt options → line_kind options (rest_line quotes.rest) ≡ kind →
+    new_path options p quotes ≡ with_spot (open_path options p quotes) (λ bs. spot_by bs [] quotes.rest kind)
+new-path options p quotes kind built e =
+    let k : Path = kept_to options (depth_of p - quotes.closes) p in
+    behind-ap k (new_line options quotes.opens quotes.rest) (λ bs. with_spot (new_none quotes.opens bs) (λ cs. spot_by cs [] quotes.rest kind))
+    (λ bs. new-with options quotes.opens quotes.rest bs built ∙ ap (λ (x : RowKind). with_spot (new_none quotes.opens bs) (λ cs. spot_by cs [] quotes.rest x)) (sym (rest_line-kind options quotes.rest) ∙ e))
+    ∙ sym (behind-behind k (new_none quotes.opens) (λ bs. spot_by bs [] quotes.rest kind))
+
+none-none : (n : ℕ) (bs : Blocks) → (spot (new_none n bs)).leaf ≡ NoLeaf
+none-none zero bs = refl
+none-none (suc n) bs = none-none n End
+
+behind-leaf : (p : Path) (f : Blocks → Path) → ((bs : Blocks) → (spot (f bs)).leaf ≡ NoLeaf) → (spot (behind_path p f)).leaf ≡ NoLeaf
+behind-leaf (At x) f each = each x.here
+behind-leaf (Within before container p) f each = behind-leaf p f each
+
+open-none : (options : ParseOptions) (p : Path) (quotes : Quoted) → (spot (open_path options p quotes)).leaf ≡ NoLeaf
+open-none options p quotes = behind-leaf (kept_to options (depth_of p - quotes.closes) p) (new_none quotes.opens) (none-none quotes.opens)
+
+-- a leaf where nothing is open
+reading-with : (options : ParseOptions) (p : Path) (s : Blocks → Spot) → (spot p).leaf ≡ NoLeaf → reading options (with_spot p s) ≡ record (reading options p) { here = shut options (s (reading options p).here) }
+reading-with options p s none =
+    ap (λ (outer : List Around). record { outer = outer; here = shut options (spot (with_spot p s)); leaf = None; text = None }) (outer-with [] p s)
+    ∙ ap (λ (x : Spot). record { outer = outer_on [] p; here = shut options x; leaf = None; text = None }) (spot-with p s)
+    ∙ ap (λ (bs : Blocks). record { outer = outer_on [] p; here = shut options (s bs); leaf = None; text = None }) (sym (none-shut options (spot p) none))
+
+-- a paragraph with more lines
+longer-with : (p : Path) (lines : List Kept) → (spot p).leaf ≡ NoLeaf → longer p lines ≡ with_spot p (λ bs. record { here = bs; leaf = OpenParagraph lines })
+longer-with (At s) lines none = ap (λ (x : Leaf). At (record { here = s.here; leaf = OpenParagraph (held_of x ++ lines) })) none
+longer-with (Within before container p) lines none = ap (Within before container) (longer-with p lines none)
+
+longer-longer : (p : Path) (xs ys : List Kept) → longer (longer p xs) ys ≡ longer p (xs ++ ys)
+longer-longer (At s) xs ys = ap (λ (l : List Kept). At (record { here = s.here; leaf = OpenParagraph l })) (append_assoc (held_of s.leaf) xs ys)
+longer-longer (Within before container p) xs ys = ap (Within before container) (longer-longer p xs ys)
+
+reading-longer : (options : ParseOptions) (p : Path) (k : Kept) (ks : List Kept) → IsBuilt options → (spot p).leaf ≡ NoLeaf → reading options (longer p (k ∷ ks)) ≡ add_block (Paragraph (texts (k ∷ ks))) (reading options p)
+reading-longer options p k ks built none =
+    ap (reading options) (longer-with p (k ∷ ks) none)
+    ∙ reading-with options p (λ bs. record { here = bs; leaf = OpenParagraph (k ∷ ks) }) none
+    ∙ ap (λ (bs : Blocks). record (reading options p) { here = bs }) (shut-lines options (reading options p).here (texts (k ∷ ks)) built.definition)
+
+-- Events.
+
+read-ends : (bytes : List ℕ) (size : ℕ) (p : Point) (r : Reading) → read bytes r (quote_ends size p) ≡ lefts size r
+read-ends bytes zero p r = refl
+read-ends bytes (suc size) p r = read-ends bytes size p (left r.outer r)
 
 ending-between : (name : Name) (row : Row) → Between (role name) → Roles Between (ending_events name row)
 ending-between name row h = go row.after
@@ -68,178 +210,353 @@ ending-between name row h = go row.after
     go None = tt
     go (Some q) = (h, (h, tt))
 
-quiet-between : (es : List Event) → Roles Quiet es → Roles Between es
-quiet-between [] h = tt
-quiet-between (e ∷ es) h = (go (role e.name) h.0, quiet-between es h.1)
-  where
-    go : (x : Role) → Quiet x → Between x
-    go IsQuiet h = tt
-    go _ h = absurd h
+read-tail : (bytes : List ℕ) (name : Name) (row : Row) (r : Reading) → Between (role name) → r.text ≡ None → r.leaf ≡ None → read bytes r (tail_events name row) ≡ lefts row.leaves r
+read-tail bytes name row r h t l =
+    let next = lefts-between row.leaves r t l in
+    read-from bytes r (lefts row.leaves r) (quote_ends row.leaves row.end) (ending_events name row) (read-ends bytes row.leaves row.end r)
+    ∙ read-between bytes (lefts row.leaves r) (ending_events name row) next.0 next.1 (ending-between name row h)
 
--- Paragraphs.
+read-fronts : (bytes : List ℕ) (opens : ℕ) (p q : Point) (es : List Event) (r : Reading) → Fronts bytes opens p q es → r.text ≡ None → read bytes r es ≡ enters opens r
+read-fronts bytes opens p q es r (Behind a) t = refl
+read-fronts bytes opens p q es r (Goes many a b c xs ys prefix more) t =
+    read-from bytes r r xs ys (read-prefixes bytes r xs t (prefix-roles QuietOrPrefix bytes a b xs prefix tt tt)) ∙ read-fronts bytes many b c ys r more t
+read-fronts bytes opens p q es r (Begins many a b c xs ys prefix more) t =
+    let s : Reading = record r { outer = quote_around r.here ∷ r.outer; here = End } in
+    read-from bytes s s xs ys (read-prefixes bytes s xs t (prefix-roles QuietOrPrefix bytes a b xs prefix tt tt)) ∙ read-fronts bytes many b c ys s more t
 
--- the text of the lines of a paragraph
-abbrev pub paragraph_text : List ℕ → Row → List Row → List ℕ
-paragraph_text bytes row rows = slice_range bytes row.first.index (last_row row rows).end.index
-
--- the events of a paragraph are read as its lines
-spells-paragraph : (bytes : List ℕ) (row : Row) (rows : List Row) (own : List (List ℕ)) → row.first.vs ≡ 0 → IsOfLines own (paragraph_text bytes row rows) →
-    SpellsBlock bytes (around n.Paragraph row.first (last_row row rows).end (plain_events bytes (record { kind = Text; chunks = chunks_of row rows }))) (Paragraph (trim_each own))
-spells-paragraph bytes row rows own whole is r t l =
-    let end : Point = (last_row row rows).end in
-    let inside : List Event = together (plain_chunks bytes (chunks_of row rows)) in
-    let text : text_to bytes end.index (text_after bytes (begun row.first) inside) ≡ paragraph_text bytes row rows =
-    ap (text_to bytes end.index) (text-inline bytes (begun row.first) inside (plain-roles QuietOrEnding bytes (chunks_of row rows) tt tt))
-    ∙ ap (λ (vs : ℕ). slice_range bytes (cond (vs == 0) row.first.index (row.first.index + 1)) end.index) whole in
-    read-paragraph bytes r row.first end inside own t (plain-roles Between bytes (chunks_of row rows) tt tt) (subst (IsOfLines own) (sym text) is)
-
--- a line, its ending, and further lines
-lines-more : (line : List ℕ) (own : List (List ℕ)) (text : List ℕ) (ending : Ending) (rest : List ℕ) → NoEnding line → EndsBefore ending rest → text ≡ line ++ ending_bytes ending ++ rest → IsOfLines own rest → IsOfLines (line ∷ own) text
-lines-more line [] text ending rest none before is own = absurd own
-lines-more line (next ∷ lines) text ending rest none before is own = (none, (ending, rest, before, is, own))
+-- the parts of the events of a line, and what follows
+read-parts : (bytes : List ℕ) (r a b c d : Reading) (xs ys zs more : List Event) → read bytes r xs ≡ a → read bytes a ys ≡ b → read bytes b zs ≡ c → read bytes c more ≡ d → read bytes r ((xs ++ ys ++ zs) ++ more) ≡ d
+read-parts bytes r a b c d xs ys zs more e f g h = read-from bytes r c (xs ++ ys ++ zs) more (read-from bytes r b (xs ++ ys) zs (read-from bytes r a xs ys e ∙ f) ∙ g) ∙ h
 
 -- Groups.
 
--- What groups are read as that begin with no paragraph: behind an open paragraph it ends.
-pub record MeansShut (options : ParseOptions) (bytes : List ℕ) (lines : List (List ℕ)) (gs : List Group) : Type 0 where
-  pub blocks : Blocks
-  pub spells : Spells bytes (groups_events bytes gs) blocks
-  pub means : (held : List (List ℕ)) → sections options held lines ≡ with_open held blocks
+-- these groups, where a path is open of whose quotes so many end first, are read to the end of a text
+abbrev Reads : ParseOptions → List ℕ → Path → ℕ → List Group → Path → Type 0
+Reads options bytes p closes gs last = read bytes (lefts closes (reading options p)) (groups_events bytes gs) ≡ final options last
 
--- What groups are read as that begin with the lines of a paragraph: behind an open paragraph they belong to it.
-pub record MeansOpen (options : ParseOptions) (bytes : List ℕ) (lines : List (List ℕ)) (row : Row) (rows : List Row) (gs : List Group) : Type 0 where
-  -- the lines of the paragraph
-  pub own : List (List ℕ)
-  pub blocks : Blocks
-  pub whole : row.first.vs ≡ 0
-  pub order : row.first.index ≤ (last_row row rows).end.index
-  pub are : IsOfLines own (paragraph_text bytes row rows)
-  pub spells : Spells bytes (groups_events bytes gs) blocks
-  pub means : (held : List (List ℕ)) → sections options held lines ≡ with_open (held ++ trim_each own) blocks
+-- the lines of a paragraph go on an open one or begin one, and what follows is read to the end of a text
+record ReadsLines (options : ParseOptions) (bytes : List ℕ) (p : Path) (row : Row) (rows : List Row) (gs : List Group) (last : Path) : Type 0 where
+  first : Kept
+  lines : List Kept
+  are : IsRead bytes row rows (first ∷ lines)
+  behind : read bytes (reading options (longer p (first ∷ lines))) (tail_events n.LineEnding (last_row row rows) ++ groups_events bytes gs) ≡ final options last
 
-abbrev pub Means : ParseOptions → List ℕ → List (List ℕ) → List Group → Type 0
-Means options bytes lines [] = MeansShut options bytes lines []
-Means options bytes lines (Single row ∷ gs) = MeansShut options bytes lines (Single row ∷ gs)
-Means options bytes lines (Lines row rows ∷ gs) = MeansOpen options bytes lines row rows gs
+record StartsLines (options : ParseOptions) (bytes : List ℕ) (p : Path) (row : Row) (gs : List Group) (last : Path) : Type 0 where
+  rows : List Row
+  below : List Group
+  groups_are : gs ≡ Lines row rows ∷ below
+  reads : ReadsLines options bytes p row rows below last
 
--- with no open paragraph, they are read as the blocks of their lines
-means-spell : (options : ParseOptions) (bytes : List ℕ) (lines : List (List ℕ)) (gs : List Group) → Means options bytes lines gs → Spells bytes (groups_events bytes gs) (sections options [] lines)
-means-spell options bytes lines [] m = subst (Spells bytes []) (sym (m.means [])) m.spells
-means-spell options bytes lines (Single row ∷ gs) m = subst (Spells bytes (groups_events bytes (Single row ∷ gs))) (sym (m.means [])) m.spells
-means-spell options bytes lines (Lines row rows ∷ gs) m =
-    subst (Spells bytes (groups_events bytes (Lines row rows ∷ gs))) (sym (m.means [] ∙ some m.own m.are))
-    (spells-ended bytes (around n.Paragraph row.first (last_row row rows).end (plain_events bytes (record { kind = Text; chunks = chunks_of row rows }))) (ending_events n.LineEnding (last_row row rows)) (groups_events bytes gs)
-    (Paragraph (trim_each m.own)) m.blocks (spells-paragraph bytes row rows m.own m.whole m.are) (ending-between n.LineEnding (last_row row rows) tt) m.spells)
-  where
-    some : (own : List (List ℕ)) → IsOfLines own (paragraph_text bytes row rows) → with_open (trim_each own) m.blocks ≡ More (Paragraph (trim_each own)) m.blocks
-    some [] is = absurd is
-    some (line ∷ own) is = refl
+-- by whether the first line goes on the open paragraph
+abbrev Means : ParseOptions → List ℕ → Path → Bool → Row → List Group → Path → Type 0
+Means options bytes p true row gs last = StartsLines options bytes p row gs last
+Means options bytes p false row gs last = Reads options bytes p row.closes gs last
 
--- the ending of a line leads to the paragraph that follows
-abbrev Leads : List ℕ → Row → List Group → Type 0
-Leads bytes row [] = Unit {0}
-Leads bytes row (Single next ∷ gs) = Unit {0}
-Leads bytes row (Lines next rows ∷ gs) = f.IsEnding bytes row.end next.first
+-- Behind a line: what follows does not go on a paragraph,
+record Parts (options : ParseOptions) (bytes : List ℕ) (p : Path) (row : Row) (gs : List Group) (last : Path) : Type 0 where
+  apart : row.kind ≡ TextRow → onto_groups row TextRow gs ≡ Lines row [] ∷ gs
+  reads : Reads options bytes p row.leaves gs last
 
-leads-onto : (bytes : List ℕ) (row below : Row) (kind : RowKind) (gs : List Group) (q : Point) → below.first ≡ q → f.IsEnding bytes row.end q → Leads bytes row (onto_groups below kind gs)
-leads-onto bytes row below BlankRow gs q e ending = tt
-leads-onto bytes row below HeadingRow gs q e ending = tt
-leads-onto bytes row below BreakRow gs q e ending = tt
-leads-onto bytes row below TextRow [] q e ending = subst (f.IsEnding bytes row.end) (sym e) ending
-leads-onto bytes row below TextRow (Single next ∷ gs) q e ending = subst (f.IsEnding bytes row.end) (sym e) ending
-leads-onto bytes row below TextRow (Lines next rows ∷ gs) q e ending = subst (f.IsEnding bytes row.end) (sym e) ending
+-- or it does
+record Joins (options : ParseOptions) (bytes : List ℕ) (p : Path) (row : Row) (gs : List Group) (last : Path) : Type 0 where
+  text : is_text row.kind ≡ true
+  next : Row
+  starts : StartsLines options bytes p next gs last
+  leaves : row.leaves ≡ 0
+  opens : next.opens ≡ 0
+  after : Point
+  ending : f.IsEnding bytes row.end after
+  fronts : Fronts bytes 0 after next.first next.front
 
--- A blank line ends an open paragraph.
-means-blank : (options : ParseOptions) (bytes line : List ℕ) (row : Row) (lines : List (List ℕ)) (gs : List Group) → f.IsRow options bytes line row → row.kind ≡ BlankRow → Means options bytes lines gs →
-    MeansShut options bytes (line ∷ lines) (Single row ∷ gs)
-means-blank options bytes line row lines gs is e m = record {
-  blocks = sections options [] lines;
-  spells =
-      subst (λ (k : RowKind). Spells bytes (single_events_by bytes k row ++ groups_events bytes gs) (sections options [] lines)) (sym e)
-      (spells-behind bytes (row.inside ++ ending_events n.BlankLineEnding row) (groups_events bytes gs) (sections options [] lines)
-      (roles-append Between row.inside (ending_events n.BlankLineEnding row) (quiet-between row.inside (is.inside (λ (h : row.kind ≡ HeadingRow). let bad : BlankRow ≡ HeadingRow = sym e ∙ h in cc)).quiet) (ending-between n.BlankLineEnding row tt))
-      (means-spell options bytes lines gs m));
-  means = λ held. ap (sections_by options held line lines) (sym is.kind ∙ e);
+abbrev Follows : ParseOptions → List ℕ → Path → Row → List Group → Path → Type 0
+Follows options bytes p row gs last = Parts options bytes p row gs last ⊎ Joins options bytes p row gs last
+
+onto-joined : (row next : Row) (rows : List Row) (gs : List Group) → row.leaves ≡ 0 → next.opens ≡ 0 → onto_lines row next rows gs ≡ Lines row (next ∷ rows) ∷ gs
+onto-joined row next rows gs e h =
+    let x : (row.leaves == 0) ≡ true = grind (arith, nat_tests) in
+    let y : (next.opens == 0) ≡ true = grind (arith, nat_tests) in
+    ap (λ (t : Bool). cond (t && (next.opens == 0)) (Lines row (next ∷ rows) ∷ gs) (Lines row [] ∷ Lines next rows ∷ gs)) x
+    ∙ ap (λ (t : Bool). cond t (Lines row (next ∷ rows) ∷ gs) (Lines row [] ∷ Lines next rows ∷ gs)) y
+
+-- a line of text, and what follows
+starts-lines : (options : ParseOptions) (bytes : List ℕ) (p : Path) (r : Rest) (row : Row) (gs : List Group) (last : Path) → f.IsRow options bytes (rest_line r) row → Cut r.spaces row.first → row.kind ≡ TextRow →
+    Follows options bytes (longer p (kept r ∷ [])) row gs last → StartsLines options bytes p row (onto_groups row TextRow gs) last
+starts-lines options bytes p r row gs last is cut text (inl parts) = record {
+  rows = [];
+  below = gs;
+  groups_are = parts.apart text;
+  reads = record {
+    first = kept r;
+    lines = [];
+    are = read-one options bytes r row is cut text;
+    behind =
+        let s : Reading = reading options (longer p (kept r ∷ [])) in
+        read-from bytes s (lefts row.leaves s) (tail_events n.LineEnding row) (groups_events bytes gs) (read-tail bytes n.LineEnding row s tt refl refl) ∙ parts.reads;
+  };
 }
-
--- A heading ends an open paragraph, and is a block.
-means-heading : (options : ParseOptions) (bytes line : List ℕ) (row : Row) (lines : List (List ℕ)) (gs : List Group) → f.IsRow options bytes line row → row.kind ≡ HeadingRow → Means options bytes lines gs →
-    MeansShut options bytes (line ∷ lines) (Single row ∷ gs)
-means-heading options bytes line row lines gs is e m = record {
-  blocks = More (heading_block line) (sections options [] lines);
-  spells =
-      subst (λ (k : RowKind). Spells bytes (single_events_by bytes k row ++ groups_events bytes gs) (More (heading_block line) (sections options [] lines))) (sym e)
-      (spells-ended bytes (around n.HeadingAtx row.first row.end (read_title bytes (row_title bytes row))) (ending_events n.LineEnding row) (groups_events bytes gs) (heading_block line) (sections options [] lines)
-      (λ r t l. read-heading options bytes line row r is (heading-kind options line (sym is.kind ∙ e)) t l) (ending-between n.LineEnding row tt) (means-spell options bytes lines gs m));
-  means = λ held. ap (sections_by options held line lines) (sym is.kind ∙ e);
-}
-
--- A break ends an open paragraph, and is a block.
-means-break : (options : ParseOptions) (bytes line : List ℕ) (row : Row) (lines : List (List ℕ)) (gs : List Group) → f.IsRow options bytes line row → row.kind ≡ BreakRow → Means options bytes lines gs →
-    MeansShut options bytes (line ∷ lines) (Single row ∷ gs)
-means-break options bytes line row lines gs is e m = record {
-  blocks = More Break (sections options [] lines);
-  spells =
-      subst (λ (k : RowKind). Spells bytes (single_events_by bytes k row ++ groups_events bytes gs) (More Break (sections options [] lines))) (sym e)
-      (spells-ended bytes (around n.ThematicBreak row.first row.end row.inside) (ending_events n.LineEnding row) (groups_events bytes gs) Break (sections options [] lines)
-      (λ r t l. read-break bytes r row.first row.end row.inside l (is.inside (λ (h : row.kind ≡ HeadingRow). let bad : BreakRow ≡ HeadingRow = sym e ∙ h in cc)).quiet) (ending-between n.LineEnding row tt) (means-spell options bytes lines gs m));
-  means = λ held. ap (sections_by options held line lines) (sym is.kind ∙ e);
-}
-
--- A line of text begins a paragraph.
-means-first : (options : ParseOptions) (bytes line : List ℕ) (row : Row) (lines : List (List ℕ)) (gs : List Group) → f.IsRow options bytes line row → row.kind ≡ TextRow → MeansShut options bytes lines gs →
-    MeansOpen options bytes (line ∷ lines) row [] gs
-means-first options bytes line row lines gs is e m = record {
-  own = line ∷ [];
-  blocks = m.blocks;
-  whole = is.first_whole;
-  order = omega (arith, is.size);
-  are = (is.no_ending, is.text);
-  spells = m.spells;
-  means = λ held. ap (sections_by options held line lines) (sym is.kind ∙ e) ∙ m.means (held ++ trim_start line ∷ []);
-}
-
--- A line of text in front of a paragraph is its first.
-means-next : (options : ParseOptions) (bytes line : List ℕ) (row : Row) (lines : List (List ℕ)) (next : Row) (rows : List Row) (gs : List Group) → f.IsRow options bytes line row → row.kind ≡ TextRow →
-    f.IsEnding bytes row.end next.first → MeansOpen options bytes lines next rows gs → MeansOpen options bytes (line ∷ lines) row (next ∷ rows) gs
-means-next options bytes line row lines next rows gs is e ending m =
-    let last : ℕ = (last_row next rows).end.index in
-    let rest : List ℕ = paragraph_text bytes next rows in
-    let size : row.end.index ≡ row.first.index + length line = is.size in
-    let more : next.first.index ≡ row.end.index + length (ending_bytes ending.ending) = ending.size in
-    let order : next.first.index ≤ last = m.order in
-    let text : slice_range bytes row.first.index last ≡ line ++ ending_bytes ending.ending ++ rest =
-    f.slice-split bytes row.first.index next.first.index last (omega arith) order
-    ∙ ap (λ (l : List ℕ). l ++ rest) (f.line-text options bytes line row next.first is ending) in
+starts-lines options bytes p r row gs last is cut text (inr joins) =
+    let below = joins.starts in
+    let reads = below.reads in
     record {
-      own = line ∷ m.own;
-      blocks = m.blocks;
-      whole = is.first_whole;
-      order = omega arith;
-      are = lines-more line m.own (slice_range bytes row.first.index last) ending.ending rest is.no_ending (ends-front ending.ending (last - next.first.index) (drop next.first.index bytes) ending.before) text m.are;
-      spells = m.spells;
-      means = λ held. ap (sections_by options held line lines) (sym is.kind ∙ e) ∙ m.means (held ++ trim_start line ∷ []) ∙ ap (λ (l : List (List ℕ)). with_open l m.blocks) (append_assoc held (trim_start line ∷ []) (trim_each m.own));
+      rows = joins.next ∷ below.rows;
+      below = below.below;
+      groups_are = ap (onto_groups row TextRow) below.groups_are ∙ onto-joined row joins.next below.rows below.below joins.leaves joins.opens;
+      reads = record {
+        first = kept r;
+        lines = reads.first ∷ reads.lines;
+        are = read-more options bytes r row joins.next below.rows joins.after (reads.first ∷ reads.lines) is cut text joins.ending joins.fronts reads.are;
+        behind = subst (λ (x : Path). read bytes (reading options x) (tail_events n.LineEnding (last_row joins.next below.rows) ++ groups_events bytes below.below) ≡ final options last) (longer-longer p (kept r ∷ []) (reads.first ∷ reads.lines)) reads.behind;
+      };
     }
 
--- a line in front of others
-means-row : (options : ParseOptions) (bytes line : List ℕ) (row : Row) (lines : List (List ℕ)) (gs : List Group) → f.IsRow options bytes line row → Means options bytes lines gs → Leads bytes row gs →
-    (kind : RowKind) → row.kind ≡ kind → Means options bytes (line ∷ lines) (onto_groups row kind gs)
-means-row options bytes line row lines gs is m leads BlankRow e = means-blank options bytes line row lines gs is e m
-means-row options bytes line row lines gs is m leads HeadingRow e = means-heading options bytes line row lines gs is e m
-means-row options bytes line row lines gs is m leads BreakRow e = means-break options bytes line row lines gs is e m
-means-row options bytes line row lines [] is m leads TextRow e = means-first options bytes line row lines [] is e m
-means-row options bytes line row lines (Single next ∷ gs) is m leads TextRow e = means-first options bytes line row lines (Single next ∷ gs) is e m
-means-row options bytes line row lines (Lines next rows ∷ gs) is m leads TextRow e = means-next options bytes line row lines next rows gs is e leads m
+-- Lines.
 
--- The groups of the lines of a text are read as its blocks.
-pub rows-mean : (options : ParseOptions) (bytes : List ℕ) (p : Point) (lines : List (List ℕ)) (rows : List Row) → f.AreRows options bytes p lines rows → Means options bytes lines (groups rows)
-rows-mean options bytes p (line ∷ []) (row ∷ []) are = means-row options bytes line row [] [] are.0 (record { blocks = End; spells = spells-none bytes; means = λ held. refl }) tt row.kind refl
-rows-mean options bytes p (line ∷ next ∷ lines) (row ∷ below ∷ rows) are =
-    means-row options bytes line row (next ∷ lines) (groups (below ∷ rows)) are.0 (rows-mean options bytes are.2 (next ∷ lines) (below ∷ rows) are.5)
-    (leads-onto bytes row below below.kind (groups rows) are.2 (f.first-is options bytes are.2 (next ∷ lines) below rows are.5) are.4) row.kind refl
-rows-mean options bytes p lines rows are = absurd are
+-- a line that is no text
+single-reads : (options : ParseOptions) (bytes : List ℕ) (p : Path) (quotes : Quoted) (row : Row) (gs : List Group) (last new : Path) (name : Name) (leaf : List Event) → IsPlain p → quotes.closes ≤ depth_of p →
+    row.closes ≡ quotes.closes → row.opens ≡ quotes.opens → (a : Point) → Fronts bytes row.opens a row.first row.front →
+    ((e : Reading) → e ≡ reading options (open_path options p quotes) → read bytes e leaf ≡ reading options new) → Between (role name) → Reads options bytes new row.leaves gs last →
+    read bytes (lefts row.closes (reading options p)) ((row.front ++ leaf ++ tail_events name row) ++ groups_events bytes gs) ≡ final options last
+single-reads options bytes p quotes row gs last new name leaf plain le closes opens a fronts found between reads =
+    let start : Reading = lefts row.closes (reading options p) in
+    let begin : Reading = enters row.opens start in
+    let text = lefts-between row.closes (reading options p) refl refl in
+    let same : begin ≡ reading options (open_path options p quotes) =
+    ap (λ (k : ℕ). enters k start) opens ∙ ap (λ (k : ℕ). enters quotes.opens (lefts k (reading options p))) closes ∙ sym (reading-open options p quotes plain le) in
+    read-parts bytes start begin (reading options new) (lefts row.leaves (reading options new)) (final options last) row.front leaf (tail_events name row) (groups_events bytes gs)
+    (read-fronts bytes row.opens a row.first row.front start fronts text.0) (found begin same) (read-tail bytes name row (reading options new) between refl refl) reads
 
--- The events of a text are read as its blocks, line by line.
-pub spelled-rows : (options : ParseOptions) (bytes : List ℕ) (p : Point) (lines : List (List ℕ)) (rows : List Row) → f.AreRows options bytes p lines rows → spelled (groups_events bytes (groups rows)) bytes ≡ sections options [] lines
+-- the heading behind the indent of a line
+abbrev heading_with : List ℕ → Block
+heading_with text = let depth = run_len 35 text in Heading depth (heading_lines (heading_text (drop depth text)))
+
+text-kind : (kind : RowKind) → is_text kind ≡ true → kind ≡ TextRow
+text-kind TextRow e = refl
+text-kind BlankRow e = cc
+text-kind HeadingRow e = cc
+text-kind BreakRow e = cc
+
+-- a line begins a byte, or with a tab
+cut-begun : (r : Rest) (p : Point) → Cut r.spaces p → Begun (rest_line r) p
+cut-begun r p cut = go r.spaces cut
+  where
+    go : (k : ℕ) → Cut k p → Begun (cut_tab k ++ r.bytes) p
+    go zero whole = Whole whole
+    go (suc k) within = WithTab r.bytes refl
+
+no-joins : (options : ParseOptions) (bytes : List ℕ) (p : Path) (row : Row) (gs : List Group) (last : Path) → is_text row.kind ≡ false → Follows options bytes p row gs last → Reads options bytes p row.leaves gs last
+no-joins options bytes p row gs last none (inl parts) = parts.reads
+no-joins options bytes p row gs last none (inr joins) = let text = joins.text in cc
+
+-- One line, and what follows.
+row-means : (options : ParseOptions) (bytes : List ℕ) (p : Path) (a : Point) (line : List ℕ) (row : Row) (gs : List Group) (last : Path) → IsBuilt options → IsPlain p →
+    f.IsLine options bytes (depth_of p) (is_going p) a line row → Follows options bytes (step options p (rest_from a line)) row gs last →
+    Means options bytes p (is_lazy (is_going p) row.opens row.kind) row (onto_groups row row.kind gs) last
+row-means options bytes p a line row gs last built plain is follows = go (goes_lazy options p quotes) refl
+  where
+    quotes : Quoted
+    quotes = quoted_at options p (rest_from a line)
+
+    kind-is : row.kind ≡ line_kind options (rest_line quotes.rest)
+    kind-is = is.is.kind
+
+    stepped : (x : Bool) → goes_lazy options p quotes ≡ x → step options p (rest_from a line) ≡ cond x (longer p (kept quotes.rest ∷ [])) (new_path options p quotes)
+    stepped x e = step-quoted options p (rest_from a line) built plain ∙ ap (λ (t : Bool). cond t (longer p (kept quotes.rest ∷ [])) (new_path options p quotes)) e
+
+    same : is_lazy (is_going p) row.opens row.kind ≡ goes_lazy options p quotes
+    same = ap (λ (k : ℕ). is_lazy (is_going p) k row.kind) is.opens ∙ ap (is_lazy (is_going p) quotes.opens) kind-is
+
+    le : quotes.closes ≤ depth_of p
+    le = quoted-closes options p (rest_from a line)
+
+    o : Path
+    o = open_path options p quotes
+
+    -- what the line leads to, by its kind
+    to : RowKind → Path
+    to kind = with_spot o (λ bs. spot_by bs [] quotes.rest kind)
+
+    none : (spot o).leaf ≡ NoLeaf
+    none = open-none options p quotes
+
+    inside : row.kind ≢ HeadingRow → Roles Quiet row.inside
+    inside h = (is.is.inside h).quiet
+
+    by : (kind : RowKind) → row.kind ≡ kind → Follows options bytes (to kind) row gs last → Reads options bytes p row.closes (onto_groups row kind gs) last
+    by BlankRow e further = subst (λ (k : RowKind). read bytes (lefts row.closes (reading options p)) (single_events_by bytes k row ++ groups_events bytes gs) ≡ final options last) (sym e)
+        (single-reads options bytes p quotes row gs last (to BlankRow) n.BlankLineEnding row.inside plain le is.closes is.opens a is.front
+        (λ s same. read-quiet bytes s row.inside (inside (λ (h : row.kind ≡ HeadingRow). let bad : BlankRow ≡ HeadingRow = sym e ∙ h in cc)) ∙ same ∙ sym (reading-with options o (λ bs. spot_by bs [] quotes.rest BlankRow) none))
+        tt (no-joins options bytes (to BlankRow) row gs last (ap is_text e) further))
+    by HeadingRow e further = subst (λ (k : RowKind). read bytes (lefts row.closes (reading options p)) (single_events_by bytes k row ++ groups_events bytes gs) ≡ final options last) (sym e)
+        (single-reads options bytes p quotes row gs last (to HeadingRow) n.LineEnding (around n.HeadingAtx row.first row.end (read_title bytes (row_title bytes row))) plain le is.closes is.opens a is.front
+        (λ s same.
+        ap (λ (x : Reading). read bytes x (around n.HeadingAtx row.first row.end (read_title bytes (row_title bytes row)))) same
+        ∙ read-heading options bytes (rest_line quotes.rest) row (reading options o) is.is (cut-begun quotes.rest row.first is.cut) (heading-kind options (rest_line quotes.rest) (sym kind-is ∙ e)) refl refl
+        ∙ ap (λ (l : List ℕ). add_block (heading_with l) (reading options o)) (rest_line-trim quotes.rest)
+        ∙ sym (reading-with options o (λ bs. spot_by bs [] quotes.rest HeadingRow) none))
+        tt (no-joins options bytes (to HeadingRow) row gs last (ap is_text e) further))
+    by BreakRow e further = subst (λ (k : RowKind). read bytes (lefts row.closes (reading options p)) (single_events_by bytes k row ++ groups_events bytes gs) ≡ final options last) (sym e)
+        (single-reads options bytes p quotes row gs last (to BreakRow) n.LineEnding (around n.ThematicBreak row.first row.end row.inside) plain le is.closes is.opens a is.front
+        (λ s same.
+        ap (λ (x : Reading). read bytes x (around n.ThematicBreak row.first row.end row.inside)) same
+        ∙ read-break bytes (reading options o) row.first row.end row.inside refl (inside (λ (h : row.kind ≡ HeadingRow). let bad : BreakRow ≡ HeadingRow = sym e ∙ h in cc))
+        ∙ sym (reading-with options o (λ bs. spot_by bs [] quotes.rest BreakRow) none))
+        tt (no-joins options bytes (to BreakRow) row gs last (ap is_text e) further))
+    by TextRow e further =
+        let begin : Reading = enters row.opens (lefts row.closes (reading options p)) in
+        let start : Reading = lefts row.closes (reading options p) in
+        let text = lefts-between row.closes (reading options p) refl refl in
+        let same : begin ≡ reading options o =
+        ap (λ (k : ℕ). enters k start) is.opens ∙ ap (λ (k : ℕ). enters quotes.opens (lefts k (reading options p))) is.closes ∙ sym (reading-open options p quotes plain le) in
+        let starts = starts-lines options bytes o quotes.rest row gs last is.is is.cut e (subst (λ (x : Path). Follows options bytes x row gs last) (sym (longer-with o (kept quotes.rest ∷ []) none)) further) in
+        let reads = starts.reads in
+        let whole : List Event = around n.Paragraph row.first (last_row row starts.rows).end (read_lines bytes row starts.rows) in
+        let tail : List Event = tail_events n.LineEnding (last_row row starts.rows) in
+        let new : Reading = reading options (longer o (reads.first ∷ reads.lines)) in
+        ap (λ (l : List Group). read bytes start (groups_events bytes l)) starts.groups_are
+        ∙ ap (read bytes start) (append_assoc (row.front ++ whole) tail (groups_events bytes starts.below))
+        ∙ read-from bytes start new (row.front ++ whole) (tail ++ groups_events bytes starts.below)
+        (read-from bytes start begin row.front whole (read-fronts bytes row.opens a row.first row.front start is.front text.0)
+        ∙ ap (λ (x : Reading). read bytes x whole) same
+        ∙ read-lines bytes row starts.rows (reads.first ∷ reads.lines) (reading options o) reads.are refl
+        ∙ sym (reading-longer options o reads.first reads.lines built none))
+        ∙ reads.behind
+
+    go : (x : Bool) → goes_lazy options p quotes ≡ x → Means options bytes p (is_lazy (is_going p) row.opens row.kind) row (onto_groups row row.kind gs) last
+    go true e =
+        let text : is_text row.kind ≡ true = ap is_text kind-is ∙ lazy-text (is_going p) quotes.opens (line_kind options (rest_line quotes.rest)) e in
+        let is_row : row.kind ≡ TextRow = text-kind row.kind text in
+        subst (λ (x : Bool). Means options bytes p x row (onto_groups row row.kind gs) last) (sym (same ∙ e))
+        (subst (λ (k : RowKind). StartsLines options bytes p row (onto_groups row k gs) last) (sym is_row)
+        (starts-lines options bytes p quotes.rest row gs last is.is is.cut is_row (subst (λ (x : Path). Follows options bytes x row gs last) (stepped true e) follows)))
+    go false e =
+        subst (λ (x : Bool). Means options bytes p x row (onto_groups row row.kind gs) last) (sym (same ∙ e))
+        (by row.kind refl (subst (λ (x : Path). Follows options bytes x row gs last) (stepped false e ∙ new-path options p quotes row.kind built (sym kind-is)) follows))
+
+-- Lines, one after another.
+
+-- what is left of each line, of which the first begins at this point
+abbrev pub rests_from : Point → List (List ℕ) → List Rest
+rests_from p [] = []
+rests_from p (line ∷ lines) = rest_from p line ∷ map (rest_at 0) lines
+
+-- behind an ending each begins at the first column
+rests-behind : (p : Point) (lines : List (List ℕ)) → p.column ≡ 1 → rests_from p lines ≡ map (rest_at 0) lines
+rests-behind p [] e = refl
+rests-behind p (line ∷ lines) e = let first : p.column - 1 ≡ 0 = omega arith in ap (λ (k : ℕ). rest_at k line ∷ map (rest_at 0) lines) first
+
+abbrev First : ParseOptions → List ℕ → ℕ → Bool → Point → List (List ℕ) → List Row → Type 0
+First options bytes depth going p (line ∷ lines) (row ∷ rows) = f.IsLine options bytes depth going p line row
+First options bytes depth going p _ _ = ⊥
+
+first-line : (options : ParseOptions) (bytes : List ℕ) (depth : ℕ) (going : Bool) (p : Point) (lines : List (List ℕ)) (rows : List Row) → f.AreRows options bytes depth going p lines rows → First options bytes depth going p lines rows
+first-line options bytes depth going p (line ∷ []) (row ∷ []) are = are.0
+first-line options bytes depth going p (line ∷ next ∷ lines) (row ∷ below ∷ rows) are = are.0
+first-line options bytes depth going p lines rows are = absurd are
+
+-- where a line of text follows that goes on no paragraph, a new one begins
+not-joined : (row below : Row) (gs : List Group) → is_lazy true below.opens below.kind ≡ false → onto_groups row TextRow (onto_groups below below.kind gs) ≡ Lines row [] ∷ onto_groups below below.kind gs
+not-joined row below gs lazy = go below.kind lazy
+  where
+    by : (rows : List Row) (more : List Group) → (below.opens == 0) ≡ false → onto_lines row below rows more ≡ Lines row [] ∷ Lines below rows ∷ more
+    by rows more e = go (row.leaves == 0)
+      where
+        go : (x : Bool) → cond (x && (below.opens == 0)) (Lines row (below ∷ rows) ∷ more) (Lines row [] ∷ Lines below rows ∷ more) ≡ Lines row [] ∷ Lines below rows ∷ more
+        go true = ap (λ (t : Bool). cond t (Lines row (below ∷ rows) ∷ more) (Lines row [] ∷ Lines below rows ∷ more)) e
+        go false = refl
+
+    opens : (x : Bool) → (x && true) ≡ false → x ≡ false
+    opens true e = cc
+    opens false e = refl
+
+    onto : (gs : List Group) → (below.opens == 0) ≡ false → onto_groups row TextRow (onto_groups below TextRow gs) ≡ Lines row [] ∷ onto_groups below TextRow gs
+    onto [] e = by [] [] e
+    onto (Single next ∷ more) e = by [] (Single next ∷ more) e
+    onto (Lines next rows ∷ more) e = join (goes_on below next)
+      where
+        join : (x : Bool) → onto_groups row TextRow (cond x (Lines below (next ∷ rows) ∷ more) (Lines below [] ∷ Lines next rows ∷ more)) ≡ Lines row [] ∷ cond x (Lines below (next ∷ rows) ∷ more) (Lines below [] ∷ Lines next rows ∷ more)
+        join true = by (next ∷ rows) more e
+        join false = by [] (Lines next rows ∷ more) e
+
+    go : (kind : RowKind) → is_lazy true below.opens kind ≡ false → onto_groups row TextRow (onto_groups below kind gs) ≡ Lines row [] ∷ onto_groups below kind gs
+    go BlankRow e = refl
+    go HeadingRow e = refl
+    go BreakRow e = refl
+    go TextRow e = onto gs (opens (below.opens == 0) e)
+
+-- what follows a line, by what is read of the lines below
+follows-below : (options : ParseOptions) (bytes : List ℕ) (p : Path) (row below : Row) (gs : List Group) (q : Point) (line : List ℕ) (last : Path) → IsBuilt options → IsPlain p → is_going p ≡ is_text row.kind →
+    row.leaves ≡ below.closes → f.IsEnding bytes row.end q → f.IsLine options bytes (depth_of p) (is_going p) q line below →
+    (x : Bool) → is_lazy (is_going p) below.opens below.kind ≡ x → Means options bytes p x below (onto_groups below below.kind gs) last → Follows options bytes p row (onto_groups below below.kind gs) last
+follows-below options bytes p row below gs q line last built plain going leaves ending is true lazy means =
+    let quotes : Quoted = quoted_at options p (rest_from q line) in
+    let goes : goes_lazy options p quotes ≡ true = ap (is_lazy (is_going p) quotes.opens) (sym is.is.kind) ∙ ap (λ (k : ℕ). is_lazy (is_going p) k below.kind) (sym is.opens) ∙ lazy in
+    let none : below.opens ≡ 0 = lazy-opens (is_going p) below.opens below.kind lazy in
+    inr (record {
+      text = sym going ∙ lazy-going (is_going p) below.opens below.kind lazy;
+      next = below;
+      starts = means;
+      leaves = leaves ∙ is.closes ∙ quoted-lazy options p (rest_from q line) goes;
+      opens = none;
+      after = q;
+      ending = ending;
+      fronts = subst (λ (k : ℕ). Fronts bytes k q below.first below.front) none is.front;
+    })
+  where
+    lazy-going : (going : Bool) (many : ℕ) (kind : RowKind) → is_lazy going many kind ≡ true → going ≡ true
+    lazy-going true many kind e = refl
+    lazy-going false many kind e = cc
+follows-below options bytes p row below gs q line last built plain going leaves ending is false lazy means = inl (record {
+  apart = λ text. not-joined row below gs (ap (λ (x : Bool). is_lazy x below.opens below.kind) (sym (going ∙ ap is_text text)) ∙ lazy);
+  reads = ap (λ (k : ℕ). read bytes (lefts k (reading options p)) (groups_events bytes (onto_groups below below.kind gs))) leaves ∙ means;
+})
+
+-- what the first line is read as
+abbrev RowsMean : ParseOptions → List ℕ → Path → Path → List Row → Type 0
+RowsMean options bytes p last [] = ⊥
+RowsMean options bytes p last (row ∷ rows) = Means options bytes p (is_lazy (is_going p) row.opens row.kind) row (groups (row ∷ rows)) last
+
+-- The groups of the lines of a text are read as what its lines do.
+rows-mean : (options : ParseOptions) (bytes : List ℕ) (a : Path) (p : Point) (lines : List (List ℕ)) (rows : List Row) → IsBuilt options → IsPlain a →
+    f.AreRows options bytes (depth_of a) (is_going a) p lines rows → RowsMean options bytes a (steps options a (rests_from p lines)) rows
+rows-mean options bytes a p (line ∷ []) (row ∷ []) built plain are =
+    let b : Path = step options a (rest_from p line) in
+    let all : row.leaves ≡ depth_of b = are.1 ∙ sym (depth-step options a (rest_from p line) built plain) in
+    row-means options bytes a p line row [] b built plain are.0
+    (inl (record { apart = λ text. refl; reads = ap (λ (k : ℕ). lefts k (reading options b)) all ∙ lefts-all options [] b (plain-step options a (rest_from p line) built plain) }))
+rows-mean options bytes a p (line ∷ next ∷ lines) (row ∷ below ∷ rows) built plain are =
+    let r : Rest = rest_from p line in
+    let b : Path = step options a r in
+    let q : Point = are.2 in
+    let depth : depth_of b ≡ f.depth_behind options (depth_of a) (is_going a) p line = depth-step options a r built plain in
+    let going : is_going b ≡ is_text row.kind = going-step options a r built plain ∙ ap is_text (sym are.0.is.kind) in
+    let plain_b : IsPlain b = plain-step options a r built plain in
+    let are_b : f.AreRows options bytes (depth_of b) (is_going b) q (next ∷ lines) (below ∷ rows) =
+    subst (λ (d : ℕ). f.AreRows options bytes d (is_going b) q (next ∷ lines) (below ∷ rows)) (sym depth)
+    (subst (λ (g : Bool). f.AreRows options bytes (f.depth_behind options (depth_of a) (is_going a) p line) g q (next ∷ lines) (below ∷ rows)) (sym going) are.5) in
+    let further : RowsMean options bytes b (steps options b (rests_from q (next ∷ lines))) (below ∷ rows) = rows-mean options bytes b q (next ∷ lines) (below ∷ rows) built plain_b are_b in
+    let last : Path = steps options b (map (rest_at 0) (next ∷ lines)) in
+    let same : steps options b (rests_from q (next ∷ lines)) ≡ last = ap (steps options b) (rests-behind q (next ∷ lines) are.4.column) in
+    row-means options bytes a p line row (groups (below ∷ rows)) last built plain are.0
+    (follows-below options bytes b row below (groups rows) q next last built plain_b going are.1 are.4 (first-line options bytes (depth_of b) (is_going b) q (next ∷ lines) (below ∷ rows) are_b)
+    (is_lazy (is_going b) below.opens below.kind) refl (subst (λ (l : Path). RowsMean options bytes b l (below ∷ rows)) same further))
+rows-mean options bytes a p lines rows built plain are = absurd are
+
+-- The events of a text are read as what its lines come to.
+pub spelled-rows : (options : ParseOptions) (bytes : List ℕ) (p : Point) (lines : List (List ℕ)) (rows : List Row) → IsBuilt options → f.AreRows options bytes 0 false p lines rows →
+    spelled (groups_events bytes (groups rows)) bytes ≡ closed options (steps options (At (spot_of End)) (rests_from p lines))
 unfolding spelled
-spelled-rows options bytes p lines rows are = ap (λ (r : Reading). r.here) (means-spell options bytes lines (groups rows) (rows-mean options bytes p lines rows are) unread refl refl)
+spelled-rows options bytes p lines rows built are = go lines rows (first-line options bytes 0 false p lines rows are) (rows-mean options bytes (At (spot_of End)) p lines rows built tt are)
+  where
+    -- no quote ends in front of the first line
+    none : (closes : ℕ) → closes ≤ 0 → lefts closes unread ≡ unread
+    none zero le = refl
+    none (suc k) le = absurd (omega arith)
+
+    go : (ls : List (List ℕ)) (rs : List Row) → First options bytes 0 false p ls rs → RowsMean options bytes (At (spot_of End)) (steps options (At (spot_of End)) (rests_from p lines)) rs →
+        (read bytes unread (groups_events bytes (groups rs))).here ≡ closed options (steps options (At (spot_of End)) (rests_from p lines))
+    go (line ∷ ls) (row ∷ rs) is means =
+        let closes = quoted-closes options (At (spot_of End)) (rest_from p line) in
+        let same = is.closes in
+        ap (λ (r : Reading). (read bytes r (groups_events bytes (groups (row ∷ rs)))).here) (sym (none row.closes (omega arith))) ∙ ap (λ (r : Reading). r.here) means
+    go [] rs is means = absurd is
+    go (line ∷ ls) [] is means = absurd is

@@ -1,0 +1,311 @@
+-- What the events of a paragraph are read as, where prefixes of quotes stand in front of its lines: its lines without them.
+use Rattle.std.proofs.Common.{◌≡◌, ℕ, zero, suc, ◌+◌, ◌-◌, ◌≤◌, Bool, true, false, cond, ◌&&◌, List, [], ◌∷◌, ◌++◌, length, take, drop, slice_range, refl, ap, sym, ◌∙◌, subst, append_assoc, append-nil, arith}
+use Rattle.std.specs.Prelude.{◌==◌, IsTrue, None}
+use Rattle.std.specs.List.{prefix_len}
+use Rattle.std.proofs.lemmas.Bool.{and_from, and_parts}
+use Rattle.std.proofs.lemmas.Bool.Decides.{nat_tests}
+use Rattle.std.proofs.lemmas.List.{take_all}
+use Rattle.md_engine.specs.declared.configuration.ParseOptions.{ParseOptions}
+use Rattle.md_engine.specs.declared.event.Event.{Event}
+use Rattle.md_engine.specs.declared.event.Name.{Name}
+use Rattle.md_engine.specs.declared.event.Name.TheVariants as n
+use Rattle.md_engine.specs.declared.event.Point.{Point}
+use Rattle.md_seam.specs.declared.inline.Chunk.{Chunk}
+use Rattle.md_seam.specs.Inline.{line_end, pair_unless_empty, plain_chunk}
+use Rattle.md_leaves.specs.HeadingRule.{is_heading}
+use Rattle.md_seam.specs.Leaves.{is_rule}
+use Rattle.md_seam.specs.Lines.{begins_with}
+use Rattle.md_seam.specs.Nested.{around, enter, exit, pair}
+use Rattle.md_seam.specs.Places.{at_or_before, same_place}
+use Rattle.md_seam.specs.Rest.{Rest, is_blank, is_white, trim_start}
+use Rattle.md_seam.specs.Spelled.{IsEnding, IsPrefix, IsQuiet, Reading, Role, Text, add_block, after_prefix, before_prefix, begun, byte_at, read, role, text_to}
+use Rattle.md_seam.specs.State.{Kept, kept, texts}
+use Rattle.md_seam.specs.Texts.{trim_each}
+use Rattle.md_seam.specs.Tree.{Paragraph}
+use Rattle.md_seam.proofs.BlocksLemmas.{read-paragraph}
+use Rattle.md_seam.proofs.FeedLines.{slice-inside}
+use Rattle.md_seam.proofs.RestCells.{Cut}
+use Rattle.md_seam.proofs.SpelledLemmas.{Between, QuietOrEnding, Roles, roles-append, text-inline, text_after, text_after-append}
+use Rattle.md_seam.proofs.TextsLemmas.{Both, Ending, EndsBefore, IsOfLines, LineFeed, NoEnding, Return, ending_bytes}
+use Rattle.markdown_blocks.specs.Fronted.{cut_tab, rest_line}
+use Rattle.markdown_blocks.specs.Rows.{BlankRow, BreakRow, HeadingRow, Row, TextRow, behind_row, last_row, read_lines}
+use Rattle.markdown_blocks.proofs.LineSteps.{rest_line-kind}
+use Rattle.markdown_blocks.proofs.FrontFacts as front
+use Rattle.markdown_blocks.proofs.FrontFacts.{Behind, Begins, Fronts, Goes}
+use Rattle.markdown_blocks.proofs.RowFacts as f
+
+-- Roles.
+
+pair-roles : (P : Role → Type 0) (name : Name) (p q : Point) → P (role name) → Roles P (pair_unless_empty name p q)
+pair-roles P name p q h = go (same_place p q)
+  where
+    go : (x : Bool) → Roles P (cond x [] (pair name p q))
+    go true = tt
+    go false = (h, (h, tt))
+
+chunk-roles : (P : Role → Type 0) (bytes : List ℕ) (chunk : Chunk) → P IsQuiet → P IsEnding → Roles P (plain_chunk bytes chunk)
+chunk-roles P bytes chunk quiet ending =
+    roles-append P (pair_unless_empty n.Data chunk.first (line_end bytes chunk)) (pair_unless_empty n.LineEnding (line_end bytes chunk) chunk.after)
+    (pair-roles P n.Data chunk.first (line_end bytes chunk) quiet) (pair-roles P n.LineEnding (line_end bytes chunk) chunk.after ending)
+
+-- the prefix of a quote is quiet but for the prefix itself
+pub prefix-roles : (P : Role → Type 0) (bytes : List ℕ) (p q : Point) (es : List Event) → front.IsPrefix bytes p q es → P IsQuiet → P IsPrefix → Roles P es
+prefix-roles P bytes p q es is quiet prefix =
+    let inside : List Event = enter n.BlockQuotePrefix is.marker ∷ enter n.BlockQuoteMarker is.marker ∷ exit n.BlockQuoteMarker is.behind ∷ pair_unless_empty n.SpaceOrTab is.behind q in
+    subst (Roles P) (sym is.events)
+    (roles-append P (pair_unless_empty n.SpaceOrTab p is.marker ++ inside) (exit n.BlockQuotePrefix q ∷ [])
+    (roles-append P (pair_unless_empty n.SpaceOrTab p is.marker) inside (pair-roles P n.SpaceOrTab p is.marker quiet) (prefix, (quiet, (quiet, pair-roles P n.SpaceOrTab is.behind q quiet))))
+    (prefix, tt))
+
+fronts-between : (bytes : List ℕ) (opens : ℕ) (p q : Point) (es : List Event) → Fronts bytes opens p q es → opens ≡ 0 → Roles Between es
+fronts-between bytes opens p q es (Behind r) none = tt
+fronts-between bytes opens p q es (Goes many a b c xs ys prefix more) none = roles-append Between xs ys (prefix-roles Between bytes a b xs prefix tt tt) (fronts-between bytes many b c ys more none)
+fronts-between bytes opens p q es (Begins many a b c xs ys prefix more) none = absurd (omega arith)
+
+-- Texts.
+
+slice-none : (bytes : List ℕ) (i : ℕ) → slice_range bytes i i ≡ []
+slice-none bytes i = let none : i - i ≡ 0 = omega arith in ap (λ (k : ℕ). take k (drop i bytes)) none
+
+-- From a byte on, a text that is being read comes to these bytes with these events; what stands before is kept.
+abbrev Collects : List ℕ → List Event → ℕ → ℕ → List ℕ → Type 0
+Collects bytes es from end all = (t : Text) → t.from ≤ from → text_to bytes end (text_after bytes t es) ≡ t.front ++ (slice_range bytes t.from from ++ all)
+
+-- what an inline layer gives
+collects-inline : (bytes : List ℕ) (es : List Event) (from end : ℕ) → Roles QuietOrEnding es → from ≤ end → Collects bytes es from end (slice_range bytes from end)
+collects-inline bytes es from end inline le = λ t h. ap (text_to bytes end) (text-inline bytes t es inline) ∙ ap (λ (l : List ℕ). t.front ++ l) (f.slice-split bytes t.from from end h le)
+
+collects-behind : (bytes : List ℕ) (xs ys : List Event) (from end : ℕ) (all : List ℕ) → Roles QuietOrEnding xs → Collects bytes ys from end all → Collects bytes (xs ++ ys) from end all
+collects-behind bytes xs ys from end all inline c = λ t h. ap (text_to bytes end) (text_after-append bytes t xs ys ∙ ap (λ (x : Text). text_after bytes x ys) (text-inline bytes t xs inline)) ∙ c t h
+
+-- from an earlier byte on
+collects-back : (bytes : List ℕ) (es : List Event) (i from end : ℕ) (all : List ℕ) → i ≤ from → Collects bytes es from end all → Collects bytes es i end (slice_range bytes i from ++ all)
+collects-back bytes es i from end all le c = λ t h.
+    c t (omega arith)
+    ∙ ap (λ (l : List ℕ). t.front ++ (l ++ all)) (f.slice-split bytes t.from i from h le)
+    ∙ ap (λ (l : List ℕ). t.front ++ l) (append_assoc (slice_range bytes t.from i) (slice_range bytes i from) all)
+
+-- a prefix cuts a text
+prefix-text : (bytes : List ℕ) (p q : Point) (es : List Event) (t : Text) → (is : front.IsPrefix bytes p q es) → text_after bytes t es ≡ after_prefix q (before_prefix bytes is.marker t)
+prefix-text bytes p q es t is =
+    let white : List Event = pair_unless_empty n.SpaceOrTab p is.marker in
+    let more : List Event = pair_unless_empty n.SpaceOrTab is.behind q in
+    let inside : List Event = enter n.BlockQuotePrefix is.marker ∷ enter n.BlockQuoteMarker is.marker ∷ exit n.BlockQuoteMarker is.behind ∷ more in
+    ap (text_after bytes t) is.events
+    ∙ text_after-append bytes t (white ++ inside) (exit n.BlockQuotePrefix q ∷ [])
+    ∙ ap (λ (x : Text). text_after bytes x (exit n.BlockQuotePrefix q ∷ []))
+    (text_after-append bytes t white inside
+    ∙ ap (λ (x : Text). text_after bytes x inside) (text-inline bytes t white (pair-roles QuietOrEnding n.SpaceOrTab p is.marker tt))
+    ∙ text-inline bytes (before_prefix bytes is.marker t) more (pair-roles QuietOrEnding n.SpaceOrTab is.behind q tt))
+
+collects-prefix : (bytes : List ℕ) (p q : Point) (es ys : List Event) (from end : ℕ) (all : List ℕ) → (is : front.IsPrefix bytes p q es) → from ≤ is.marker.index → Collects bytes ys (byte_at q) end all →
+    Collects bytes (es ++ ys) from end (slice_range bytes from is.marker.index ++ all)
+collects-prefix bytes p q es ys from end all is le c = λ t h.
+    let cut : Text = after_prefix q (before_prefix bytes is.marker t) in
+    let upto : List ℕ = slice_range bytes t.from is.marker.index in
+    ap (text_to bytes end) (text_after-append bytes t es ys ∙ ap (λ (x : Text). text_after bytes x ys) (prefix-text bytes p q es t is))
+    ∙ c cut (omega arith)
+    ∙ ap (λ (l : List ℕ). (t.front ++ upto) ++ (l ++ all)) (slice-none bytes (byte_at q))
+    ∙ append_assoc t.front upto all
+    ∙ ap (λ (l : List ℕ). t.front ++ (l ++ all)) (f.slice-split bytes t.from from is.marker.index h le)
+    ∙ ap (λ (l : List ℕ). t.front ++ l) (append_assoc (slice_range bytes t.from from) (slice_range bytes from is.marker.index) all)
+
+-- Whitespace.
+
+blank-behind : (xs ys : List ℕ) → is_blank (xs ++ ys) ≡ true → is_blank ys ≡ true
+blank-behind [] ys h = h
+blank-behind (b ∷ xs) ys h = blank-behind xs ys (and_parts (is_white b) (is_blank (xs ++ ys)) h).1
+
+blank-append : (xs ys : List ℕ) → is_blank xs ≡ true → is_blank ys ≡ true → is_blank (xs ++ ys) ≡ true
+blank-append [] ys h k = k
+blank-append (b ∷ xs) ys h k = let parts = and_parts (is_white b) (is_blank xs) h in and_from (is_white b) (is_blank (xs ++ ys)) parts.0 (blank-append xs ys parts.1 k)
+
+-- what stands in front of a marker begins behind the byte of a point
+marker-behind : (p q : Point) → IsTrue (at_or_before p q) → q.vs ≡ 0 → byte_at p ≤ q.index
+marker-behind p q before whole = go (p.vs == 0) refl
+  where
+    go : (x : Bool) → (p.vs == 0) ≡ x → cond x p.index (p.index + 1) ≤ q.index
+    go true e = grind (arith, nat_tests)
+    go false e = grind (arith, nat_tests)
+
+blank-before : (bytes : List ℕ) (p : Point) (end : ℕ) → byte_at p ≤ end → is_blank (slice_range bytes p.index end) ≡ true → is_blank (slice_range bytes (byte_at p) end) ≡ true
+blank-before bytes p end le blank = go (p.vs == 0) le
+  where
+    go : (x : Bool) → cond x p.index (p.index + 1) ≤ end → is_blank (slice_range bytes (cond x p.index (p.index + 1)) end) ≡ true
+    go true h = blank
+    go false h = blank-behind (slice_range bytes p.index (p.index + 1)) (slice_range bytes (p.index + 1) end) (sym (ap is_blank (f.slice-split bytes p.index (p.index + 1) end (omega arith) h)) ∙ blank)
+
+-- prefixes leave the whitespace in front of their markers
+collects-fronts : (bytes : List ℕ) (opens : ℕ) (p q : Point) (es ys : List Event) (end : ℕ) (all : List ℕ) → Fronts bytes opens p q es → opens ≡ 0 → Collects bytes ys (byte_at q) end all →
+    (white : List ℕ) × (is_blank white ≡ true) × Collects bytes (es ++ ys) (byte_at p) end (white ++ all)
+collects-fronts bytes opens p q es ys end all (Behind r) none c = ([], refl, c)
+collects-fronts bytes opens p q es ys end all (Goes many a b d xs zs prefix more) none c =
+    let next = collects-fronts bytes many b d zs ys end all more none c in
+    let le = marker-behind a prefix.marker prefix.indent prefix.marker_whole in
+    let here : List ℕ = slice_range bytes (byte_at a) prefix.marker.index in
+    let all_of : Collects bytes (xs ++ (zs ++ ys)) (byte_at a) end (here ++ (next.0 ++ all)) = collects-prefix bytes a b xs (zs ++ ys) (byte_at a) end (next.0 ++ all) prefix le next.2 in (
+      here ++ next.0,
+      blank-append here next.0 (blank-before bytes a prefix.marker.index le prefix.white_before) next.1,
+      subst (λ (l : List Event). Collects bytes l (byte_at a) end ((here ++ next.0) ++ all)) (sym (append_assoc xs zs ys)) (subst (Collects bytes (xs ++ (zs ++ ys)) (byte_at a) end) (sym (append_assoc here next.0 all)) all_of),
+    )
+collects-fronts bytes opens p q es ys end all (Begins many a b d xs zs prefix more) none c = absurd (omega arith)
+
+-- Lines.
+
+-- a line is filled, and has no ending
+record IsFilled (line : List ℕ) : Type 0 where
+  no_ending : NoEnding line
+  filled : is_blank line ≡ false
+
+-- the bytes of a line of text stand behind the byte at which it begins
+line-bytes : (options : ParseOptions) (bytes : List ℕ) (r : Rest) (row : Row) → f.IsRow options bytes (rest_line r) row → Cut r.spaces row.first →
+    (slice_range bytes (byte_at row.first) row.end.index ≡ r.bytes) × (byte_at row.first ≤ row.end.index)
+line-bytes options bytes r row is cut = go r.spaces cut is.text is.size
+  where
+    go : (n : ℕ) → Cut n row.first → slice_range bytes row.first.index row.end.index ≡ cut_tab n ++ r.bytes → row.end.index ≡ row.first.index + length (cut_tab n ++ r.bytes) →
+        (slice_range bytes (byte_at row.first) row.end.index ≡ r.bytes) × (byte_at row.first ≤ row.end.index)
+    go zero whole text size =
+        let here : byte_at row.first ≡ row.first.index = ap (λ (vs : ℕ). cond (vs == 0) row.first.index (row.first.index + 1)) whole in
+        (ap (λ (i : ℕ). slice_range bytes i row.end.index) here ∙ text, omega arith)
+    go (suc k) within text size =
+        let some : (row.first.vs == 0) ≡ false = let more = within.0 in grind (arith, nat_tests) in
+        let here : byte_at row.first ≡ row.first.index + 1 = ap (λ (x : Bool). cond x row.first.index (row.first.index + 1)) some in
+        let end : row.first.index + 1 + length r.bytes ≡ row.end.index = omega arith in (
+          ap (λ (i : ℕ). slice_range bytes i row.end.index) here
+              ∙ ap (slice_range bytes (row.first.index + 1)) (sym end)
+              ∙ slice-inside bytes (9 ∷ r.bytes) row.first.index row.end.index 1 (length r.bytes) text size (omega arith)
+              ∙ take_all (length r.bytes) r.bytes (omega arith),
+          omega arith,
+        )
+
+text-filled : (options : ParseOptions) (bytes : List ℕ) (r : Rest) (row : Row) → f.IsRow options bytes (rest_line r) row → row.kind ≡ TextRow → IsFilled r.bytes
+text-filled options bytes r row is text = record {
+  no_ending = go r.spaces is.no_ending;
+  filled = by (is_blank r.bytes) (options.constructs.heading_atx && is_heading (trim_start r.bytes)) (options.constructs.thematic_break && is_rule (trim_start r.bytes)) (sym (rest_line-kind options r) ∙ sym is.kind ∙ text);
+}
+  where
+    go : (n : ℕ) → NoEnding (cut_tab n ++ r.bytes) → NoEnding r.bytes
+    go zero h = h
+    go (suc k) h = h.1
+
+    by : (x y z : Bool) → cond x BlankRow (cond y HeadingRow (cond z BreakRow TextRow)) ≡ TextRow → x ≡ false
+    by true y z h = cc
+    by false y z h = refl
+
+-- bytes in front of the first line
+abbrev onto_line : List ℕ → List (List ℕ) → List (List ℕ)
+onto_line white [] = []
+onto_line white (line ∷ lines) = (white ++ line) ∷ lines
+
+white-no_ending : (white line : List ℕ) → is_blank white ≡ true → NoEnding line → NoEnding (white ++ line)
+white-no_ending [] line h none = none
+white-no_ending (b ∷ white) line h none =
+    let parts = and_parts (is_white b) (is_blank white) h in
+    let here = parts.0 in
+    (grind (arith, nat_tests), white-no_ending white line parts.1 none)
+
+of-white : (white : List ℕ) (own : List (List ℕ)) (all : List ℕ) → is_blank white ≡ true → IsOfLines own all → IsOfLines (onto_line white own) (white ++ all)
+of-white white [] all blank is = is
+of-white white (line ∷ []) all blank is = (white-no_ending white line blank is.0, ap (λ (l : List ℕ). white ++ l) is.1)
+of-white white (line ∷ next ∷ lines) all blank is =
+    (white-no_ending white line blank is.0, (is.1.0, is.1.1, is.1.2, ap (λ (l : List ℕ). white ++ l) is.1.3 ∙ sym (append_assoc white (line ++ ending_bytes is.1.0) is.1.1) ∙ ap (λ (l : List ℕ). l ++ is.1.1) (sym (append_assoc white line (ending_bytes is.1.0))), is.1.4))
+
+trim-one : (b : ℕ) (bs : List ℕ) → is_white b ≡ true → trim_start (b ∷ bs) ≡ trim_start bs
+trim-one b bs e =
+    let size : 1 + prefix_len is_white bs ≡ suc (prefix_len is_white bs) = omega arith in
+    ap (λ (x : Bool). drop (cond x (1 + prefix_len is_white bs) 0) (b ∷ bs)) e ∙ ap (λ (k : ℕ). drop k (b ∷ bs)) size
+
+trim-blank : (white line : List ℕ) → is_blank white ≡ true → trim_start (white ++ line) ≡ trim_start line
+trim-blank [] line h = refl
+trim-blank (b ∷ white) line h = let parts = and_parts (is_white b) (is_blank white) h in trim-one b (white ++ line) parts.0 ∙ trim-blank white line parts.1
+
+trim-onto : (white : List ℕ) (own : List (List ℕ)) → is_blank white ≡ true → trim_each (onto_line white own) ≡ trim_each own
+trim-onto white [] blank = refl
+trim-onto white (line ∷ lines) blank = ap (λ (l : List ℕ). l ∷ trim_each lines) (trim-blank white line blank)
+
+-- no line feed comes first
+begins-line : (line more : List ℕ) → IsFilled line → begins_with 10 (line ++ more) ≡ false
+begins-line [] more is = let bad = is.filled in cc
+begins-line (b ∷ line) more is = let none = is.no_ending.0 in grind (arith, nat_tests)
+
+begins-white : (white all : List ℕ) → is_blank white ≡ true → begins_with 10 all ≡ false → begins_with 10 (white ++ all) ≡ false
+begins-white [] all blank h = h
+begins-white (b ∷ white) all blank h = let here = (and_parts (is_white b) (is_blank white) blank).0 in grind (arith, nat_tests)
+
+ends-before : (ending : Ending) (rest : List ℕ) → begins_with 10 rest ≡ false → EndsBefore ending rest
+ends-before LineFeed rest h = tt
+ends-before Return rest h = h
+ends-before Both rest h = tt
+
+-- a line, its ending, and further lines
+lines-more : (line : List ℕ) (own : List (List ℕ)) (text : List ℕ) (ending : Ending) (rest : List ℕ) → NoEnding line → EndsBefore ending rest → text ≡ line ++ ending_bytes ending ++ rest → IsOfLines own rest → IsOfLines (line ∷ own) text
+lines-more line [] text ending rest none before is own = absurd own
+lines-more line (next ∷ lines) text ending rest none before is own = (none, (ending, rest, before, is, own))
+
+-- The lines of a paragraph, as they are read.
+pub record IsRead (bytes : List ℕ) (row : Row) (rows : List Row) (lines : List Kept) : Type 0 where
+  pub own : List (List ℕ)
+  pub all : List ℕ
+  pub collects : (t : Text) → t.from ≤ byte_at row.first → text_to bytes (last_row row rows).end.index (text_after bytes t (read_lines bytes row rows)) ≡ t.front ++ (slice_range bytes t.from (byte_at row.first) ++ all)
+  pub are : IsOfLines own all
+  pub begins : begins_with 10 all ≡ false
+  pub texts_are : texts lines ≡ trim_each own
+  pub between : Roles Between (read_lines bytes row rows)
+
+-- one line
+pub read-one : (options : ParseOptions) (bytes : List ℕ) (r : Rest) (row : Row) → f.IsRow options bytes (rest_line r) row → Cut r.spaces row.first → row.kind ≡ TextRow → IsRead bytes row [] (kept r ∷ [])
+read-one options bytes r row is cut text =
+    let line = line-bytes options bytes r row is cut in
+    let filled = text-filled options bytes r row is text in
+    let chunk : Chunk = record { first = row.first; after = row.end } in
+    record {
+      own = r.bytes ∷ [];
+      all = r.bytes;
+      collects = subst (Collects bytes (plain_chunk bytes chunk) (byte_at row.first) row.end.index) line.0 (collects-inline bytes (plain_chunk bytes chunk) (byte_at row.first) row.end.index (chunk-roles QuietOrEnding bytes chunk tt tt) line.1);
+      are = (filled.no_ending, refl);
+      begins = ap (begins_with 10) (sym (append-nil r.bytes)) ∙ begins-line r.bytes [] filled;
+      texts_are = refl;
+      between = chunk-roles Between bytes chunk tt tt;
+    }
+
+-- one more in front
+pub read-more : (options : ParseOptions) (bytes : List ℕ) (r : Rest) (row next : Row) (rows : List Row) (q : Point) (lines : List Kept) →
+    f.IsRow options bytes (rest_line r) row → Cut r.spaces row.first → row.kind ≡ TextRow → f.IsEnding bytes row.end q → Fronts bytes 0 q next.first next.front → IsRead bytes next rows lines →
+    IsRead bytes row (next ∷ rows) (kept r ∷ lines)
+read-more options bytes r row next rows q lines is cut text ending fronts below =
+    let line = line-bytes options bytes r row is cut in
+    let filled = text-filled options bytes r row is text in
+    let chunk : Chunk = record { first = row.first; after = behind_row row } in
+    let end : ℕ = (last_row next rows).end.index in
+    let further : List Event = read_lines bytes next rows in
+    let fronted = collects-fronts bytes 0 q next.first next.front further end below.all fronts refl below.collects in
+    let white : List ℕ = fronted.0 in
+    let whole : byte_at q ≡ q.index = ap (λ (vs : ℕ). cond (vs == 0) q.index (q.index + 1)) ending.whole in
+    let from : Collects bytes (next.front ++ further) q.index end (white ++ below.all) = subst (λ (i : ℕ). Collects bytes (next.front ++ further) i end (white ++ below.all)) whole fronted.2 in
+    let size = ending.size in
+    let le : byte_at row.first ≤ q.index = let first = line.1 in omega arith in
+    let here : slice_range bytes (byte_at row.first) q.index ≡ r.bytes ++ ending_bytes ending.ending =
+    f.slice-split bytes (byte_at row.first) row.end.index q.index line.1 (omega arith) ∙ ap (λ (l : List ℕ). l ++ slice_range bytes row.end.index q.index) line.0 ∙ ap (λ (l : List ℕ). r.bytes ++ l) ending.text in
+    let all : List ℕ = (r.bytes ++ ending_bytes ending.ending) ++ (white ++ below.all) in
+    let found : Collects bytes (plain_chunk bytes chunk ++ (next.front ++ further)) (byte_at row.first) end all =
+    subst (λ (l : List ℕ). Collects bytes (plain_chunk bytes chunk ++ (next.front ++ further)) (byte_at row.first) end (l ++ (white ++ below.all))) here
+    (collects-back bytes (plain_chunk bytes chunk ++ (next.front ++ further)) (byte_at row.first) q.index end (white ++ below.all) le
+    (collects-behind bytes (plain_chunk bytes chunk) (next.front ++ further) q.index end (white ++ below.all) (chunk-roles QuietOrEnding bytes chunk tt tt) from)) in
+    record {
+      own = r.bytes ∷ onto_line white below.own;
+      all = all;
+      collects = subst (λ (l : List Event). Collects bytes l (byte_at row.first) end all) (sym (append_assoc (plain_chunk bytes chunk) next.front further)) found;
+      are = lines-more r.bytes (onto_line white below.own) all ending.ending (white ++ below.all) filled.no_ending (ends-before ending.ending (white ++ below.all) (begins-white white below.all fronted.1 below.begins)) refl (of-white white below.own below.all fronted.1 below.are);
+      begins = ap (begins_with 10) (append_assoc r.bytes (ending_bytes ending.ending) (white ++ below.all)) ∙ begins-line r.bytes (ending_bytes ending.ending ++ (white ++ below.all)) filled;
+      texts_are = ap (λ (l : List (List ℕ)). trim_start r.bytes ∷ l) (below.texts_are ∙ sym (trim-onto white below.own fronted.1));
+      between = roles-append Between (plain_chunk bytes chunk ++ next.front) further (roles-append Between (plain_chunk bytes chunk) next.front (chunk-roles Between bytes chunk tt tt) (fronts-between bytes 0 q next.first next.front fronts refl)) below.between;
+    }
+
+-- The events of a paragraph are read as its lines.
+pub read-lines : (bytes : List ℕ) (row : Row) (rows : List Row) (lines : List Kept) (r : Reading) → IsRead bytes row rows lines → r.text ≡ None →
+    read bytes r (around n.Paragraph row.first (last_row row rows).end (read_lines bytes row rows)) ≡ add_block (Paragraph (texts lines)) r
+read-lines bytes row rows lines r is none =
+    let text : text_to bytes (last_row row rows).end.index (text_after bytes (begun row.first) (read_lines bytes row rows)) ≡ is.all =
+    is.collects (begun row.first) (omega arith) ∙ ap (λ (l : List ℕ). l ++ is.all) (slice-none bytes (byte_at row.first)) in
+    read-paragraph bytes r row.first (last_row row rows).end (read_lines bytes row rows) is.own none is.between (subst (IsOfLines is.own) (sym text) is.are)
+    ∙ ap (λ (l : List (List ℕ)). add_block (Paragraph l) r) (sym is.texts_are)
