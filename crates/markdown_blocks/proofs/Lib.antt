@@ -22,6 +22,7 @@ pub mod SectionsLemmas
 pub mod PlainRoles
 pub mod SpelledHeadings
 pub mod SpelledRows
+pub mod EachRow
 pub mod NestedRows
 pub mod BetweenRows
 pub mod TreeSections
