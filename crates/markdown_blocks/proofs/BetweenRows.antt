@@ -1,10 +1,11 @@
--- The events of a text stand between its characters, where only headings and breaks are on.
-use Rattle.std.proofs.Common.{◌≡◌, ◌≢◌, ℕ, suc, ◌+◌, ◌-◌, ◌<◌, ◌≤◌, Bool, true, false, cond, ◌&&◌, ◌||◌, List, [], ◌∷◌, ◌++◌, length, get_or, take, drop, slice_range, refl, ap, sym, ◌∙◌, subst, append_assoc, drop-drop, arith}
+-- The events of a text stand between its characters, where only quotes, headings and breaks are on.
+use Rattle.std.proofs.Common.{◌≡◌, ◌≢◌, ℕ, zero, suc, ◌+◌, ◌-◌, ◌<◌, ◌≤◌, Bool, true, false, cond, ◌&&◌, ◌||◌, List, [], ◌∷◌, ◌++◌, length, get_or, take, drop, slice_range, refl, ap, sym, ◌∙◌, subst, append_assoc, drop-drop, arith}
 use Rattle.std.specs.Prelude.{◌==◌, IsTrue, not, nat_lt, nat_le, slice_index, Option, Some, None}
 use Rattle.std.specs.List.{count_by, list_all, prefix_len, AllPass}
 use Rattle.std.proofs.lemmas.Bool.{and_parts, and_from, eqb-true}
 use Rattle.std.proofs.lemmas.Bool.Decides.{nat_tests}
-use Rattle.std.proofs.lemmas.List.{get_or-drop, get_or-take, take-append-drop}
+use Rattle.std.proofs.lemmas.List.{get_or-drop, get_or_past, get_or-take, take-append-drop}
+use Rattle.std.proofs.lemmas.Option.{get_or_from_slice_get}
 use Rattle.std.proofs.lemmas.List.Sums.{take_while-cons, AllPass-from_list_all}
 use Rattle.std.proofs.lemmas.List.Elements.{All-get_or}
 use Rattle.md_engine.specs.declared.configuration.ParseOptions.{ParseOptions}
@@ -12,13 +13,14 @@ use Rattle.md_engine.specs.declared.event.Event.{Event}
 use Rattle.md_engine.specs.declared.event.Name.{Name}
 use Rattle.md_engine.specs.declared.event.Name.TheVariants as n
 use Rattle.md_engine.specs.declared.event.Point.{Point}
+use Rattle.md_content.specs.Chunks.{content_link}
 use Rattle.md_leaves.specs.Heading.{heading_link}
 use Rattle.md_leaves.specs.HeadingRule.{Apart, Hashes, Run, Text, White, begun, closes, goes_on, is_heading, opens}
 use Rattle.md_leaves.specs.HeadingTitle.{Title, chunk_unless_empty, front_len, line_runs, text_of, title_of}
 use Rattle.md_leaves.proofs.TitleLemmas.{behind-marks, front-marks, is_mark}
 use Rattle.md_leaves.proofs.TitleRuns.{pass-first, pass-rest}
 use Rattle.md_seam.specs.declared.inline.Chunk.{Chunk}
-use Rattle.md_seam.specs.Inline.{line_end, pair_unless_empty, plain_chunk, plain_chunks, together}
+use Rattle.md_seam.specs.Inline.{line_end, pair_unless_empty, plain_chunk}
 use Rattle.md_seam.specs.Leaves.{is_rule, is_rule_marker}
 use Rattle.md_seam.specs.Lines.{is_ending, without_ending}
 use Rattle.md_seam.specs.Nested.{Forward, around, enter, enter_link, exit, last_point, pair}
@@ -29,11 +31,14 @@ use Rattle.md_seam.proofs.NestedLemmas.{at_or_before-trans, forward-last}
 use Rattle.md_seam.proofs.PlacesLemmas.{all-append}
 use Rattle.md_seam.proofs.TextsLemmas.{Both, Ending, LineFeed, NoEnding, Return, ending_bytes}
 use Rattle.markdown_blocks.specs.Between.{is_between}
-use Rattle.markdown_blocks.specs.Rows.{BlankRow, BreakRow, Group, HeadingRow, Lines, Row, RowKind, Single, TextRow, behind_row, chunks_of, ending_events, groups, groups_events, last_row, line_kind, onto_groups, read_text, read_title, row_title, single_events_by}
+use Rattle.markdown_blocks.specs.Fronted.{quoted, rest_from, rest_line}
+use Rattle.markdown_blocks.specs.Rows.{BlankRow, BreakRow, Group, HeadingRow, Lines, Row, RowKind, Single, TextRow, behind_row, ending_events, groups, groups_events, is_text, last_row, line_kind, quote_ends, read_lines, read_text, read_title, row_title, single_events_by, tail_events}
 use Rattle.md_seam.proofs.FeedLines.{at-next, drop-past, past-next, slice-front}
+use Rattle.markdown_blocks.proofs.EachRow.{EachGroup, EachRow, groups-each, last-each}
+use Rattle.markdown_blocks.proofs.FrontFacts.{Begins, Behind, Fronts, Goes, IsPrefix}
 use Rattle.markdown_blocks.proofs.JoinedLemmas.{behind-is, behind-none}
 use Rattle.markdown_blocks.proofs.LineKinds.{no_ending-parts}
-use Rattle.markdown_blocks.proofs.RowFacts.{AreRows, IsEnding, IsInside, IsRow, line-text}
+use Rattle.markdown_blocks.proofs.RowFacts.{AreRows, IsEnding, IsInside, IsLine, IsRow, depth_behind, line-text}
 use Rattle.markdown_blocks.proofs.TitleNests.{back_bytes, blank-no_heading, break-no_heading, line-end-is, text-end-is, text_begin, text_bytes, text_end}
 
 -- Bytes of ASCII.
@@ -191,14 +196,15 @@ forward-between bytes p q (e ∷ es) f h all =
 -- Lines.
 
 -- Where a line stands: its ends and the end of its ending are between characters, and the plain layer finds its end.
-record RowBetween (bytes : List ℕ) (row : Row) : Type 0 where
-  first : is_between bytes row.first.index ≡ true
-  end : is_between bytes row.end.index ≡ true
-  behind : is_between bytes (behind_row row).index ≡ true
-  inside : row.kind ≢ HeadingRow → AreBetween bytes row.inside
-  title : AreBetween bytes (read_title bytes (row_title bytes row))
-  alone : line_end bytes (record { first = row.first; after = row.end }) ≡ row.end
-  ended : line_end bytes (record { first = row.first; after = behind_row row }) ≡ row.end
+pub record RowBetween (bytes : List ℕ) (row : Row) : Type 0 where
+  pub first : is_between bytes row.first.index ≡ true
+  pub end : is_between bytes row.end.index ≡ true
+  pub behind : is_between bytes (behind_row row).index ≡ true
+  pub front : AreBetween bytes row.front
+  pub inside : row.kind ≢ HeadingRow → AreBetween bytes row.inside
+  pub title : AreBetween bytes (read_title bytes (row_title bytes row))
+  pub alone : line_end bytes (record { first = row.first; after = row.end }) ≡ row.end
+  pub ended : line_end bytes (record { first = row.first; after = behind_row row }) ≡ row.end
 
 inside-between : (options : ParseOptions) (bytes line : List ℕ) (row : Row) → IsRow options bytes line row → is_between bytes row.end.index ≡ true → row.kind ≢ HeadingRow → AreBetween bytes row.inside
 inside-between options bytes line row is end other = go row.kind refl (subst (λ (k : RowKind). LowUnlessText k line) (sym is.kind) (line-low options line))
@@ -260,13 +266,84 @@ ending-between bytes name row end = go row.after
     go None h = refl
     go (Some q) h = between-pair bytes name row.end q end h
 
--- a block around events, its ending, and what follows
-around-between : (bytes : List ℕ) (name ending : Name) (row : Row) (inside events : List Event) → RowBetween bytes row → AreBetween bytes inside → AreBetween bytes events → AreBetween bytes ((around name row.first row.end inside ++ ending_events ending row) ++ events)
-around-between bytes name ending row inside events b h k =
-    between-append bytes (around name row.first row.end inside ++ ending_events ending row) events
-    (between-append bytes (around name row.first row.end inside) (ending_events ending row)
-    (between-more bytes (enter name row.first) (inside ++ exit name row.end ∷ []) b.first (between-append bytes inside (exit name row.end ∷ []) h (between-more bytes (exit name row.end) [] b.end refl)))
-    (ending-between bytes ending row b.end b.behind)) k
+-- the ends of quotes, and an ending
+tail-between : (bytes : List ℕ) (name : Name) (row : Row) → is_between bytes row.end.index ≡ true → is_between bytes (behind_row row).index ≡ true → AreBetween bytes (tail_events name row)
+tail-between bytes name row end behind = between-append bytes (quote_ends row.leaves row.end) (ending_events name row) (go row.leaves) (ending-between bytes name row end behind)
+  where
+    go : (many : ℕ) → AreBetween bytes (quote_ends many row.end)
+    go zero = refl
+    go (suc many) = between-more bytes (exit n.BlockQuote row.end) (quote_ends many row.end) end (go many)
+
+-- a block around events
+around-between : (bytes : List ℕ) (name : Name) (p q : Point) (inside : List Event) → is_between bytes p.index ≡ true → is_between bytes q.index ≡ true → AreBetween bytes inside → AreBetween bytes (around name p q inside)
+around-between bytes name p q inside h k i = between-more bytes (enter name p) (inside ++ exit name q ∷ []) h (between-append bytes inside (exit name q ∷ []) i (between-more bytes (exit name q) [] k refl))
+
+-- Fronts.
+
+-- a byte of whitespace in a part of the text, or behind its end
+white-at : (bytes : List ℕ) (a e i : ℕ) → is_blank (slice_range bytes a e) ≡ true → a ≤ i → i < e → is_low (slice_index bytes i) ≡ true
+white-at bytes a e i h k l = go (nat_lt (i - a) (length line)) refl
+  where
+    line : List ℕ
+    line = slice_range bytes a e
+
+    reads : slice_index bytes i ≡ get_or line (i - a) 0
+    reads =
+        let at : a + (i - a) ≡ i = omega arith in
+        ap (λ (j : ℕ). get_or bytes j 0) (sym at) ∙ sym (get_or-drop a bytes (i - a) 0) ∙ sym (get_or-take (e - a) (drop a bytes) (i - a) 0 (omega arith))
+
+    go : (x : Bool) → nat_lt (i - a) (length line) ≡ x → is_low (slice_index bytes i) ≡ true
+    go true y =
+        let inside : i - a < length line = grind (arith, nat_tests) in
+        subst (λ (b : ℕ). is_low b ≡ true) (sym reads) (All-get_or (λ (b : ℕ). is_low b ≡ true) line (i - a) 0 inside (AllPass-from_list_all is_low line (blank-low line h)))
+    go false y =
+        let outside : length line ≤ i - a = grind (arith, nat_tests) in
+        subst (λ (b : ℕ). is_low b ≡ true) (sym (reads ∙ get_or_past line (i - a) 0 outside)) refl
+
+-- where whitespace ends
+white-between : (bytes : List ℕ) (a e : ℕ) → is_blank (slice_range bytes a e) ≡ true → a ≤ e → is_between bytes a ≡ true → is_between bytes e ≡ true
+white-between bytes a e h k from = go (a == e) refl
+  where
+    go : (x : Bool) → (a == e) ≡ x → is_between bytes e ≡ true
+    go true y = subst (λ (i : ℕ). is_between bytes i ≡ true) (eqb-true a e y) from
+    go false y =
+        let below : a < e = grind (arith, nat_tests) in
+        between-behind bytes e (white-at bytes a e (e - 1) h (omega (arith, below)) (omega (arith, below)))
+
+-- a prefix stands between characters, if it begins so
+prefix-between : (bytes : List ℕ) (p q : Point) (es : List Event) → is_between bytes p.index ≡ true → IsPrefix bytes p q es → AreBetween bytes es × (is_between bytes q.index ≡ true)
+prefix-between bytes p q es from is =
+    let quote : slice_index bytes is.marker.index ≡ 62 = get_or_from_slice_get bytes is.marker.index 62 0 is.byte in
+    let low : is_low (slice_index bytes is.marker.index) ≡ true = subst (λ (b : ℕ). is_low b ≡ true) (sym quote) refl in
+    let marker : is_between bytes is.marker.index ≡ true = between-before bytes is.marker.index low in
+    let back : is.behind.index - 1 ≡ is.marker.index = omega (arith, is.past) in
+    let behind : is_between bytes is.behind.index ≡ true = between-behind bytes is.behind.index (subst (λ (i : ℕ). is_low (slice_index bytes i) ≡ true) (sym back) low) in
+    let end : is_between bytes q.index ≡ true = white-between bytes is.behind.index q.index is.white_behind (order-index is.behind q is.column) behind in
+    let one : List Event = pair_unless_empty n.SpaceOrTab p is.marker in
+    let two : List Event = enter n.BlockQuotePrefix is.marker ∷ enter n.BlockQuoteMarker is.marker ∷ exit n.BlockQuoteMarker is.behind ∷ [] in
+    let three : List Event = pair_unless_empty n.SpaceOrTab is.behind q in
+    let middle : AreBetween bytes two =
+    between-more bytes (enter n.BlockQuotePrefix is.marker) (enter n.BlockQuoteMarker is.marker ∷ exit n.BlockQuoteMarker is.behind ∷ []) marker
+    (between-more bytes (enter n.BlockQuoteMarker is.marker) (exit n.BlockQuoteMarker is.behind ∷ []) marker (between-more bytes (exit n.BlockQuoteMarker is.behind) [] behind refl)) in
+    (
+      subst (AreBetween bytes) (sym is.events)
+          (between-append bytes (one ++ (two ++ three)) (exit n.BlockQuotePrefix q ∷ [])
+          (between-append bytes one (two ++ three) (between-unless bytes n.SpaceOrTab p is.marker from marker) (between-append bytes two three middle (between-unless bytes n.SpaceOrTab is.behind q behind end)))
+          (between-more bytes (exit n.BlockQuotePrefix q) [] end refl)),
+      end,
+    )
+
+-- and so does what stands in front of a line
+pub fronts-between : (bytes : List ℕ) (opens : ℕ) (p q : Point) (front : List Event) → is_between bytes p.index ≡ true → Fronts bytes opens p q front → AreBetween bytes front × (is_between bytes q.index ≡ true)
+fronts-between bytes _ p _ _ from (Behind _) = (refl, from)
+fronts-between bytes opens p r _ from (Goes _ _ q _ es fs is more) =
+    let here = prefix-between bytes p q es from is in
+    let rest = fronts-between bytes opens q r fs here.1 more in
+    (between-append bytes es fs here.0 rest.0, rest.1)
+fronts-between bytes _ p r _ from (Begins opens _ q _ es fs is more) =
+    let here = prefix-between bytes p q es from is in
+    let rest = fronts-between bytes opens q r fs here.1 more in
+    (between-more bytes (enter n.BlockQuote p) (es ++ fs) from (between-append bytes es fs here.0 rest.0), rest.1)
 
 -- Headings.
 
@@ -416,76 +493,87 @@ row_title-between options bytes line row is first end =
 
 -- Groups.
 
--- A line of text that is a paragraph.
-between-first : (bytes : List ℕ) (row : Row) (gs : List Group) → RowBetween bytes row → AreBetween bytes (groups_events bytes gs) → AreBetween bytes (groups_events bytes (Lines row [] ∷ gs))
-between-first bytes row gs b h =
-    let chunk : Chunk = record { first = row.first; after = row.end } in
-    around-between bytes n.Paragraph n.LineEnding row (plain_chunk bytes chunk ++ []) (groups_events bytes gs) b
-    (between-append bytes (plain_chunk bytes chunk) [] (chunk-between bytes row.first row.end row.end b.alone b.first b.end b.end) refl) h
+-- the text of a paragraph
+lines-between : (bytes : List ℕ) (row : Row) (rows : List Row) → RowBetween bytes row → EachRow (RowBetween bytes) rows → AreBetween bytes (read_lines bytes row rows)
+lines-between bytes row [] b bs = chunk-between bytes row.first row.end row.end b.alone b.first b.end b.end
+lines-between bytes row (next ∷ rows) b bs =
+    let chunk : List Event = plain_chunk bytes (record { first = row.first; after = behind_row row }) in
+    let here : AreBetween bytes chunk = chunk-between bytes row.first row.end (behind_row row) b.ended b.first b.end b.behind in
+    between-append bytes (chunk ++ next.front) (read_lines bytes next rows) (between-append bytes chunk next.front here bs.0.front) (lines-between bytes next rows bs.0 bs.1)
 
--- A line of text in front of a paragraph.
-between-next : (bytes : List ℕ) (row next : Row) (rows : List Row) (gs : List Group) → RowBetween bytes row → AreBetween bytes (groups_events bytes (Lines next rows ∷ gs)) → AreBetween bytes (groups_events bytes (Lines row (next ∷ rows) ∷ gs))
-between-next bytes row next rows gs b h =
-    let chunk : Chunk = record { first = row.first; after = behind_row row } in
-    let events : List Event = plain_chunk bytes chunk in
-    let rest : List Event = together (plain_chunks bytes (chunks_of next rows)) in
-    let last : Row = last_row next rows in
-    let ending : List Event = ending_events n.LineEnding last in
-    let more : List Event = groups_events bytes gs in
-    let old : List Event = ((rest ++ exit n.Paragraph last.end ∷ []) ++ ending) ++ more in
-    let apart : (((events ++ rest) ++ exit n.Paragraph last.end ∷ []) ++ ending) ++ more ≡ events ++ old =
-    ap (λ (l : List Event). (l ++ ending) ++ more) (append_assoc events rest (exit n.Paragraph last.end ∷ []))
-    ∙ ap (λ (l : List Event). l ++ more) (append_assoc events (rest ++ exit n.Paragraph last.end ∷ []) ending)
-    ∙ append_assoc events ((rest ++ exit n.Paragraph last.end ∷ []) ++ ending) more in
-    subst (λ (l : List Event). AreBetween bytes (enter n.Paragraph row.first ∷ l)) (sym apart)
-    (between-more bytes (enter n.Paragraph row.first) (events ++ old) b.first
-    (between-append bytes events old (chunk-between bytes row.first row.end (behind_row row) b.ended b.first b.end b.behind) (between-rest bytes (enter n.Paragraph next.first) old h)))
+-- what stands in front of a line, a block, and what follows it
+line-between : (bytes : List ℕ) (name : Name) (front inside : List Event) (row : Row) → RowBetween bytes row → AreBetween bytes front → AreBetween bytes inside → AreBetween bytes (front ++ inside ++ tail_events name row)
+line-between bytes name front inside row b h k = between-append bytes (front ++ inside) (tail_events name row) (between-append bytes front inside h k) (tail-between bytes name row b.end b.behind)
 
--- a line in front of others
-between-row : (bytes : List ℕ) (row : Row) (gs : List Group) → RowBetween bytes row → AreBetween bytes (groups_events bytes gs) → (kind : RowKind) → row.kind ≡ kind → AreBetween bytes (groups_events bytes (onto_groups row kind gs))
-between-row bytes row gs b h BlankRow e =
-    subst (λ (k : RowKind). AreBetween bytes (single_events_by bytes k row ++ groups_events bytes gs)) (sym e)
-    (between-append bytes (row.inside ++ ending_events n.BlankLineEnding row) (groups_events bytes gs)
-    (between-append bytes row.inside (ending_events n.BlankLineEnding row) (b.inside (blank-no_heading row.kind e)) (ending-between bytes n.BlankLineEnding row b.end b.behind)) h)
-between-row bytes row gs b h HeadingRow e =
-    subst (λ (k : RowKind). AreBetween bytes (single_events_by bytes k row ++ groups_events bytes gs)) (sym e)
-    (around-between bytes n.HeadingAtx n.LineEnding row (read_title bytes (row_title bytes row)) (groups_events bytes gs) b b.title h)
-between-row bytes row gs b h BreakRow e =
-    subst (λ (k : RowKind). AreBetween bytes (single_events_by bytes k row ++ groups_events bytes gs)) (sym e)
-    (around-between bytes n.ThematicBreak n.LineEnding row row.inside (groups_events bytes gs) b (b.inside (break-no_heading row.kind e)) h)
-between-row bytes row [] b h TextRow e = between-first bytes row [] b h
-between-row bytes row (Single next ∷ gs) b h TextRow e = between-first bytes row (Single next ∷ gs) b h
-between-row bytes row (Lines next rows ∷ gs) b h TextRow e = between-next bytes row next rows gs b h
+single-between : (bytes : List ℕ) (row : Row) → RowBetween bytes row → (kind : RowKind) → row.kind ≡ kind → AreBetween bytes (single_events_by bytes kind row)
+single-between bytes row b BlankRow e = line-between bytes n.BlankLineEnding row.front row.inside row b b.front (b.inside (blank-no_heading row.kind e))
+single-between bytes row b HeadingRow e =
+    let inside : List Event = read_title bytes (row_title bytes row) in
+    line-between bytes n.LineEnding row.front (around n.HeadingAtx row.first row.end inside) row b b.front (around-between bytes n.HeadingAtx row.first row.end inside b.first b.end b.title)
+single-between bytes row b BreakRow e =
+    line-between bytes n.LineEnding row.front (around n.ThematicBreak row.first row.end row.inside) row b b.front (around-between bytes n.ThematicBreak row.first row.end row.inside b.first b.end (b.inside (break-no_heading row.kind e)))
+single-between bytes row b TextRow e =
+    let content : List Event = enter_link n.Content row.first content_link ∷ exit n.Content row.end ∷ [] in
+    line-between bytes n.LineEnding row.front content row b b.front
+    (between-more bytes (enter_link n.Content row.first content_link) (exit n.Content row.end ∷ []) b.first (between-more bytes (exit n.Content row.end) [] b.end refl))
 
--- The groups of the lines of a text stand between its characters.
-pub rows-between : (options : ParseOptions) (bytes : List ℕ) (p : Point) (lines : List (List ℕ)) (rows : List Row) → is_between bytes p.index ≡ true → AreRows options bytes p lines rows → AreBetween bytes (groups_events bytes (groups rows))
-rows-between options bytes p (line ∷ []) (row ∷ []) from are =
-    let is : IsRow options bytes line row = are.0 in
+groups-between : (bytes : List ℕ) (gs : List Group) → EachGroup (RowBetween bytes) gs → AreBetween bytes (groups_events bytes gs)
+groups-between bytes [] h = refl
+groups-between bytes (Single row ∷ gs) h = between-append bytes (single_events_by bytes row.kind row) (groups_events bytes gs) (single-between bytes row h.0 row.kind refl) (groups-between bytes gs h.1)
+groups-between bytes (Lines row rows ∷ gs) h =
+    let last : Row = last_row row rows in
+    let b : RowBetween bytes last = last-each (RowBetween bytes) row rows h.0.0 h.0.1 in
+    let first : RowBetween bytes row = h.0.0 in
+    let inside : List Event = read_lines bytes row rows in
+    between-append bytes (row.front ++ around n.Paragraph row.first last.end inside ++ tail_events n.LineEnding last) (groups_events bytes gs)
+    (line-between bytes n.LineEnding row.front (around n.Paragraph row.first last.end inside) last b first.front (around-between bytes n.Paragraph row.first last.end inside first.first b.end (lines-between bytes row rows h.0.0 h.0.1)))
+    (groups-between bytes gs h.1)
+
+-- Each line of a text stands so.
+pub rows-stand : (options : ParseOptions) (bytes : List ℕ) (depth : ℕ) (going : Bool) (p : Point) (lines : List (List ℕ)) (rows : List Row) → is_between bytes p.index ≡ true → AreRows options bytes depth going p lines rows → EachRow (RowBetween bytes) rows
+rows-stand options bytes depth going p (line ∷ []) (row ∷ []) from are =
+    let at : IsLine options bytes depth going p line row = are.0 in
+    let rest : List ℕ = rest_line (quoted options depth going (rest_from p line)).rest in
+    let is : IsRow options bytes rest row = at.is in
     let end : is_between bytes row.end.index ≡ true = between-end bytes row.end.index are.3 in
     let behind : behind_row row ≡ row.end = behind-none row are.2 in
-    let first : is_between bytes row.first.index ≡ true = subst (λ (q : Point). is_between bytes q.index ≡ true) (sym are.1) from in
-    between-row bytes row [] (record {
-      first = first;
-      end = end;
-      behind = subst (λ (q : Point). is_between bytes q.index ≡ true) (sym behind) end;
-      inside = inside-between options bytes line row is end;
-      title = row_title-between options bytes line row is first end;
-      alone = line_end-alone options bytes line row is;
-      ended = subst (λ (q : Point). line_end bytes (record { first = row.first; after = q }) ≡ row.end) (sym behind) (line_end-alone options bytes line row is);
-    }) refl row.kind refl
-rows-between options bytes p (line ∷ next ∷ lines) (row ∷ below ∷ rows) from are =
-    let is : IsRow options bytes line row = are.0 in
+    let front = fronts-between bytes row.opens p row.first row.front from at.front in
+    (
+      record {
+        first = front.1;
+        end = end;
+        behind = subst (λ (q : Point). is_between bytes q.index ≡ true) (sym behind) end;
+        front = front.0;
+        inside = inside-between options bytes rest row is end;
+        title = row_title-between options bytes rest row is front.1 end;
+        alone = line_end-alone options bytes rest row is;
+        ended = subst (λ (q : Point). line_end bytes (record { first = row.first; after = q }) ≡ row.end) (sym behind) (line_end-alone options bytes rest row is);
+      },
+      tt,
+    )
+rows-stand options bytes depth going p (line ∷ next ∷ lines) (row ∷ below ∷ rows) from are =
+    let at : IsLine options bytes depth going p line row = are.0 in
+    let rest : List ℕ = rest_line (quoted options depth going (rest_from p line)).rest in
+    let is : IsRow options bytes rest row = at.is in
     let end : is_between bytes row.end.index ≡ true = ending-before bytes row.end are.2 are.4 in
     let after : is_between bytes are.2.index ≡ true = ending-behind bytes row.end are.2 are.4 in
     let behind : behind_row row ≡ are.2 = behind-is row are.2 are.3 in
-    let first : is_between bytes row.first.index ≡ true = subst (λ (q : Point). is_between bytes q.index ≡ true) (sym are.1) from in
-    between-row bytes row (groups (below ∷ rows)) (record {
-      first = first;
-      end = end;
-      behind = subst (λ (q : Point). is_between bytes q.index ≡ true) (sym behind) after;
-      inside = inside-between options bytes line row is end;
-      title = row_title-between options bytes line row is first end;
-      alone = line_end-alone options bytes line row is;
-      ended = subst (λ (q : Point). line_end bytes (record { first = row.first; after = q }) ≡ row.end) (sym behind) (line_end-ended options bytes line row are.2 is are.4);
-    }) (rows-between options bytes are.2 (next ∷ lines) (below ∷ rows) after are.5) row.kind refl
-rows-between options bytes p lines rows from are = absurd are
+    let front = fronts-between bytes row.opens p row.first row.front from at.front in
+    (
+      record {
+        first = front.1;
+        end = end;
+        behind = subst (λ (q : Point). is_between bytes q.index ≡ true) (sym behind) after;
+        front = front.0;
+        inside = inside-between options bytes rest row is end;
+        title = row_title-between options bytes rest row is front.1 end;
+        alone = line_end-alone options bytes rest row is;
+        ended = subst (λ (q : Point). line_end bytes (record { first = row.first; after = q }) ≡ row.end) (sym behind) (line_end-ended options bytes rest row are.2 is are.4);
+      },
+      rows-stand options bytes (depth_behind options depth going p line) (is_text row.kind) are.2 (next ∷ lines) (below ∷ rows) after are.5,
+    )
+rows-stand options bytes depth going p lines rows from are = absurd are
+
+-- The groups of the lines of a text stand between its characters.
+pub rows-between : (options : ParseOptions) (bytes : List ℕ) (p : Point) (lines : List (List ℕ)) (rows : List Row) → is_between bytes p.index ≡ true → AreRows options bytes 0 false p lines rows → AreBetween bytes (groups_events bytes (groups rows))
+rows-between options bytes p lines rows from are = groups-between bytes (groups rows) (groups-each (RowBetween bytes) rows (rows-stand options bytes 0 false p lines rows from are))

@@ -1,0 +1,35 @@
+-- What holds of each line of a text holds of each line of its groups.
+use Rattle.std.proofs.Common.{Bool, true, false, cond, List, [], ◌∷◌}
+use Rattle.markdown_blocks.specs.Rows.{BlankRow, BreakRow, Group, HeadingRow, Lines, Row, RowKind, Single, TextRow, goes_on, groups, last_row, onto_groups}
+
+abbrev pub EachRow : (Row → Type 0) → List Row → Type 0
+EachRow P [] = Unit {0}
+EachRow P (row ∷ rows) = P row × EachRow P rows
+
+abbrev pub OfGroup : (Row → Type 0) → Group → Type 0
+OfGroup P (Single row) = P row
+OfGroup P (Lines row rows) = P row × EachRow P rows
+
+abbrev pub EachGroup : (Row → Type 0) → List Group → Type 0
+EachGroup P [] = Unit {0}
+EachGroup P (group ∷ groups) = OfGroup P group × EachGroup P groups
+
+onto-each : (P : Row → Type 0) (row : Row) (kind : RowKind) (gs : List Group) → P row → EachGroup P gs → EachGroup P (onto_groups row kind gs)
+onto-each P row BlankRow gs h k = (h, k)
+onto-each P row HeadingRow gs h k = (h, k)
+onto-each P row BreakRow gs h k = (h, k)
+onto-each P row TextRow [] h k = ((h, tt), k)
+onto-each P row TextRow (Single below ∷ gs) h k = ((h, tt), k)
+onto-each P row TextRow (Lines below rows ∷ gs) h k = go (goes_on row below)
+  where
+    go : (x : Bool) → EachGroup P (cond x (Lines row (below ∷ rows) ∷ gs) (Lines row [] ∷ Lines below rows ∷ gs))
+    go true = ((h, k.0), k.1)
+    go false = ((h, tt), k)
+
+pub groups-each : (P : Row → Type 0) (rows : List Row) → EachRow P rows → EachGroup P (groups rows)
+groups-each P [] h = tt
+groups-each P (row ∷ rows) h = onto-each P row row.kind (groups rows) h.0 (groups-each P rows h.1)
+
+pub last-each : (P : Row → Type 0) (row : Row) (rows : List Row) → P row → EachRow P rows → P (last_row row rows)
+last-each P row [] h k = h
+last-each P row (next ∷ rows) h k = last-each P next rows k.0 k.1
