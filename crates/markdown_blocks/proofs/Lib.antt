@@ -29,6 +29,7 @@ pub mod TreeSections
 pub mod Parses
 pub mod TextCuts
 pub mod Sketches
+pub mod PartedRows
 pub mod PlainEvents
 pub mod ParagraphReads
 pub mod TitleFacts
