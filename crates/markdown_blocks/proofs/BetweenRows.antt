@@ -43,7 +43,7 @@ use Rattle.markdown_blocks.proofs.TitleNests.{back_bytes, blank-no_heading, brea
 
 -- Bytes of ASCII.
 
-abbrev is_low : ℕ → Bool
+abbrev pub is_low : ℕ → Bool
 is_low b = nat_lt b 128
 
 all-more : (test next : ℕ → Bool) (xs : List ℕ) → ((x : ℕ) → test x ≡ true → next x ≡ true) → list_all test xs ≡ true → list_all next xs ≡ true
@@ -130,7 +130,7 @@ between-end : (bytes : List ℕ) (i : ℕ) → i ≡ length bytes → is_between
 between-end bytes i e = grind (arith, nat_tests)
 
 -- so is one behind a byte of ASCII
-between-behind : (bytes : List ℕ) (i : ℕ) → is_low (slice_index bytes (i - 1)) ≡ true → is_between bytes i ≡ true
+pub between-behind : (bytes : List ℕ) (i : ℕ) → is_low (slice_index bytes (i - 1)) ≡ true → is_between bytes i ≡ true
 between-behind bytes i h = grind (arith, nat_tests)
 
 -- and one in front of it
@@ -150,7 +150,7 @@ ending-before bytes p q is =
     let size : q.index ≡ p.index + length (ending_bytes is.ending) = is.size in
     between-before bytes p.index (low-at bytes (ending_bytes is.ending) p.index q.index p.index is.text is.size facts.0 (omega arith) (omega arith))
 
-ending-behind : (bytes : List ℕ) (p q : Point) → IsEnding bytes p q → is_between bytes q.index ≡ true
+pub ending-behind : (bytes : List ℕ) (p q : Point) → IsEnding bytes p q → is_between bytes q.index ≡ true
 ending-behind bytes p q is =
     let facts : (list_all is_low (ending_bytes is.ending) ≡ true) × (0 < length (ending_bytes is.ending)) = ending-low is.ending in
     let size : q.index ≡ p.index + length (ending_bytes is.ending) = is.size in
@@ -182,7 +182,7 @@ between-unless bytes name p q h k = go (same_place p q)
     go true = refl
     go false = between-pair bytes name p q h k
 
-order-index : (p q : Point) → IsTrue (at_or_before p q) → p.index ≤ q.index
+pub order-index : (p q : Point) → IsTrue (at_or_before p q) → p.index ≤ q.index
 order-index p q h = grind (arith, nat_tests)
 
 -- events that go forward lie between two places
@@ -281,7 +281,7 @@ around-between bytes name p q inside h k i = between-more bytes (enter name p) (
 -- Fronts.
 
 -- a byte of whitespace in a part of the text, or behind its end
-white-at : (bytes : List ℕ) (a e i : ℕ) → is_blank (slice_range bytes a e) ≡ true → a ≤ i → i < e → is_low (slice_index bytes i) ≡ true
+pub white-at : (bytes : List ℕ) (a e i : ℕ) → is_blank (slice_range bytes a e) ≡ true → a ≤ i → i < e → is_low (slice_index bytes i) ≡ true
 white-at bytes a e i h k l = go (nat_lt (i - a) (length line)) refl
   where
     line : List ℕ
@@ -311,7 +311,7 @@ white-between bytes a e h k from = go (a == e) refl
         between-behind bytes e (white-at bytes a e (e - 1) h (omega (arith, below)) (omega (arith, below)))
 
 -- a prefix stands between characters, if it begins so
-prefix-between : (bytes : List ℕ) (p q : Point) (es : List Event) → is_between bytes p.index ≡ true → IsPrefix bytes p q es → AreBetween bytes es × (is_between bytes q.index ≡ true)
+pub prefix-between : (bytes : List ℕ) (p q : Point) (es : List Event) → is_between bytes p.index ≡ true → IsPrefix bytes p q es → AreBetween bytes es × (is_between bytes q.index ≡ true)
 prefix-between bytes p q es from is =
     let quote : slice_index bytes is.marker.index ≡ 62 = get_or_from_slice_get bytes is.marker.index 62 0 is.byte in
     let low : is_low (slice_index bytes is.marker.index) ≡ true = subst (λ (b : ℕ). is_low b ≡ true) (sym quote) refl in

@@ -12,7 +12,10 @@ use Rattle.md_seam.specs.Inline.{pair_unless_empty}
 use Rattle.md_seam.specs.Nested.{Balanced, Forward, Matches, enter, exit, last_point, open_after, pair}
 use Rattle.md_seam.specs.Places.{at_or_before, same_place}
 use Rattle.md_seam.specs.Rest.{Rest}
+use Rattle.md_seam.specs.Spelled.{Holds, IsQuiet, QuoteShape, Role}
+use Rattle.md_seam.specs.Spelled as spelled
 use Rattle.md_seam.proofs.NestedLemmas.{at_or_before-refl, at_or_before-trans, balanced-append, balanced-matches, balanced-none, balanced-open, forward-last, matches-append, open_after-append}
+use Rattle.md_seam.proofs.SpelledLemmas.{Roles, roles-append}
 use Rattle.markdown_blocks.specs.Fronted.{Prefixed, Quoted, no_prefix, one_more, quoted, quotes_new, quotes_on, rest_line}
 use Rattle.markdown_blocks.specs.Rows.{is_lazy, line_kind, quote_ends}
 use Rattle.markdown_blocks.proofs.FrontFacts.{Begins, Behind, Fronts, Goes, IsPrefix}
@@ -79,6 +82,30 @@ pub fronts-balanced : (bytes : List ℕ) (opens : ℕ) (p q : Point) (front : Li
 fronts-balanced bytes _ p _ _ (Behind _) e = balanced-none
 fronts-balanced bytes opens p r _ (Goes _ _ q _ es fs is more) e = balanced-append es fs (prefix-balanced bytes p q es is) (fronts-balanced bytes opens q r fs more e)
 fronts-balanced bytes _ p r _ (Begins opens _ q _ es fs is more) e = cc
+
+-- What is read of what stands in front of a line is quiet, a prefix or a quote, and so are the ends of quotes.
+
+list-roles : (P : Role → Type 0) (p marker behind q : Point) → P IsQuiet → P spelled.IsPrefix → Roles P (prefix_list p marker behind q)
+list-roles P p marker behind q quiet prefix = go (same_place p marker) (same_place behind q)
+  where
+    go : (x y : Bool) → Roles P (cond x [] (pair n.SpaceOrTab p marker) ++ enter n.BlockQuotePrefix marker ∷ enter n.BlockQuoteMarker marker ∷ exit n.BlockQuoteMarker behind ∷ cond y [] (pair n.SpaceOrTab behind q) ++ exit n.BlockQuotePrefix q ∷ [])
+    go true true = (prefix, (quiet, (quiet, (prefix, tt))))
+    go true false = (prefix, (quiet, (quiet, (quiet, (quiet, (prefix, tt))))))
+    go false true = (quiet, (quiet, (prefix, (quiet, (quiet, (prefix, tt))))))
+    go false false = (quiet, (quiet, (prefix, (quiet, (quiet, (quiet, (quiet, (prefix, tt))))))))
+
+prefix-roles : (P : Role → Type 0) (bytes : List ℕ) (p q : Point) (es : List Event) → P IsQuiet → P spelled.IsPrefix → IsPrefix bytes p q es → Roles P es
+prefix-roles P bytes p q es quiet prefix is = subst (Roles P) (sym is.events) (list-roles P p is.marker is.behind q quiet prefix)
+
+pub fronts-roles : (P : Role → Type 0) (bytes : List ℕ) (opens : ℕ) (p q : Point) (front : List Event) → P IsQuiet → P spelled.IsPrefix → P (Holds QuoteShape) → Fronts bytes opens p q front → Roles P front
+fronts-roles P bytes _ p _ _ quiet prefix quote (Behind _) = tt
+fronts-roles P bytes opens p r _ quiet prefix quote (Goes _ _ q _ es fs is more) = roles-append P es fs (prefix-roles P bytes p q es quiet prefix is) (fronts-roles P bytes opens q r fs quiet prefix quote more)
+fronts-roles P bytes _ p r _ quiet prefix quote (Begins opens _ q _ es fs is more) =
+    (quote, roles-append P es fs (prefix-roles P bytes p q es quiet prefix is) (fronts-roles P bytes opens q r fs quiet prefix quote more))
+
+pub ends-roles : (P : Role → Type 0) (many : ℕ) (p : Point) → P (Holds QuoteShape) → Roles P (quote_ends many p)
+ends-roles P zero p h = tt
+ends-roles P (suc many) p h = (h, ends-roles P many p h)
 
 -- Open quotes.
 

@@ -34,6 +34,7 @@ pub mod TreeRows
 pub mod Parses
 pub mod TextCuts
 pub mod Sketches
+pub mod PartedRows
 pub mod PlainEvents
 pub mod ParagraphReads
 pub mod TitleFacts

@@ -1,5 +1,5 @@
--- The events of a text where only headings and breaks are on are those that an outline can be made of.
-use Rattle.std.proofs.Common.{◌≡◌, ◌≢◌, ℕ, ◌+◌, Bool, true, false, cond, ◌||◌, ◌==◌, not, List, [], ◌∷◌, ◌++◌, length, take, drop, refl, sym, ◌∙◌, ap}
+-- The events of a text where only quotes, headings and breaks are on are those that an outline can be made of.
+use Rattle.std.proofs.Common.{◌≡◌, ◌≢◌, ℕ, ◌+◌, Bool, true, false, cond, ◌||◌, ◌&&◌, ◌==◌, not, List, [], ◌∷◌, ◌++◌, length, take, drop, refl, sym, ◌∙◌, ap}
 use Rattle.std.specs.Prelude.{Option, Some, None}
 use Rattle.std.specs.List.{list_all}
 use Rattle.std.specs.Str.{IsUtf8}
@@ -7,291 +7,237 @@ use Rattle.std.proofs.lemmas.Bool.{and_from, and_parts, true≢false}
 use Rattle.std.proofs.lemmas.List.Folds.{list_all-append}
 use Rattle.md_engine.specs.declared.configuration.ParseOptions.{ParseOptions}
 use Rattle.md_engine.specs.declared.event.Event.{Event}
-use Rattle.md_engine.specs.declared.event.Kind.{Kind}
-use Rattle.md_engine.specs.declared.event.Kind.TheVariants.{Enter, Exit}
 use Rattle.md_engine.specs.declared.event.Name.{Name}
 use Rattle.md_engine.specs.declared.event.Name.TheVariants as n
 use Rattle.md_engine.specs.declared.event.Point.{Point}
 use Rattle.md_leaves.specs.HeadingRule.{Apart, Hashes, Run, Text as TextRun, White, begun, closes, goes_on, opens}
 use Rattle.md_leaves.specs.HeadingTitle.{Title, chunk_unless_empty, front_len, line_runs, text_of, title_of}
 use Rattle.md_seam.specs.declared.inline.Chunk.{Chunk}
-use Rattle.md_seam.specs.declared.inline.PartKind.TheVariants.{Text}
-use Rattle.md_seam.specs.Inline.{line_end, plain_chunk, plain_chunks, plain_events, together}
-use Rattle.md_seam.specs.Lines.{begins_with}
+use Rattle.md_seam.specs.Inline.{line_end, plain_chunk}
 use Rattle.md_seam.specs.Nested.{Balanced, around, enter, exit, pair}
-use Rattle.md_seam.specs.Places.{past_byte, same_place}
-use Rattle.md_seam.specs.Spelled.{AsHeading, AsMarkers, AsParagraph, IsEnding, IsQuiet, OfBreak, OfHeadingAtx, Opens, Role, Tells, role, spelled}
-use Rattle.md_seam.proofs.SpelledLemmas.{Quiet, Roles}
+use Rattle.md_seam.specs.Places.{past_byte, past_text, same_place}
+use Rattle.md_seam.specs.Spelled.{IsQuiet, Role, byte_at, role, spelled}
+use Rattle.md_seam.proofs.SpelledLemmas.{Quiet, Roles, roles-append}
 use Rattle.markdown_blocks.specs.Between.{is_between}
-use Rattle.markdown_blocks.specs.declared.outline.Span.{Span}
-use Rattle.markdown_blocks.specs.Outlined.{IsOutlined, are_parted, are_shallow, has_plain_name, is_plain, is_told, is_unparted, is_whole, parts_by, piece_to, span_by}
-use Rattle.markdown_blocks.specs.Rows.{BlankRow, BreakRow, Group, HeadingRow, Lines, Row, RowKind, Single, TextRow, chunks_of, ending_events, group_events, groups, groups_events, last_row, onto_groups, read_text, read_title, row_line, row_title, single_events_by}
-use Rattle.md_seam.proofs.FeedLines.{past_text-whole}
-use Rattle.markdown_blocks.proofs.RowFacts.{AreRows, IsInside}
+use Rattle.markdown_blocks.specs.Fronted.{quoted, rest_from, rest_line}
+use Rattle.markdown_blocks.specs.Outlined.{IsOutlined, are_shallow, has_plain_name, is_plain, is_told, tells_between}
+use Rattle.markdown_blocks.specs.Rows.{BlankRow, BreakRow, Group, HeadingRow, Lines, Row, RowKind, Single, TextRow, behind_row, ending_events, group_events, groups, groups_events, is_text, last_row, quote_ends, read_lines, read_text, read_title, row_line, row_title, single_events_by, tail_events}
+use Rattle.markdown_blocks.proofs.EachRow.{EachGroup, EachRow, OfGroup, groups-each, last-each}
+use Rattle.markdown_blocks.proofs.FrontLemmas.{ends-roles, fronts-roles}
+use Rattle.markdown_blocks.proofs.PartedRows.{clear, clear-between, rest-clear, rows-parted}
+use Rattle.markdown_blocks.proofs.RowFacts.{AreRows, IsInside, IsLine, depth_behind}
 use Rattle.markdown_blocks.proofs.TitleNests.{blank-no_heading, break-no_heading, text_begin, text_end}
 
--- the roles of breaks, headings and paragraphs, and of what the tree does not show
-abbrev is_leaf : Role → Bool
-is_leaf (Opens OfBreak) = true
-is_leaf (Opens OfHeadingAtx) = true
-is_leaf (Tells AsParagraph) = true
-is_leaf (Tells AsHeading) = true
-is_leaf (Tells AsMarkers) = true
-is_leaf IsEnding = true
-is_leaf IsQuiet = true
-is_leaf _ = false
+-- whether a text begins or ends at such a point
+abbrev pub is_clear : List ℕ → Event → Bool
+is_clear bytes e = not (is_told (role e.name)) || clear bytes e.point
 
-abbrev pub has_leaf_name : Event → Bool
-has_leaf_name e = is_leaf (role e.name)
+-- what is known of the names and the points of events
+pub record ArePlain (bytes : List ℕ) (events : List Event) : Type 0 where
+  pub names : list_all has_plain_name events ≡ true
+  pub texts : list_all (is_clear bytes) events ≡ true
 
--- what is known of the names and the columns of events without containers
-pub record ArePlain (events : List Event) : Type 0 where
-  pub names : list_all has_leaf_name events ≡ true
-  pub whole : list_all is_whole events ≡ true
+plain-nil : (bytes : List ℕ) → ArePlain bytes []
+plain-nil bytes = record { names = refl; texts = refl }
 
-pub plain-nil : ArePlain []
-plain-nil = record { names = refl; whole = refl }
-
-pub plain-append : (xs ys : List Event) → ArePlain xs → ArePlain ys → ArePlain (xs ++ ys)
-plain-append xs ys h k = record {
-  names = list_all-append has_leaf_name xs ys ∙ and_from (list_all has_leaf_name xs) (list_all has_leaf_name ys) h.names k.names;
-  whole = list_all-append is_whole xs ys ∙ and_from (list_all is_whole xs) (list_all is_whole ys) h.whole k.whole;
+plain-append : (bytes : List ℕ) (xs ys : List Event) → ArePlain bytes xs → ArePlain bytes ys → ArePlain bytes (xs ++ ys)
+plain-append bytes xs ys h k = record {
+  names = list_all-append has_plain_name xs ys ∙ and_from (list_all has_plain_name xs) (list_all has_plain_name ys) h.names k.names;
+  texts = list_all-append (is_clear bytes) xs ys ∙ and_from (list_all (is_clear bytes) xs) (list_all (is_clear bytes) ys) h.texts k.texts;
 }
 
-pub plain-cons : (e : Event) (es : List Event) → has_leaf_name e ≡ true → is_whole e ≡ true → ArePlain es → ArePlain (e ∷ es)
-plain-cons e es h w k = record {
-  names = and_from (has_leaf_name e) (list_all has_leaf_name es) h k.names;
-  whole = and_from (is_whole e) (list_all is_whole es) w k.whole;
+plain-cons : (bytes : List ℕ) (e : Event) (es : List Event) → has_plain_name e ≡ true → is_clear bytes e ≡ true → ArePlain bytes es → ArePlain bytes (e ∷ es)
+plain-cons bytes e es h w k = record {
+  names = and_from (has_plain_name e) (list_all has_plain_name es) h k.names;
+  texts = and_from (is_clear bytes e) (list_all (is_clear bytes) es) w k.texts;
 }
 
-quiet-plain : (x : Role) → Quiet x → is_leaf x ≡ true
-quiet-plain IsQuiet h = refl
-quiet-plain _ h = absurd h
+-- a role that is plain, and no text
+abbrev Untold : Role → Type 0
+Untold x = (is_plain x ≡ true) × (not (is_told x) ≡ true)
 
-quiet-whole : (x : Role) (b : Bool) → Quiet x → (not (is_told x) || b) ≡ true
-quiet-whole IsQuiet b h = refl
-quiet-whole _ b h = absurd h
+plain-untold : (bytes : List ℕ) (es : List Event) → Roles Untold es → ArePlain bytes es
+plain-untold bytes [] h = plain-nil bytes
+plain-untold bytes (e ∷ es) h = plain-cons bytes e es h.0.0 (ap (λ (x : Bool). x || clear bytes e.point) h.0.1) (plain-untold bytes es h.1)
+
+quiet-untold : (x : Role) → Quiet x → Untold x
+quiet-untold IsQuiet h = (refl, refl)
+quiet-untold _ h = absurd h
+
+quiets-untold : (es : List Event) → Roles Quiet es → Roles Untold es
+quiets-untold [] h = tt
+quiets-untold (e ∷ es) h = (quiet-untold (role e.name) h.0, quiets-untold es h.1)
 
 -- what the tree does not show
-pub plain-quiet : (es : List Event) → Roles Quiet es → ArePlain es
-plain-quiet [] h = plain-nil
-plain-quiet (e ∷ es) h = plain-cons e es (quiet-plain (role e.name) h.0) (quiet-whole (role e.name) (e.point.vs == 0) h.0) (plain-quiet es h.1)
+plain-quiet : (bytes : List ℕ) (es : List Event) → Roles Quiet es → ArePlain bytes es
+plain-quiet bytes es h = plain-untold bytes es (quiets-untold es h)
 
--- a part of such a name around such events, which cuts no tab if the tree shows its text
-plain-around : (name : Name) (p q : Point) (inside : List Event) → is_leaf (role name) ≡ true → (not (is_told (role name)) || (p.vs == 0)) ≡ true → (not (is_told (role name)) || (q.vs == 0)) ≡ true → ArePlain inside →
-    ArePlain (around name p q inside)
-plain-around name p q inside plain begin end h = plain-cons (enter name p) (inside ++ exit name q ∷ []) plain begin (plain-append inside (exit name q ∷ []) h (plain-cons (exit name q) [] plain end plain-nil))
+-- a part of such a name around such events, which begins and ends clear if the tree shows its text
+plain-around : (bytes : List ℕ) (name : Name) (p q : Point) (inside : List Event) → is_plain (role name) ≡ true → (not (is_told (role name)) || clear bytes p) ≡ true → (not (is_told (role name)) || clear bytes q) ≡ true → ArePlain bytes inside →
+    ArePlain bytes (around name p q inside)
+plain-around bytes name p q inside plain begin end h =
+    plain-cons bytes (enter name p) (inside ++ exit name q ∷ []) plain begin (plain-append bytes inside (exit name q ∷ []) h (plain-cons bytes (exit name q) [] plain end (plain-nil bytes)))
 
-plain-ending : (name : Name) (row : Row) → is_leaf (role name) ≡ true → not (is_told (role name)) ≡ true → ArePlain (ending_events name row)
-plain-ending name row plain untold = go row.after
+-- the ends of quotes, and an ending
+plain-tail : (bytes : List ℕ) (name : Name) (row : Row) → Untold (role name) → ArePlain bytes (tail_events name row)
+plain-tail bytes name row h = plain-untold bytes (tail_events name row) (roles-append Untold (quote_ends row.leaves row.end) (ending_events name row) (ends-roles Untold row.leaves row.end (refl, refl)) (go row.after))
   where
-    go : (o : Option Point) → ArePlain (elim o [ None ↦ [] | Some q ↦ pair name row.end q ])
-    go None = plain-nil
-    go (Some q) =
-        plain-cons (enter name row.end) (exit name q ∷ []) plain (ap (λ (x : Bool). x || (row.end.vs == 0)) untold)
-        (plain-cons (exit name q) [] plain (ap (λ (x : Bool). x || (q.vs == 0)) untold) plain-nil)
+    go : (o : Option Point) → Roles Untold (elim o [ None ↦ [] | Some q ↦ pair name row.end q ])
+    go None = tt
+    go (Some q) = (h, (h, tt))
 
 -- what the plain layer gives
-plain-chunk : (bytes : List ℕ) (chunk : Chunk) → ArePlain (plain_chunk bytes chunk)
-plain-chunk bytes chunk = plain-append _ _ (line (same_place chunk.first (line_end bytes chunk))) (ending (same_place (line_end bytes chunk) chunk.after))
+chunk-plain : (bytes : List ℕ) (chunk : Chunk) → ArePlain bytes (plain_chunk bytes chunk)
+chunk-plain bytes chunk = plain-append bytes _ _ (line (same_place chunk.first (line_end bytes chunk))) (ending (same_place (line_end bytes chunk) chunk.after))
   where
-    line : (b : Bool) → ArePlain (cond b [] (pair n.Data chunk.first (line_end bytes chunk)))
-    line true = record { names = refl; whole = refl }
-    line false = record { names = refl; whole = refl }
+    line : (b : Bool) → ArePlain bytes (cond b [] (pair n.Data chunk.first (line_end bytes chunk)))
+    line true = record { names = refl; texts = refl }
+    line false = record { names = refl; texts = refl }
 
-    ending : (b : Bool) → ArePlain (cond b [] (pair n.LineEnding (line_end bytes chunk) chunk.after))
-    ending true = record { names = refl; whole = refl }
-    ending false = record { names = refl; whole = refl }
-
-plain-chunks : (bytes : List ℕ) (chunks : List Chunk) → ArePlain (together (plain_chunks bytes chunks))
-plain-chunks bytes [] = plain-nil
-plain-chunks bytes (chunk ∷ chunks) = plain-append (plain_chunk bytes chunk) (together (plain_chunks bytes chunks)) (plain-chunk bytes chunk) (plain-chunks bytes chunks)
+    ending : (b : Bool) → ArePlain bytes (cond b [] (pair n.LineEnding (line_end bytes chunk) chunk.after))
+    ending true = record { names = refl; texts = refl }
+    ending false = record { names = refl; texts = refl }
 
 -- Headings.
 
--- the begin and the end of a run that cuts no tab
-plain-closes : (run : Run) (p : Point) → p.vs ≡ 0 → ArePlain (closes run p)
-plain-closes Apart p h = plain-nil
-plain-closes White p h = record { names = refl; whole = refl }
-plain-closes Hashes p h = plain-cons (exit n.HeadingAtxSequence p) [] refl (ap (λ v. v == 0) h) plain-nil
-plain-closes TextRun p h = record { names = refl; whole = refl }
+-- behind a piece of a line
+past-clear : (bytes xs : List ℕ) (p : Point) → clear bytes p ≡ true → clear bytes (past_text xs p) ≡ true
+past-clear bytes [] p h = h
+past-clear bytes (b ∷ xs) p h = past-clear bytes xs (past_byte b p) refl
 
-plain-opens : (run : Run) (p : Point) → p.vs ≡ 0 → ArePlain (opens run p)
-plain-opens Apart p h = plain-nil
-plain-opens White p h = record { names = refl; whole = refl }
-plain-opens Hashes p h = plain-cons (enter n.HeadingAtxSequence p) [] refl (ap (λ v. v == 0) h) plain-nil
-plain-opens TextRun p h = record { names = refl; whole = refl }
+-- the begin and the end of a run
+plain-closes : (bytes : List ℕ) (run : Run) (p : Point) → clear bytes p ≡ true → ArePlain bytes (closes run p)
+plain-closes bytes Apart p h = plain-nil bytes
+plain-closes bytes White p h = record { names = refl; texts = refl }
+plain-closes bytes Hashes p h = plain-cons bytes (exit n.HeadingAtxSequence p) [] refl h (plain-nil bytes)
+plain-closes bytes TextRun p h = record { names = refl; texts = refl }
 
-plain-runs : (run : Run) (xs : List ℕ) (p : Point) → p.vs ≡ 0 → ArePlain (line_runs run xs p)
-plain-runs run [] p h = plain-closes run p h
-plain-runs run (b ∷ xs) p h = go (goes_on run b) (plain-runs run xs (past_byte b p) refl) (plain-runs (begun b) xs (past_byte b p) refl)
+plain-opens : (bytes : List ℕ) (run : Run) (p : Point) → clear bytes p ≡ true → ArePlain bytes (opens run p)
+plain-opens bytes Apart p h = plain-nil bytes
+plain-opens bytes White p h = record { names = refl; texts = refl }
+plain-opens bytes Hashes p h = plain-cons bytes (enter n.HeadingAtxSequence p) [] refl h (plain-nil bytes)
+plain-opens bytes TextRun p h = record { names = refl; texts = refl }
+
+plain-runs : (bytes : List ℕ) (run : Run) (xs : List ℕ) (p : Point) → clear bytes p ≡ true → ArePlain bytes (line_runs run xs p)
+plain-runs bytes run [] p h = plain-closes bytes run p h
+plain-runs bytes run (b ∷ xs) p h = go (goes_on run b) (plain-runs bytes run xs (past_byte b p) refl) (plain-runs bytes (begun b) xs (past_byte b p) refl)
   where
-    go : (more : Bool) → ArePlain (line_runs run xs (past_byte b p)) → ArePlain (line_runs (begun b) xs (past_byte b p)) →
-        ArePlain (cond more (line_runs run xs (past_byte b p)) ((closes run p ++ opens (begun b) p) ++ line_runs (begun b) xs (past_byte b p)))
+    go : (more : Bool) → ArePlain bytes (line_runs run xs (past_byte b p)) → ArePlain bytes (line_runs (begun b) xs (past_byte b p)) →
+        ArePlain bytes (cond more (line_runs run xs (past_byte b p)) ((closes run p ++ opens (begun b) p) ++ line_runs (begun b) xs (past_byte b p)))
     go true same next = same
     go false same next =
-        plain-append (closes run p ++ opens (begun b) p) (line_runs (begun b) xs (past_byte b p))
-        (plain-append (closes run p) (opens (begun b) p) (plain-closes run p h) (plain-opens (begun b) p h)) next
+        plain-append bytes (closes run p ++ opens (begun b) p) (line_runs (begun b) xs (past_byte b p))
+        (plain-append bytes (closes run p) (opens (begun b) p) (plain-closes bytes run p h) (plain-opens bytes (begun b) p h)) next
 
-plain-text : (bytes : List ℕ) (size : ℕ) (p q : Point) → p.vs ≡ 0 → q.vs ≡ 0 → ArePlain (read_text bytes (chunk_unless_empty size p q))
+plain-text : (bytes : List ℕ) (size : ℕ) (p q : Point) → clear bytes p ≡ true → clear bytes q ≡ true → ArePlain bytes (read_text bytes (chunk_unless_empty size p q))
 plain-text bytes size p q hp hq = go (size == 0)
   where
-    go : (none : Bool) → ArePlain (read_text bytes (cond none None (Some (record { first = p; after = q }))))
-    go true = plain-nil
+    go : (none : Bool) → ArePlain bytes (read_text bytes (cond none None (Some (record { first = p; after = q }))))
+    go true = plain-nil bytes
     go false =
         let chunk : Chunk = record { first = p; after = q } in
-        plain-around n.HeadingAtxText p q (plain_events bytes (record { kind = Text; chunks = chunk ∷ [] })) refl (ap (λ v. v == 0) hp) (ap (λ v. v == 0) hq) (plain-chunks bytes (chunk ∷ []))
+        plain-around bytes n.HeadingAtxText p q (plain_chunk bytes chunk ++ []) refl hp hq (plain-append bytes (plain_chunk bytes chunk) [] (chunk-plain bytes chunk) (plain-nil bytes))
 
-plain-title : (bytes line : List ℕ) (p : Point) → p.vs ≡ 0 → ArePlain (read_title bytes (title_of line p))
+plain-title : (bytes line : List ℕ) (p : Point) → clear bytes p ≡ true → ArePlain bytes (read_title bytes (title_of line p))
 plain-title bytes line p h =
     let title : Title = title_of line p in
     let size : ℕ = length (text_of line) in
-    let begin : (text_begin line p).vs ≡ 0 = past_text-whole (take (front_len line) line) p h in
-    let end : (text_end line p).vs ≡ 0 = past_text-whole (take (front_len line + size) line) p h in
-    plain-append (title.front ++ read_text bytes title.text) title.back
-    (plain-append title.front (read_text bytes title.text) (plain-runs Apart (take (front_len line) line) p h) (plain-text bytes size (text_begin line p) (text_end line p) begin end))
-    (plain-runs Apart (drop (front_len line + size) line) (text_end line p) end)
+    let begin : clear bytes (text_begin line p) ≡ true = past-clear bytes (take (front_len line) line) p h in
+    let end : clear bytes (text_end line p) ≡ true = past-clear bytes (take (front_len line + size) line) p h in
+    plain-append bytes (title.front ++ read_text bytes title.text) title.back
+    (plain-append bytes title.front (read_text bytes title.text) (plain-runs bytes Apart (take (front_len line) line) p h) (plain-text bytes size (text_begin line p) (text_end line p) begin end))
+    (plain-runs bytes Apart (drop (front_len line + size) line) (text_end line p) end)
 
 -- Rows.
 
--- a row without names of other blocks, that cuts no tab
-pub record IsPlainRow (row : Row) : Type 0 where
-  pub inside : row.kind ≢ HeadingRow → IsInside row
-  pub first : row.first.vs ≡ 0
-  pub end : row.end.vs ≡ 0
+-- a row without names of other blocks, whose ends are clear
+record IsPlainRow (bytes : List ℕ) (row : Row) : Type 0 where
+  front : ArePlain bytes row.front
+  inside : row.kind ≢ HeadingRow → IsInside row
+  first : clear bytes row.first ≡ true
+  end : clear bytes row.end ≡ true
 
-abbrev pub PlainRows : List Row → Type 0
-PlainRows [] = Unit {0}
-PlainRows (row ∷ rows) = IsPlainRow row × PlainRows rows
+-- what stands in front of a line, a block, and what follows it
+plain-line : (bytes : List ℕ) (name : Name) (front inside : List Event) (row : Row) → Untold (role name) → ArePlain bytes front → ArePlain bytes inside → ArePlain bytes (front ++ inside ++ tail_events name row)
+plain-line bytes name front inside row u h k = plain-append bytes (front ++ inside) (tail_events name row) (plain-append bytes front inside h k) (plain-tail bytes name row u)
 
-abbrev IsPlainGroup : Group → Type 0
-IsPlainGroup (Single row) = IsPlainRow row
-IsPlainGroup (Lines row rows) = IsPlainRow row × PlainRows rows
-
-abbrev PlainGroups : List Group → Type 0
-PlainGroups [] = Unit {0}
-PlainGroups (group ∷ groups) = IsPlainGroup group × PlainGroups groups
-
-plain-onto : (row : Row) (kind : RowKind) (gs : List Group) → IsPlainRow row → PlainGroups gs → PlainGroups (onto_groups row kind gs)
-plain-onto row TextRow (Lines first rows ∷ gs) h k = ((h, k.0), k.1)
-plain-onto row TextRow (Single below ∷ gs) h k = ((h, tt), k)
-plain-onto row TextRow [] h k = ((h, tt), tt)
-plain-onto row BlankRow gs h k = (h, k)
-plain-onto row HeadingRow gs h k = (h, k)
-plain-onto row BreakRow gs h k = (h, k)
-
-plain-groups : (rows : List Row) → PlainRows rows → PlainGroups (groups rows)
-plain-groups [] h = tt
-plain-groups (row ∷ rows) h = plain-onto row row.kind (groups rows) h.0 (plain-groups rows h.1)
-
-plain-last : (row : Row) (rows : List Row) → IsPlainRow row → PlainRows rows → IsPlainRow (last_row row rows)
-plain-last row [] h k = h
-plain-last row (next ∷ rows) h k = plain-last next rows k.0 k.1
-
-plain-row : (bytes : List ℕ) (row : Row) → IsPlainRow row → ArePlain (single_events_by bytes row.kind row)
+plain-row : (bytes : List ℕ) (row : Row) → IsPlainRow bytes row → ArePlain bytes (single_events_by bytes row.kind row)
 plain-row bytes row h = go row.kind refl
   where
-    quiet : row.kind ≢ HeadingRow → ArePlain row.inside
-    quiet other = let inside : IsInside row = h.inside other in plain-quiet row.inside inside.quiet
+    quiet : row.kind ≢ HeadingRow → ArePlain bytes row.inside
+    quiet other = let inside : IsInside row = h.inside other in plain-quiet bytes row.inside inside.quiet
 
-    go : (kind : RowKind) → row.kind ≡ kind → ArePlain (single_events_by bytes kind row)
-    go BlankRow e = plain-append row.inside (ending_events n.BlankLineEnding row) (quiet (blank-no_heading row.kind e)) (plain-ending n.BlankLineEnding row refl refl)
+    go : (kind : RowKind) → row.kind ≡ kind → ArePlain bytes (single_events_by bytes kind row)
+    go BlankRow e = plain-line bytes n.BlankLineEnding row.front row.inside row (refl, refl) h.front (quiet (blank-no_heading row.kind e))
     go HeadingRow e =
         let inside : List Event = read_title bytes (row_title bytes row) in
-        plain-append (around n.HeadingAtx row.first row.end inside) (ending_events n.LineEnding row)
-        (plain-around n.HeadingAtx row.first row.end inside refl refl refl (plain-title bytes (row_line bytes row) row.first h.first)) (plain-ending n.LineEnding row refl refl)
+        plain-line bytes n.LineEnding row.front (around n.HeadingAtx row.first row.end inside) row (refl, refl) h.front
+        (plain-around bytes n.HeadingAtx row.first row.end inside refl refl refl (plain-title bytes (row_line bytes row) row.first h.first))
     go BreakRow e =
-        plain-append (around n.ThematicBreak row.first row.end row.inside) (ending_events n.LineEnding row)
-        (plain-around n.ThematicBreak row.first row.end row.inside refl refl refl (quiet (break-no_heading row.kind e))) (plain-ending n.LineEnding row refl refl)
-    go TextRow e = plain-cons _ (exit n.Content row.end ∷ ending_events n.LineEnding row) refl refl (plain-cons _ (ending_events n.LineEnding row) refl refl (plain-ending n.LineEnding row refl refl))
+        plain-line bytes n.LineEnding row.front (around n.ThematicBreak row.first row.end row.inside) row (refl, refl) h.front
+        (plain-around bytes n.ThematicBreak row.first row.end row.inside refl refl refl (quiet (break-no_heading row.kind e)))
+    go TextRow e = plain-line bytes n.LineEnding row.front _ row (refl, refl) h.front (plain-cons bytes _ (exit n.Content row.end ∷ []) refl refl (plain-cons bytes (exit n.Content row.end) [] refl refl (plain-nil bytes)))
 
-plain-group : (bytes : List ℕ) (group : Group) → IsPlainGroup group → ArePlain (group_events bytes group)
+-- the text of a paragraph
+plain-lines : (bytes : List ℕ) (row : Row) (rows : List Row) → EachRow (IsPlainRow bytes) rows → ArePlain bytes (read_lines bytes row rows)
+plain-lines bytes row [] h = chunk-plain bytes (record { first = row.first; after = row.end })
+plain-lines bytes row (next ∷ rows) h =
+    let chunk : Chunk = record { first = row.first; after = behind_row row } in
+    plain-append bytes (plain_chunk bytes chunk ++ next.front) (read_lines bytes next rows) (plain-append bytes (plain_chunk bytes chunk) next.front (chunk-plain bytes chunk) h.0.front) (plain-lines bytes next rows h.1)
+
+plain-group : (bytes : List ℕ) (group : Group) → OfGroup (IsPlainRow bytes) group → ArePlain bytes (group_events bytes group)
 plain-group bytes (Single row) h = plain-row bytes row h
 plain-group bytes (Lines row rows) h =
     let last : Row = last_row row rows in
-    let inside : List Event = plain_events bytes (record { kind = Text; chunks = chunks_of row rows }) in
-    plain-append (around n.Paragraph row.first last.end inside) (ending_events n.LineEnding last)
-    (plain-around n.Paragraph row.first last.end inside refl (ap (λ v. v == 0) h.0.first) (ap (λ v. v == 0) (plain-last row rows h.0 h.1).end) (plain-chunks bytes (chunks_of row rows)))
-    (plain-ending n.LineEnding last refl refl)
+    let is : IsPlainRow bytes row = h.0 in
+    let last_is : IsPlainRow bytes last = last-each (IsPlainRow bytes) row rows h.0 h.1 in
+    let inside : List Event = read_lines bytes row rows in
+    plain-line bytes n.LineEnding row.front (around n.Paragraph row.first last.end inside) last (refl, refl) is.front (plain-around bytes n.Paragraph row.first last.end inside refl is.first last_is.end (plain-lines bytes row rows h.1))
 
-plain-all : (bytes : List ℕ) (gs : List Group) → PlainGroups gs → ArePlain (groups_events bytes gs)
-plain-all bytes [] h = plain-nil
-plain-all bytes (group ∷ gs) h = plain-append (group_events bytes group) (groups_events bytes gs) (plain-group bytes group h.0) (plain-all bytes gs h.1)
+plain-all : (bytes : List ℕ) (gs : List Group) → EachGroup (IsPlainRow bytes) gs → ArePlain bytes (groups_events bytes gs)
+plain-all bytes [] h = plain-nil bytes
+plain-all bytes (group ∷ gs) h = plain-append bytes (group_events bytes group) (groups_events bytes gs) (plain-group bytes group h.0) (plain-all bytes gs h.1)
 
 -- the rows of a text are such rows
-plain-rows : (options : ParseOptions) (bytes : List ℕ) (p : Point) (lines : List (List ℕ)) (rows : List Row) → AreRows options bytes p lines rows → PlainRows rows
-plain-rows options bytes p (line ∷ []) (row ∷ []) h = (record { inside = h.0.inside; first = h.0.first_whole; end = h.0.end_whole }, tt)
-plain-rows options bytes p (line ∷ next ∷ lines) (row ∷ below ∷ rows) h =
-    (record { inside = h.0.inside; first = h.0.first_whole; end = h.0.end_whole }, plain-rows options bytes h.2 (next ∷ lines) (below ∷ rows) h.5)
-plain-rows options bytes p [] rows h = absurd h
-plain-rows options bytes p (line ∷ []) [] h = absurd h
-plain-rows options bytes p (line ∷ next ∷ lines) [] h = absurd h
-plain-rows options bytes p (line ∷ []) (row ∷ below ∷ rows) h = absurd h
-plain-rows options bytes p (line ∷ next ∷ lines) (row ∷ []) h = absurd h
 
--- Where there is no container, no text is parted.
+line-plain : (options : ParseOptions) (bytes : List ℕ) (depth : ℕ) (going : Bool) (p : Point) (line : List ℕ) (row : Row) → IsLine options bytes depth going p line row → IsPlainRow bytes row
+line-plain options bytes depth going p line row at = record {
+  front = plain-untold bytes row.front (fronts-roles Untold bytes row.opens p row.first row.front (refl, refl) (refl, refl) (refl, refl) at.front);
+  inside = at.is.inside;
+  first = rest-clear options bytes depth going p line row at;
+  end = ap (λ (v : ℕ). (v == 0) || is_between bytes (byte_at row.end)) at.is.end_whole;
+}
 
-leaf-plain : (x : Role) → is_leaf x ≡ true → is_plain x ≡ true
-leaf-plain (Opens OfBreak) h = refl
-leaf-plain (Opens OfHeadingAtx) h = refl
-leaf-plain (Tells AsParagraph) h = refl
-leaf-plain (Tells AsHeading) h = refl
-leaf-plain (Tells AsMarkers) h = refl
-leaf-plain IsEnding h = refl
-leaf-plain IsQuiet h = refl
-leaf-plain _ h = absurd (true≢false (sym h))
+plain-rows : (options : ParseOptions) (bytes : List ℕ) (depth : ℕ) (going : Bool) (p : Point) (lines : List (List ℕ)) (rows : List Row) → AreRows options bytes depth going p lines rows → EachRow (IsPlainRow bytes) rows
+plain-rows options bytes depth going p (line ∷ []) (row ∷ []) h = (line-plain options bytes depth going p line row h.0, tt)
+plain-rows options bytes depth going p (line ∷ next ∷ lines) (row ∷ below ∷ rows) h =
+    (line-plain options bytes depth going p line row h.0, plain-rows options bytes (depth_behind options depth going p line) (is_text row.kind) h.2 (next ∷ lines) (below ∷ rows) h.5)
+plain-rows options bytes depth going p lines rows h = absurd h
 
-leaves-plain : (events : List Event) → list_all has_leaf_name events ≡ true → list_all has_plain_name events ≡ true
-leaves-plain [] h = refl
-leaves-plain (e ∷ events) h =
-    let parts = and_parts (has_leaf_name e) (list_all has_leaf_name events) h in
-    and_from (has_plain_name e) (list_all has_plain_name events) (leaf-plain (role e.name) parts.0) (leaves-plain events parts.1)
+-- a text that begins and ends clear, and between characters, does so also behind a tab that is cut
+tells-clear : (bytes : List ℕ) (told : Bool) (p : Point) → (not told || clear bytes p) ≡ true → is_between bytes p.index ≡ true → (not told || is_between bytes (byte_at p)) ≡ true
+tells-clear bytes false p h k = refl
+tells-clear bytes true p h k = clear-between bytes p h k
 
-leaf-parts : (bytes : List ℕ) (kind : Kind) (x : Role) (p : Point) (text : Option Span) → is_leaf x ≡ true → is_unparted text ≡ true → parts_by bytes kind x p text ≡ true
-leaf-parts bytes kind x p None h k = refl
-leaf-parts bytes Enter (Opens kind) p (Some text) h k = k
-leaf-parts bytes Enter (Tells purpose) p (Some text) h k = k
-leaf-parts bytes Enter IsEnding p (Some text) h k = refl
-leaf-parts bytes Enter IsQuiet p (Some text) h k = refl
-leaf-parts bytes Exit (Opens kind) p (Some text) h k = k
-leaf-parts bytes Exit (Tells AsParagraph) p (Some text) h k = ap (λ x. x || not (begins_with 10 (piece_to bytes p text))) k
-leaf-parts bytes Exit (Tells AsHeading) p (Some text) h k = k
-leaf-parts bytes Exit (Tells AsMarkers) p (Some text) h k = k
-leaf-parts bytes Exit IsEnding p (Some text) h k = refl
-leaf-parts bytes Exit IsQuiet p (Some text) h k = refl
-leaf-parts bytes kind _ p (Some text) h k = absurd (true≢false (sym h))
-
-leaf-span : (kind : Kind) (x : Role) (p : Point) (text : Option Span) → is_leaf x ≡ true → is_unparted text ≡ true → is_unparted (span_by kind x p text) ≡ true
-leaf-span Enter (Opens kind) p text h k = k
-leaf-span Enter (Tells purpose) p text h k = refl
-leaf-span Enter IsEnding p text h k = k
-leaf-span Enter IsQuiet p text h k = k
-leaf-span Exit (Opens kind) p text h k = k
-leaf-span Exit (Tells purpose) p text h k = refl
-leaf-span Exit IsEnding p text h k = k
-leaf-span Exit IsQuiet p text h k = k
-leaf-span kind _ p text h k = absurd (true≢false (sym h))
-
-leaves-parted : (bytes : List ℕ) (text : Option Span) (events : List Event) → list_all has_leaf_name events ≡ true → is_unparted text ≡ true → are_parted bytes text events ≡ true
-leaves-parted bytes text [] h k = k
-leaves-parted bytes text (e ∷ events) h k =
-    let parts = and_parts (has_leaf_name e) (list_all has_leaf_name events) h in
-    and_from (parts_by bytes e.kind (role e.name) e.point text) (are_parted bytes (span_by e.kind (role e.name) e.point text) events)
-    (leaf-parts bytes e.kind (role e.name) e.point text parts.0 k)
-    (leaves-parted bytes (span_by e.kind (role e.name) e.point text) events parts.1 (leaf-span e.kind (role e.name) e.point text parts.0 k))
+all-tell : (bytes : List ℕ) (events : List Event) → list_all (is_clear bytes) events ≡ true → list_all (λ (e : Event). is_between bytes e.point.index) events ≡ true → list_all (tells_between bytes) events ≡ true
+all-tell bytes [] h k = refl
+all-tell bytes (e ∷ events) h k =
+    let clears = and_parts (is_clear bytes e) (list_all (is_clear bytes) events) h in
+    let betweens = and_parts (is_between bytes e.point.index) (list_all (λ (e : Event). is_between bytes e.point.index) events) k in
+    and_from (tells_between bytes e) (list_all (tells_between bytes) events) (tells-clear bytes (is_told (role e.name)) e.point clears.0 betweens.0) (all-tell bytes events clears.1 betweens.1)
 
 -- the events of a text are outlined, if they nest and stand between its characters, and no heading is too deep
-pub groups-outlined : (options : ParseOptions) (bytes : List ℕ) (p : Point) (lines : List (List ℕ)) (rows : List Row) → AreRows options bytes p lines rows → IsUtf8 bytes →
+pub groups-outlined : (options : ParseOptions) (bytes : List ℕ) (p : Point) (lines : List (List ℕ)) (rows : List Row) → AreRows options bytes 0 false p lines rows → IsUtf8 bytes →
     Balanced (groups_events bytes (groups rows)) → list_all (λ (e : Event). is_between bytes e.point.index) (groups_events bytes (groups rows)) ≡ true → are_shallow (spelled (groups_events bytes (groups rows)) bytes) ≡ true →
     IsOutlined (groups_events bytes (groups rows)) bytes
 groups-outlined options bytes p lines rows are utf8 balanced between depths =
-    let plain : ArePlain (groups_events bytes (groups rows)) = plain-all bytes (groups rows) (plain-groups rows (plain-rows options bytes p lines rows are)) in
+    let plain : ArePlain bytes (groups_events bytes (groups rows)) = plain-all bytes (groups rows) (groups-each (IsPlainRow bytes) rows (plain-rows options bytes 0 false p lines rows are)) in
     record {
       balanced = balanced;
-      names = leaves-plain (groups_events bytes (groups rows)) plain.names;
+      names = plain.names;
       text = utf8;
       between = between;
-      whole = plain.whole;
-      parted = leaves-parted bytes None (groups_events bytes (groups rows)) plain.names refl;
+      texts = all-tell bytes (groups_events bytes (groups rows)) plain.texts between;
+      parted = rows-parted options bytes 0 false p lines rows are;
       depths = depths;
     }

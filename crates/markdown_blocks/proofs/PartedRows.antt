@@ -1,0 +1,573 @@
+-- Prefixes part no text but that of a paragraph, and that at the begins of its lines.
+use Rattle.std.proofs.Common.{◌≡◌, ◌≢◌, ◌⊎◌, inl, inr, ℕ, zero, suc, ◌+◌, ◌-◌, ◌<◌, ◌≤◌, Bool, true, false, cond, ◌&&◌, ◌||◌, List, [], ◌∷◌, ◌++◌, length, get_or, take, drop, slice_range, refl, ap, sym, ◌∙◌, subst, append_assoc, append-nil, arith}
+use Rattle.std.specs.Prelude.{◌==◌, IsTrue, not, nat_lt, slice_index, Option, Some, None}
+use Rattle.std.specs.List.{list_all, onto_first}
+use Rattle.std.proofs.lemmas.Bool.{and_from, and_parts, eqb-true, true≢false}
+use Rattle.std.proofs.lemmas.Bool.Decides.{nat_tests}
+use Rattle.std.proofs.lemmas.List.{get_or-drop, get_or-take}
+use Rattle.std.proofs.lemmas.List.Folds.{list_all-append}
+use Rattle.md_engine.specs.declared.configuration.ParseOptions.{ParseOptions}
+use Rattle.md_engine.specs.declared.event.Event.{Event}
+use Rattle.md_engine.specs.declared.event.Kind.{Kind}
+use Rattle.md_engine.specs.declared.event.Kind.TheVariants.{Enter, Exit}
+use Rattle.md_engine.specs.declared.event.Name.{Name}
+use Rattle.md_engine.specs.declared.event.Name.TheVariants as n
+use Rattle.md_engine.specs.declared.event.Point.{Point}
+use Rattle.md_leaves.specs.HeadingRule.{Apart, Hashes, Run, Text as TextRun, White, begun, closes, goes_on as runs_on, is_heading, opens}
+use Rattle.md_leaves.specs.HeadingTitle.{Title, chunk_unless_empty, front_len, line_runs, text_of, title_of}
+use Rattle.md_seam.specs.declared.inline.Chunk.{Chunk}
+use Rattle.md_seam.specs.Inline.{plain_chunk}
+use Rattle.md_seam.specs.Leaves.{is_rule}
+use Rattle.md_seam.specs.Lines.{begins_with, ends_line, is_ending}
+use Rattle.md_seam.specs.Nested.{around, enter, exit, pair}
+use Rattle.md_seam.specs.Places.{at_or_before, last_line, past_byte, same_place}
+use Rattle.md_seam.specs.Rest.{Rest, is_blank, is_white, trim_start}
+use Rattle.md_seam.specs.Spelled.{AsHeading, AsMarkers, AsParagraph, Holds, IsEnding as EndingRole, IsPrefix as PrefixRole, IsQuiet, Opens, QuoteShape, Role, Tells, byte_at, role}
+use Rattle.md_seam.specs.Texts.{split_lines}
+use Rattle.md_seam.proofs.RestCells.{Cut}
+use Rattle.md_seam.proofs.SpelledLemmas.{Quiet, QuietOrEnding, Roles, roles-append}
+use Rattle.md_seam.proofs.TextsLemmas.{Both, Ending, EndsBefore, LineFeed, NoEnding, Return, ending_bytes, split-line, split-next}
+use Rattle.markdown_blocks.specs.Between.{is_between}
+use Rattle.markdown_blocks.specs.Fronted.{cut_tab, quoted, rest_from, rest_line}
+use Rattle.markdown_blocks.specs.Outlined.{are_parted, begins_line, is_unparted, parts_by, span_by}
+use Rattle.markdown_blocks.specs.Rows.{BlankRow, BreakRow, Group, HeadingRow, Lines, Row, RowKind, Single, TextRow, behind_row, ending_events, goes_on, groups, groups_events, is_text, last_row, line_kind, onto_groups, quote_ends, read_lines, read_text, read_title, row_line, row_title, single_events_by, tail_events}
+use Rattle.markdown_blocks.specs.declared.outline.Span.{Span}
+use Rattle.markdown_blocks.proofs.BetweenRows.{between-behind, ending-behind, is_low, order-index, prefix-between, white-at}
+use Rattle.markdown_blocks.proofs.FrontFacts.{Begins, Behind, Fronts, Goes, IsPrefix}
+use Rattle.markdown_blocks.proofs.FrontLemmas.{ends-roles, fronts-roles, prefix_list}
+use Rattle.markdown_blocks.proofs.PlainRoles.{chunk-roles}
+use Rattle.markdown_blocks.proofs.RowFacts.{AreRows, IsEnding, IsInside, IsLine, IsRow, depth_behind, slice-split}
+use Rattle.markdown_blocks.proofs.TitleNests.{blank-no_heading, break-no_heading, text_begin, text_end}
+
+-- Points that cut a tab.
+
+-- a point that cuts no tab, or one behind whose tab is a place between characters
+abbrev pub clear : List ℕ → Point → Bool
+clear bytes p = (p.vs == 0) || is_between bytes (byte_at p)
+
+pub clear-between : (bytes : List ℕ) (p : Point) → clear bytes p ≡ true → is_between bytes p.index ≡ true → is_between bytes (byte_at p) ≡ true
+clear-between bytes p h k = go (p.vs == 0) h
+  where
+    go : (x : Bool) → (x || is_between bytes (cond x p.index (p.index + 1))) ≡ true → is_between bytes (cond x p.index (p.index + 1)) ≡ true
+    go true h = k
+    go false h = h
+
+-- behind a byte of ASCII
+low-clear : (bytes : List ℕ) (p : Point) → ((p.vs == 0) ≡ false → is_low (slice_index bytes p.index) ≡ true) → clear bytes p ≡ true
+low-clear bytes p h = go (p.vs == 0) refl
+  where
+    same : p.index + 1 - 1 ≡ p.index
+    same = omega arith
+
+    go : (x : Bool) → (p.vs == 0) ≡ x → (x || is_between bytes (cond x p.index (p.index + 1))) ≡ true
+    go true e = refl
+    go false e = between-behind bytes (p.index + 1) (subst (λ (i : ℕ). is_low (slice_index bytes i) ≡ true) (sym same) (h e))
+
+byte-from : (p : Point) → p.index ≤ byte_at p
+byte-from p = go (p.vs == 0)
+  where
+    go : (x : Bool) → p.index ≤ cond x p.index (p.index + 1)
+    go true = omega arith
+    go false = omega arith
+
+byte-order : (p q : Point) → IsTrue (at_or_before p q) → q.vs ≡ 0 → byte_at p ≤ q.index
+byte-order p q h w = grind (arith, nat_tests)
+
+-- a prefix begins at such a point, and so does what stands in front of a line whose rest does
+prefix-clear : (bytes : List ℕ) (p q : Point) (es : List Event) → IsPrefix bytes p q es → clear bytes p ≡ true
+prefix-clear bytes p q es is = low-clear bytes p (λ e. white-at bytes p.index is.marker.index p.index is.white_before (omega arith) (before is.marker is.indent is.marker_whole e))
+  where
+    before : (m : Point) → IsTrue (at_or_before p m) → m.vs ≡ 0 → (p.vs == 0) ≡ false → p.index < m.index
+    before m h w e = grind (arith, nat_tests)
+
+fronts-clear : (bytes : List ℕ) (opens : ℕ) (p q : Point) (front : List Event) → Fronts bytes opens p q front → clear bytes q ≡ true → clear bytes p ≡ true
+fronts-clear bytes _ p _ _ (Behind _) h = h
+fronts-clear bytes opens p r _ (Goes _ _ q _ es fs is more) h = prefix-clear bytes p q es is
+fronts-clear bytes _ p r _ (Begins opens _ q _ es fs is more) h = prefix-clear bytes p q es is
+
+-- Slices.
+
+begins-slice : (bytes : List ℕ) (i j : ℕ) → (slice_index bytes i == 10) ≡ false → begins_with 10 (slice_range bytes i j) ≡ false
+begins-slice bytes i j h =
+    let same : i + 0 ≡ i = omega arith in
+    let first : get_or (drop i bytes) 0 0 ≡ slice_index bytes i = get_or-drop i bytes 0 0 ∙ ap (λ (k : ℕ). get_or bytes k 0) same in
+    go (j - i) (drop i bytes) (ap (λ (b : ℕ). b == 10) first ∙ h)
+  where
+    go : (size : ℕ) (l : List ℕ) → (get_or l 0 0 == 10) ≡ false → begins_with 10 (take size l) ≡ false
+    go zero l h = refl
+    go (suc size) [] h = refl
+    go (suc size) (b ∷ l) h = h
+
+blank-plain : (line : List ℕ) → is_blank line ≡ true → NoEnding line
+blank-plain [] h = tt
+blank-plain (b ∷ line) h =
+    let parts = and_parts (is_white b) (is_blank line) h in
+    (plain b parts.0, blank-plain line parts.1)
+  where
+    plain : (b : ℕ) → is_white b ≡ true → is_ending b ≡ false
+    plain b h = grind (arith, nat_tests)
+
+blank-begins : (line : List ℕ) → is_blank line ≡ true → begins_with 10 line ≡ false
+blank-begins [] h = refl
+blank-begins (b ∷ line) h = let parts = and_parts (is_white b) (is_blank line) h in white b parts.0
+  where
+    white : (b : ℕ) → is_white b ≡ true → (b == 10) ≡ false
+    white b h = grind (arith, nat_tests)
+
+blank-last : (line : List ℕ) → is_blank line ≡ true → is_blank (last_line (split_lines line)) ≡ true
+blank-last line h = ap (λ (ls : List (List ℕ)). is_blank (last_line ls)) (split-line line (blank-plain line h)) ∙ h
+
+-- lines of which the last is another than the first, and blank
+abbrev EndBlank : List (List ℕ) → Type 0
+EndBlank [] = ⊥
+EndBlank (line ∷ []) = ⊥
+EndBlank (line ∷ next ∷ lines) = is_blank (last_line (next ∷ lines)) ≡ true
+
+end-blank : (lines : List (List ℕ)) → EndBlank lines → is_blank (last_line lines) ≡ true
+end-blank [] h = absurd h
+end-blank (line ∷ []) h = absurd h
+end-blank (line ∷ next ∷ lines) h = h
+
+-- a text that ends with an ending and whitespace
+ended-blank : (text : List ℕ) (ending : Ending) (white : List ℕ) → is_blank white ≡ true → EndBlank (split_lines (text ++ (ending_bytes ending ++ white)))
+ended-blank [] ending white h =
+    let lines : split_lines (ending_bytes ending ++ white) ≡ [] ∷ white ∷ [] = split-next [] ending white tt (before ending) ∙ ap (λ (ls : List (List ℕ)). [] ∷ ls) (split-line white (blank-plain white h)) in
+    subst EndBlank (sym lines) h
+  where
+    before : (e : Ending) → EndsBefore e white
+    before LineFeed = tt
+    before Return = blank-begins white h
+    before Both = tt
+ended-blank (b ∷ text) ending white h =
+    let rest : List ℕ = text ++ (ending_bytes ending ++ white) in
+    go (split_lines rest) (ended-blank text ending white h) (ends_line b rest) (is_ending b)
+  where
+    go : (lines : List (List ℕ)) → EndBlank lines → (x y : Bool) → EndBlank (cond x ([] ∷ lines) (cond y lines (onto_first b lines)))
+    go [] k x y = absurd k
+    go (line ∷ []) k x y = absurd k
+    go (line ∷ next ∷ lines) k true y = k
+    go (line ∷ next ∷ lines) k false true = k
+    go (line ∷ next ∷ lines) k false false = k
+
+-- Texts in which prefixes stand.
+
+-- a text that is the first piece, or begins with no line feed
+abbrev Fine : List ℕ → Span → Type 0
+Fine bytes span = (not span.is_parted || not (slice_index bytes span.from == 10)) ≡ true
+
+begins-fine : (bytes : List ℕ) (span : Span) (j : ℕ) → Fine bytes span → begins_line span (slice_range bytes span.from j) ≡ true
+begins-fine bytes span j h = go span.is_parted h
+  where
+    other : (x : Bool) → not x ≡ true → x ≡ false
+    other true h = absurd (true≢false (sym h))
+    other false h = refl
+
+    go : (x : Bool) → (not x || not (slice_index bytes span.from == 10)) ≡ true → (not x || not (begins_with 10 (slice_range bytes span.from j))) ≡ true
+    go false h = refl
+    go true h = ap not (begins-slice bytes span.from j (other (slice_index bytes span.from == 10) h))
+
+-- a prefix may stand behind whitespace from a point on
+abbrev Marks : List ℕ → Point → Span → Type 0
+Marks bytes p span = (j : ℕ) → byte_at p ≤ j → is_blank (slice_range bytes p.index j) ≡ true →
+    (begins_line span (slice_range bytes span.from j) ≡ true) × (is_blank (last_line (split_lines (slice_range bytes span.from j))) ≡ true)
+
+-- behind a prefix
+abbrev behind_prefix : Point → Span
+behind_prefix q = record { from = byte_at q; is_parted = true }
+
+marks-behind : (bytes : List ℕ) (q : Point) → Marks bytes q (behind_prefix q)
+marks-behind bytes q j h blank =
+    let white : is_blank (slice_range bytes (byte_at q) j) ≡ true = rest (q.vs == 0) h in
+    (ap not (blank-begins (slice_range bytes (byte_at q) j) white), blank-last (slice_range bytes (byte_at q) j) white)
+  where
+    rest : (x : Bool) → cond x q.index (q.index + 1) ≤ j → is_blank (slice_range bytes (cond x q.index (q.index + 1)) j) ≡ true
+    rest true h = blank
+    rest false h =
+        let one : List ℕ = slice_range bytes q.index (q.index + 1) in
+        let more : List ℕ = slice_range bytes (q.index + 1) j in
+        let both : is_blank (one ++ more) ≡ true = ap is_blank (sym (slice-split bytes q.index (q.index + 1) j (omega arith) h)) ∙ blank in
+        (and_parts (is_blank one) (is_blank more) (sym (list_all-append is_white one more) ∙ both)).1
+
+-- a prefix in a text
+prefix-parted : (bytes : List ℕ) (p q : Point) (es : List Event) (span : Span) (rest : List Event) → IsPrefix bytes p q es → Marks bytes p span → is_between bytes (byte_at q) ≡ true → are_parted bytes (Some (behind_prefix q)) rest ≡ true → are_parted bytes (Some span) (es ++ rest) ≡ true
+prefix-parted bytes p q es span rest is marks between more = subst (λ (l : List Event). are_parted bytes (Some span) (l ++ rest) ≡ true) (sym is.events) (go (same_place p is.marker) (same_place is.behind q))
+  where
+    marker : Point
+    marker = is.marker
+
+    behind : Point
+    behind = is.behind
+
+    piece : List ℕ
+    piece = slice_range bytes span.from marker.index
+
+    step : ((begins_line span piece && is_blank (last_line (split_lines piece))) && (is_between bytes (byte_at q) && are_parted bytes (Some (behind_prefix q)) rest)) ≡ true
+    step =
+        let at = marks marker.index (byte-order p marker is.indent is.marker_whole) is.white_before in
+        and_from (begins_line span piece && is_blank (last_line (split_lines piece))) (is_between bytes (byte_at q) && are_parted bytes (Some (behind_prefix q)) rest)
+        (and_from (begins_line span piece) (is_blank (last_line (split_lines piece))) at.0 at.1)
+        (and_from (is_between bytes (byte_at q)) (are_parted bytes (Some (behind_prefix q)) rest) between more)
+
+    go : (x y : Bool) →
+        are_parted bytes (Some span) ((cond x [] (pair n.SpaceOrTab p marker) ++ enter n.BlockQuotePrefix marker ∷ enter n.BlockQuoteMarker marker ∷ exit n.BlockQuoteMarker behind ∷ cond y [] (pair n.SpaceOrTab behind q) ++ exit n.BlockQuotePrefix q ∷ []) ++ rest) ≡ true
+    go true true = step
+    go true false = step
+    go false true = step
+    go false false = step
+
+-- the prefixes in front of a further line of a text
+fronts-parted : (bytes : List ℕ) (opens : ℕ) (p q : Point) (front : List Event) (span : Span) (rest : List Event) → Fronts bytes opens p q front → opens ≡ 0 → is_between bytes p.index ≡ true → clear bytes q ≡ true → Marks bytes p span →
+    ((next : Span) → ((next ≡ span) × (p ≡ q)) ⊎ (next ≡ behind_prefix q) → are_parted bytes (Some next) rest ≡ true) → are_parted bytes (Some span) (front ++ rest) ≡ true
+fronts-parted bytes _ p _ _ span rest (Behind _) e between at marks f = f span (inl (refl, refl))
+fronts-parted bytes opens p r _ span rest (Goes _ _ q _ es fs is more) e between at marks f =
+    let here = prefix-between bytes p q es between is in
+    let onward : are_parted bytes (Some (behind_prefix q)) (fs ++ rest) ≡ true = fronts-parted bytes opens q r fs (behind_prefix q) rest more e here.1 at (marks-behind bytes q) (λ next c. f next (inr (same next c))) in
+    ap (are_parted bytes (Some span)) (append_assoc es fs rest) ∙ prefix-parted bytes p q es span (fs ++ rest) is marks (clear-between bytes q (fronts-clear bytes opens q r fs more at) here.1) onward
+  where
+    same : (next : Span) → ((next ≡ behind_prefix q) × (q ≡ r)) ⊎ (next ≡ behind_prefix r) → next ≡ behind_prefix r
+    same next (inl c) = c.0 ∙ ap behind_prefix c.1
+    same next (inr c) = c
+fronts-parted bytes _ p r _ span rest (Begins opens _ q _ es fs is more) e between at marks f = cc
+
+-- Events outside of texts.
+
+-- no text begins in them that does not end
+abbrev Sits : List ℕ → List Event → Type 0
+Sits bytes xs = (ys : List Event) → are_parted bytes None ys ≡ true → are_parted bytes None (xs ++ ys) ≡ true
+
+sits-append : (bytes : List ℕ) (xs ys : List Event) → Sits bytes xs → Sits bytes ys → Sits bytes (xs ++ ys)
+sits-append bytes xs ys h k zs z = ap (are_parted bytes None) (append_assoc xs ys zs) ∙ h (ys ++ zs) (k zs z)
+
+-- what is no text
+abbrev Still : Role → Type 0
+Still (Tells purpose) = ⊥
+Still _ = Unit {0}
+
+still-span : (kind : Kind) (x : Role) (p : Point) → Still x → span_by kind x p None ≡ None
+still-span Enter (Tells purpose) p h = absurd h
+still-span Exit (Tells purpose) p h = absurd h
+still-span Enter PrefixRole p h = refl
+still-span Exit PrefixRole p h = refl
+still-span Enter _ p h = refl
+still-span Exit _ p h = refl
+
+sits-still : (bytes : List ℕ) (xs : List Event) → Roles Still xs → Sits bytes xs
+sits-still bytes [] h ys k = k
+sits-still bytes (e ∷ xs) h ys k = ap (λ (s : Option Span). are_parted bytes s (xs ++ ys)) (still-span e.kind (role e.name) e.point h.0) ∙ sits-still bytes xs h.1 ys k
+
+quiet-still : (x : Role) → Quiet x → Still x
+quiet-still IsQuiet h = tt
+quiet-still _ h = absurd h
+
+quiets-still : (es : List Event) → Roles Quiet es → Roles Still es
+quiets-still [] h = tt
+quiets-still (e ∷ es) h = (quiet-still (role e.name) h.0, quiets-still es h.1)
+
+-- what stands in a text and parts it not
+parts-quiet : (bytes : List ℕ) (kind : Kind) (x : Role) (p : Point) (s : Option Span) → QuietOrEnding x → parts_by bytes kind x p s ≡ true
+parts-quiet bytes kind x p None h = refl
+parts-quiet bytes Enter IsQuiet p (Some span) h = refl
+parts-quiet bytes Exit IsQuiet p (Some span) h = refl
+parts-quiet bytes Enter EndingRole p (Some span) h = refl
+parts-quiet bytes Exit EndingRole p (Some span) h = refl
+parts-quiet bytes kind _ p (Some span) h = absurd h
+
+span-quiet : (kind : Kind) (x : Role) (p : Point) (s : Option Span) → QuietOrEnding x → span_by kind x p s ≡ s
+span-quiet Enter IsQuiet p s h = refl
+span-quiet Exit IsQuiet p s h = refl
+span-quiet Enter EndingRole p s h = refl
+span-quiet Exit EndingRole p s h = refl
+span-quiet kind _ p s h = absurd h
+
+passes : (bytes : List ℕ) (s : Option Span) (xs ys : List Event) → Roles QuietOrEnding xs → are_parted bytes s (xs ++ ys) ≡ are_parted bytes s ys
+passes bytes s [] ys h = refl
+passes bytes s (e ∷ xs) ys h =
+    ap (λ (x : Bool). x && are_parted bytes (span_by e.kind (role e.name) e.point s) (xs ++ ys)) (parts-quiet bytes e.kind (role e.name) e.point s h.0)
+    ∙ ap (λ (t : Option Span). are_parted bytes t (xs ++ ys)) (span-quiet e.kind (role e.name) e.point s h.0)
+    ∙ passes bytes s xs ys h.1
+
+passes-chunk : (bytes : List ℕ) (s : Option Span) (chunk : Chunk) (ys : List Event) → are_parted bytes s (plain_chunk bytes chunk ++ ys) ≡ are_parted bytes s ys
+passes-chunk bytes s chunk ys = passes bytes s (plain_chunk bytes chunk) ys (chunk-roles QuietOrEnding bytes chunk tt tt)
+
+-- the ends of quotes, and an ending
+sits-tail : (bytes : List ℕ) (name : Name) (row : Row) → Still (role name) → Sits bytes (tail_events name row)
+sits-tail bytes name row h = sits-still bytes (tail_events name row) (roles-append Still (quote_ends row.leaves row.end) (ending_events name row) (ends-roles Still row.leaves row.end tt) (go row.after))
+  where
+    go : (o : Option Point) → Roles Still (elim o [ None ↦ [] | Some q ↦ pair name row.end q ])
+    go None = tt
+    go (Some q) = (h, (h, tt))
+
+-- Headings.
+
+-- which text is read in a run
+abbrev InRun : Run → Option Span → Type 0
+InRun Hashes s = is_unparted s ≡ true
+InRun Apart s = s ≡ None
+InRun White s = s ≡ None
+InRun TextRun s = s ≡ None
+
+from-none : (bytes : List ℕ) (s : Option Span) (es : List Event) → s ≡ None → are_parted bytes None es ≡ true → are_parted bytes s es ≡ true
+from-none bytes s es e h = ap (λ (t : Option Span). are_parted bytes t es) e ∙ h
+
+closes-sit : (bytes : List ℕ) (run : Run) (p : Point) (s : Option Span) (ys : List Event) → InRun run s → are_parted bytes None ys ≡ true → are_parted bytes s (closes run p ++ ys) ≡ true
+closes-sit bytes Apart p s ys h k = from-none bytes s ys h k
+closes-sit bytes White p s ys h k = from-none bytes s (exit n.SpaceOrTab p ∷ ys) h k
+closes-sit bytes TextRun p s ys h k = from-none bytes s (exit n.Data p ∷ ys) h k
+closes-sit bytes Hashes p None ys h k = k
+closes-sit bytes Hashes p (Some span) ys h k = and_from (not span.is_parted) (are_parted bytes None ys) h k
+
+opens-sit : (bytes : List ℕ) (run : Run) (p : Point) (ys : List Event) → ((s : Option Span) → InRun run s → are_parted bytes s ys ≡ true) → are_parted bytes None (opens run p ++ ys) ≡ true
+opens-sit bytes Apart p ys f = f None refl
+opens-sit bytes White p ys f = f None refl
+opens-sit bytes TextRun p ys f = f None refl
+opens-sit bytes Hashes p ys f = f (Some (record { from = byte_at p; is_parted = false })) refl
+
+runs-sit : (bytes : List ℕ) (run : Run) (xs : List ℕ) (p : Point) (s : Option Span) (ys : List Event) → InRun run s → are_parted bytes None ys ≡ true → are_parted bytes s (line_runs run xs p ++ ys) ≡ true
+runs-sit bytes run [] p s ys h k = closes-sit bytes run p s ys h k
+runs-sit bytes run (b ∷ xs) p s ys h k = go (runs_on run b) (runs-sit bytes run xs (past_byte b p) s ys h k) (λ t i. runs-sit bytes (begun b) xs (past_byte b p) t ys i k)
+  where
+    go : (more : Bool) → are_parted bytes s (line_runs run xs (past_byte b p) ++ ys) ≡ true → ((t : Option Span) → InRun (begun b) t → are_parted bytes t (line_runs (begun b) xs (past_byte b p) ++ ys) ≡ true) →
+        are_parted bytes s (cond more (line_runs run xs (past_byte b p)) ((closes run p ++ opens (begun b) p) ++ line_runs (begun b) xs (past_byte b p)) ++ ys) ≡ true
+    go true same next = same
+    go false same next =
+        let rest : List Event = line_runs (begun b) xs (past_byte b p) in
+        let apart : ((closes run p ++ opens (begun b) p) ++ rest) ++ ys ≡ closes run p ++ (opens (begun b) p ++ (rest ++ ys)) = simp append_assoc in
+        ap (are_parted bytes s) apart ∙ closes-sit bytes run p s (opens (begun b) p ++ (rest ++ ys)) h (opens-sit bytes (begun b) p (rest ++ ys) next)
+
+text-sits : (bytes : List ℕ) (size : ℕ) (p q : Point) → Sits bytes (read_text bytes (chunk_unless_empty size p q))
+text-sits bytes size p q = go (size == 0)
+  where
+    go : (none : Bool) → Sits bytes (read_text bytes (cond none None (Some (record { first = p; after = q }))))
+    go true ys h = h
+    go false ys h =
+        let chunk : Chunk = record { first = p; after = q } in
+        let events : List Event = plain_chunk bytes chunk in
+        let apart : ((events ++ []) ++ exit n.HeadingAtxText q ∷ []) ++ ys ≡ events ++ (exit n.HeadingAtxText q ∷ ys) = simp (append_assoc, append-nil) in
+        let span : Option Span = Some (record { from = byte_at p; is_parted = false }) in
+        ap (are_parted bytes span) apart ∙ passes-chunk bytes span chunk (exit n.HeadingAtxText q ∷ ys) ∙ h
+
+title-sits : (bytes line : List ℕ) (p : Point) → Sits bytes (read_title bytes (title_of line p))
+title-sits bytes line p =
+    let title : Title = title_of line p in
+    let size : ℕ = length (text_of line) in
+    sits-append bytes (title.front ++ read_text bytes title.text) title.back
+    (sits-append bytes title.front (read_text bytes title.text) (λ ys h. runs-sit bytes Apart (take (front_len line) line) p None ys refl h) (text-sits bytes size (text_begin line p) (text_end line p)))
+    (λ ys h. runs-sit bytes Apart (drop (front_len line + size) line) (text_end line p) None ys refl h)
+
+around-sits : (bytes : List ℕ) (name : Name) (p q : Point) (inside : List Event) → Still (role name) → Sits bytes inside → Sits bytes (around name p q inside)
+around-sits bytes name p q inside h k =
+    sits-append bytes (enter name p ∷ []) (inside ++ exit name q ∷ []) (sits-still bytes (enter name p ∷ []) (h, tt)) (sits-append bytes inside (exit name q ∷ []) k (sits-still bytes (exit name q ∷ []) (h, tt)))
+
+-- Lines that are no text.
+
+line-sits : (bytes : List ℕ) (name : Name) (front inside : List Event) (row : Row) → Still (role name) → Roles Still front → Sits bytes inside → Sits bytes (front ++ inside ++ tail_events name row)
+line-sits bytes name front inside row u h k = sits-append bytes (front ++ inside) (tail_events name row) (sits-append bytes front inside (sits-still bytes front h) k) (sits-tail bytes name row u)
+
+blank-sits : (bytes : List ℕ) (row : Row) → Roles Still row.front → IsInside row → Sits bytes (single_events_by bytes BlankRow row)
+blank-sits bytes row front inside = line-sits bytes n.BlankLineEnding row.front row.inside row tt front (sits-still bytes row.inside (quiets-still row.inside inside.quiet))
+
+break-sits : (bytes : List ℕ) (row : Row) → Roles Still row.front → IsInside row → Sits bytes (single_events_by bytes BreakRow row)
+break-sits bytes row front inside =
+    line-sits bytes n.LineEnding row.front (around n.ThematicBreak row.first row.end row.inside) row tt front (around-sits bytes n.ThematicBreak row.first row.end row.inside tt (sits-still bytes row.inside (quiets-still row.inside inside.quiet)))
+
+heading-sits : (bytes : List ℕ) (row : Row) → Roles Still row.front → Sits bytes (single_events_by bytes HeadingRow row)
+heading-sits bytes row front =
+    let inside : List Event = read_title bytes (row_title bytes row) in
+    line-sits bytes n.LineEnding row.front (around n.HeadingAtx row.first row.end inside) row tt front (around-sits bytes n.HeadingAtx row.first row.end inside tt (title-sits bytes (row_line bytes row) row.first))
+
+-- Lines of text.
+
+-- where a line of text begins: behind a tab that is cut stands a byte of it, and no line feed
+record BeginsText (bytes : List ℕ) (row : Row) : Type 0 where
+  fine : not (slice_index bytes (byte_at row.first) == 10) ≡ true
+  within : byte_at row.first ≤ row.end.index
+
+-- a line of text ends in front of an ending, behind which prefixes may stand
+marks-ended : (bytes : List ℕ) (p q : Point) (span : Span) → IsEnding bytes p q → Fine bytes span → span.from ≤ p.index → Marks bytes q span
+marks-ended bytes p q span ending fine within j h blank =
+    let size : p.index ≤ q.index = omega (arith, ending.size) in
+    let further : q.index ≤ j = later (byte-from q) h in
+    let front : List ℕ = slice_range bytes span.from p.index in
+    let white : List ℕ = slice_range bytes q.index j in
+    let piece : slice_range bytes span.from j ≡ front ++ (ending_bytes ending.ending ++ white) =
+    slice-split bytes span.from p.index j within (later size further)
+    ∙ ap (λ (l : List ℕ). front ++ l) (slice-split bytes p.index q.index j size further ∙ ap (λ (l : List ℕ). l ++ white) ending.text) in
+    let last : EndBlank (split_lines (front ++ (ending_bytes ending.ending ++ white))) = ended-blank front ending.ending white blank in
+    (
+      begins-fine bytes span j fine,
+      ap (λ (l : List ℕ). is_blank (last_line (split_lines l))) piece ∙ end-blank (split_lines (front ++ (ending_bytes ending.ending ++ white))) last,
+    )
+  where
+    later : {a b c : ℕ} → a ≤ b → b ≤ c → a ≤ c
+    later h k = omega (arith, h, k)
+
+-- what is left of the events behind the text of a paragraph
+abbrev behind_text : List ℕ → Row → List Group → List Event
+behind_text bytes last gs = exit n.Paragraph last.end ∷ tail_events n.LineEnding last ++ groups_events bytes gs
+
+-- it stands in a text that goes on with a line
+abbrev Core : List ℕ → Row → List Event → Type 0
+Core bytes row es = (span : Span) → Fine bytes span → span.from ≤ row.end.index → are_parted bytes (Some span) es ≡ true
+
+-- groups stand behind a paragraph that goes on with their first line
+abbrev After : List ℕ → Point → List Group → Type 0
+After bytes p [] = Unit {0}
+After bytes p (Single row ∷ gs) = Unit {0}
+After bytes p (Lines row rows ∷ gs) = row.opens ≡ 0 → (span : Span) → Fine bytes span → span.from ≤ p.index → Marks bytes p span → is_between bytes p.index ≡ true →
+    are_parted bytes (Some span) (row.front ++ (read_lines bytes row rows ++ behind_text bytes (last_row row rows) gs)) ≡ true
+
+record Parted (bytes : List ℕ) (p : Point) (gs : List Group) : Type 0 where
+  apart : are_parted bytes None (groups_events bytes gs) ≡ true
+  after : After bytes p gs
+
+-- a paragraph, by its text
+text-parted : (bytes : List ℕ) (p : Point) (row : Row) (rows : List Row) (gs : List Group) → Fronts bytes row.opens p row.first row.front → clear bytes row.first ≡ true → BeginsText bytes row → Core bytes row (read_lines bytes row rows ++ behind_text bytes (last_row row rows) gs) →
+    Parted bytes p (Lines row rows ∷ gs)
+text-parted bytes p row rows gs front at begins core =
+    let last : Row = last_row row rows in
+    let text : List Event = read_lines bytes row rows in
+    let tail : List Event = tail_events n.LineEnding last in
+    let more : List Event = groups_events bytes gs in
+    let events : List Event = text ++ behind_text bytes last gs in
+    let whole : (row.front ++ around n.Paragraph row.first last.end text ++ tail) ++ more ≡ row.front ++ (enter n.Paragraph row.first ∷ events) = simp append_assoc in
+    let span : Span = record { from = byte_at row.first; is_parted = false } in
+    record {
+      apart =
+          ap (are_parted bytes None) whole
+          ∙ sits-still bytes row.front (fronts-roles Still bytes row.opens p row.first row.front tt tt tt front) (enter n.Paragraph row.first ∷ events) (core span refl begins.within);
+      after = λ none span fine within marks between.
+          fronts-parted bytes row.opens p row.first row.front span events front none between at marks (next span fine within);
+    }
+  where
+    later : (a b c d : ℕ) → a ≤ b → b ≤ c → c ≤ d → a ≤ d
+    later a b c d h k l = omega (arith, h, k, l)
+
+    next : (span : Span) → Fine bytes span → span.from ≤ p.index → (after : Span) → ((after ≡ span) × (p ≡ row.first)) ⊎ (after ≡ behind_prefix row.first) → are_parted bytes (Some after) (read_lines bytes row rows ++ behind_text bytes (last_row row rows) gs) ≡ true
+    next span fine within after (inl c) =
+        let from : span.from ≤ row.end.index = later span.from p.index (byte_at row.first) row.end.index within (subst (λ (q : Point). p.index ≤ byte_at q) c.1 (byte-from p)) begins.within in
+        core after (subst (Fine bytes) (sym c.0) fine) (subst (λ (s : Span). s.from ≤ row.end.index) (sym c.0) from)
+    next span fine within after (inr c) = core after (subst (Fine bytes) (sym c) begins.fine) (subst (λ (s : Span). s.from ≤ row.end.index) (sym c) begins.within)
+
+-- the last line of a paragraph
+core-alone : (bytes : List ℕ) (row : Row) (gs : List Group) → are_parted bytes None (groups_events bytes gs) ≡ true → Core bytes row (read_lines bytes row [] ++ behind_text bytes row gs)
+core-alone bytes row gs h span fine within =
+    passes-chunk bytes (Some span) (record { first = row.first; after = row.end }) (behind_text bytes row gs)
+    ∙ and_from (begins_line span (slice_range bytes span.from row.end.index)) (are_parted bytes None (tail_events n.LineEnding row ++ groups_events bytes gs))
+    (begins-fine bytes span row.end.index fine) (sits-tail bytes n.LineEnding row tt (groups_events bytes gs) h)
+
+-- a line in front of another
+core-next : (bytes : List ℕ) (row below : Row) (rows : List Row) (gs : List Group) (q : Point) → IsEnding bytes row.end q → below.opens ≡ 0 → After bytes q (Lines below rows ∷ gs) → Core bytes row (read_lines bytes row (below ∷ rows) ++ behind_text bytes (last_row row (below ∷ rows)) gs)
+core-next bytes row below rows gs q ending none after span fine within =
+    let chunk : Chunk = record { first = row.first; after = behind_row row } in
+    let events : List Event = plain_chunk bytes chunk in
+    let text : List Event = read_lines bytes below rows in
+    let rest : List Event = behind_text bytes (last_row below rows) gs in
+    let apart : ((events ++ below.front) ++ text) ++ rest ≡ events ++ (below.front ++ (text ++ rest)) = simp append_assoc in
+    let from : span.from ≤ q.index = omega (arith, within, ending.size) in
+    ap (are_parted bytes (Some span)) apart
+    ∙ passes-chunk bytes (Some span) chunk (below.front ++ (text ++ rest))
+    ∙ after none span fine from (marks-ended bytes row.end q span ending fine within) (ending-behind bytes row.end q ending)
+
+-- Rows.
+
+-- a byte of a line
+line-at : (bytes line : List ℕ) (a e k b : ℕ) → slice_range bytes a e ≡ line → e ≡ a + length line → k < length line → get_or line k 0 ≡ b → slice_index bytes (a + k) ≡ b
+line-at bytes line a e k b text size h at =
+    sym (get_or-drop a bytes k 0) ∙ sym (get_or-take (e - a) (drop a bytes) k 0 (omega (arith, size, h))) ∙ ap (λ (l : List ℕ). get_or l k 0) text ∙ at
+
+-- a line that begins within a tab begins with it
+line-clear : (bytes : List ℕ) (row : Row) (spaces : ℕ) (rest : List ℕ) → Cut spaces row.first → slice_range bytes row.first.index row.end.index ≡ cut_tab spaces ++ rest → row.end.index ≡ row.first.index + length (cut_tab spaces ++ rest) → clear bytes row.first ≡ true
+line-clear bytes row zero rest cut text size = ap (λ (v : ℕ). (v == 0) || is_between bytes (byte_at row.first)) cut
+line-clear bytes row (suc spaces) rest cut text size =
+    let zero_at : row.first.index + 0 ≡ row.first.index = omega arith in
+    let tab : slice_index bytes row.first.index ≡ 9 = ap (slice_index bytes) (sym zero_at) ∙ line-at bytes (9 ∷ rest) row.first.index row.end.index 0 9 text size (omega arith) refl in
+    low-clear bytes row.first (λ e. subst (λ (b : ℕ). is_low b ≡ true) (sym tab) refl)
+
+pub rest-clear : (options : ParseOptions) (bytes : List ℕ) (depth : ℕ) (going : Bool) (p : Point) (line : List ℕ) (row : Row) → IsLine options bytes depth going p line row → clear bytes row.first ≡ true
+rest-clear options bytes depth going p line row is =
+    let rest : Rest = (quoted options depth going (rest_from p line)).rest in
+    line-clear bytes row rest.spaces rest.bytes is.cut is.is.text is.is.size
+
+-- a line of text is not blank
+text-nonblank : (options : ParseOptions) (line : List ℕ) → line_kind options line ≡ TextRow → is_blank line ≡ false
+text-nonblank options line = go (is_blank line) (options.constructs.heading_atx && is_heading (trim_start line)) (options.constructs.thematic_break && is_rule (trim_start line))
+  where
+    go : (x y z : Bool) → cond x BlankRow (cond y HeadingRow (cond z BreakRow TextRow)) ≡ TextRow → x ≡ false
+    go true y z h = cc
+    go false y z h = refl
+
+feed-none : (b : ℕ) → is_ending b ≡ false → not (b == 10) ≡ true
+feed-none b h = grind (arith, nat_tests)
+
+line-begins : (bytes : List ℕ) (row : Row) (spaces : ℕ) (rest : List ℕ) → Cut spaces row.first → slice_range bytes row.first.index row.end.index ≡ cut_tab spaces ++ rest → row.end.index ≡ row.first.index + length (cut_tab spaces ++ rest) → is_blank (cut_tab spaces ++ rest) ≡ false →
+    NoEnding (cut_tab spaces ++ rest) → BeginsText bytes row
+line-begins bytes row zero [] cut text size blank none = absurd (true≢false blank)
+line-begins bytes row zero (b ∷ rest) cut text size blank none =
+    let at : byte_at row.first ≡ row.first.index + 0 = ap (λ (v : ℕ). cond (v == 0) row.first.index (row.first.index + 1)) cut ∙ omega arith in
+    let is : slice_index bytes (byte_at row.first) ≡ b = ap (slice_index bytes) at ∙ line-at bytes (b ∷ rest) row.first.index row.end.index 0 b text size (omega arith) refl in
+    record { fine = ap (λ (c : ℕ). not (c == 10)) is ∙ feed-none b none.0; within = omega (arith, at, size) }
+line-begins bytes row (suc spaces) [] cut text size blank none = absurd (true≢false blank)
+line-begins bytes row (suc spaces) (b ∷ rest) cut text size blank none =
+    let other : (row.first.vs == 0) ≡ false = positive row.first.vs cut.0 in
+    let at : byte_at row.first ≡ row.first.index + 1 = ap (λ (x : Bool). cond x row.first.index (row.first.index + 1)) other in
+    let is : slice_index bytes (byte_at row.first) ≡ b = ap (slice_index bytes) at ∙ line-at bytes (9 ∷ b ∷ rest) row.first.index row.end.index 1 b text size (omega arith) refl in
+    record { fine = ap (λ (c : ℕ). not (c == 10)) is ∙ feed-none b none.1.0; within = omega (arith, at, size) }
+  where
+    positive : (v : ℕ) → 0 < v → (v == 0) ≡ false
+    positive v h = grind (arith, nat_tests)
+
+text-begins : (options : ParseOptions) (bytes : List ℕ) (depth : ℕ) (going : Bool) (p : Point) (line : List ℕ) (row : Row) → IsLine options bytes depth going p line row → row.kind ≡ TextRow → BeginsText bytes row
+text-begins options bytes depth going p line row is e =
+    let rest : Rest = (quoted options depth going (rest_from p line)).rest in
+    line-begins bytes row rest.spaces rest.bytes is.cut is.is.text is.is.size (text-nonblank options (rest_line rest) (sym is.is.kind ∙ e)) is.is.no_ending
+
+-- behind a line stands an ending, if lines of text follow it
+abbrev Linked : List ℕ → Row → Point → List Group → Type 0
+Linked bytes row q [] = Unit {0}
+Linked bytes row q (group ∷ gs) = IsEnding bytes row.end q
+
+-- a line in front of others
+onto-parted : (options : ParseOptions) (bytes : List ℕ) (depth : ℕ) (going : Bool) (p q : Point) (line : List ℕ) (row : Row) (gs : List Group) → IsLine options bytes depth going p line row → Linked bytes row q gs → Parted bytes q gs → (kind : RowKind) → row.kind ≡ kind → Parted bytes p (onto_groups row kind gs)
+onto-parted options bytes depth going p q line row gs is linked h kind e = go kind e gs linked h
+  where
+    front : Roles Still row.front
+    front = fronts-roles Still bytes row.opens p row.first row.front tt tt tt is.front
+
+    single : (kind : RowKind) → row.kind ≡ kind → (gs : List Group) → Parted bytes q gs → Sits bytes (single_events_by bytes kind row) → Parted bytes p (Single row ∷ gs)
+    single kind e gs h sits = record {
+      apart = subst (λ (k : RowKind). are_parted bytes None (single_events_by bytes k row ++ groups_events bytes gs) ≡ true) (sym e) (sits (groups_events bytes gs) h.apart);
+      after = tt;
+    }
+
+    text : row.kind ≡ TextRow → (rows : List Row) (gs : List Group) → Core bytes row (read_lines bytes row rows ++ behind_text bytes (last_row row rows) gs) → Parted bytes p (Lines row rows ∷ gs)
+    text e rows gs core = text-parted bytes p row rows gs is.front (rest-clear options bytes depth going p line row is) (text-begins options bytes depth going p line row is e) core
+
+    go : (kind : RowKind) → row.kind ≡ kind → (gs : List Group) → Linked bytes row q gs → Parted bytes q gs → Parted bytes p (onto_groups row kind gs)
+    go BlankRow e gs linked h = single BlankRow e gs h (blank-sits bytes row front (is.is.inside (blank-no_heading row.kind e)))
+    go HeadingRow e gs linked h = single HeadingRow e gs h (heading-sits bytes row front)
+    go BreakRow e gs linked h = single BreakRow e gs h (break-sits bytes row front (is.is.inside (break-no_heading row.kind e)))
+    go TextRow e [] linked h = text e [] [] (core-alone bytes row [] h.apart)
+    go TextRow e (Single below ∷ gs) linked h = text e [] (Single below ∷ gs) (core-alone bytes row (Single below ∷ gs) h.apart)
+    go TextRow e (Lines below rows ∷ gs) linked h = by (goes_on row below) refl
+      where
+        by : (x : Bool) → goes_on row below ≡ x → Parted bytes p (cond x (Lines row (below ∷ rows) ∷ gs) (Lines row [] ∷ Lines below rows ∷ gs))
+        by false k = text e [] (Lines below rows ∷ gs) (core-alone bytes row (Lines below rows ∷ gs) h.apart)
+        by true k =
+            let parts = and_parts (row.leaves == 0) (below.opens == 0) k in
+            text e (below ∷ rows) gs (core-next bytes row below rows gs q linked (eqb-true below.opens 0 parts.1) h.after)
+
+-- The lines of a text.
+lines-parted : (options : ParseOptions) (bytes : List ℕ) (depth : ℕ) (going : Bool) (p : Point) (lines : List (List ℕ)) (rows : List Row) → AreRows options bytes depth going p lines rows → Parted bytes p (groups rows)
+lines-parted options bytes depth going p (line ∷ []) (row ∷ []) are = onto-parted options bytes depth going p row.end line row [] are.0 tt (record { apart = refl; after = tt }) row.kind refl
+lines-parted options bytes depth going p (line ∷ next ∷ lines) (row ∷ below ∷ rows) are =
+    onto-parted options bytes depth going p are.2 line row (groups (below ∷ rows)) are.0 (linked (groups (below ∷ rows)))
+    (lines-parted options bytes (depth_behind options depth going p line) (is_text row.kind) are.2 (next ∷ lines) (below ∷ rows) are.5) row.kind refl
+  where
+    linked : (gs : List Group) → Linked bytes row are.2 gs
+    linked [] = tt
+    linked (group ∷ gs) = are.4
+lines-parted options bytes depth going p lines rows are = absurd are
+
+-- no text of a whole text is parted but those of paragraphs, at the begins of their lines
+pub rows-parted : (options : ParseOptions) (bytes : List ℕ) (depth : ℕ) (going : Bool) (p : Point) (lines : List (List ℕ)) (rows : List Row) → AreRows options bytes depth going p lines rows → are_parted bytes None (groups_events bytes (groups rows)) ≡ true
+rows-parted options bytes depth going p lines rows are = let parted : Parted bytes p (groups rows) = lines-parted options bytes depth going p lines rows are in parted.apart
