@@ -19,7 +19,6 @@ use Rattle.md_leaves.specs.HeadingRule.{Apart, Hashes, Run, Text, White, begun, 
 use Rattle.md_leaves.specs.HeadingTitle.{Title, chunk_unless_empty, front_len, line_runs, text_of, title_of}
 use Rattle.md_leaves.proofs.TitleLemmas.{behind-marks, front-marks, is_mark}
 use Rattle.md_leaves.proofs.TitleRuns.{pass-first, pass-rest}
-use Rattle.md_seam.specs.declared.inline.Chunk.{Chunk}
 use Rattle.md_seam.specs.Inline.{line_end, pair_unless_empty, plain_chunk}
 use Rattle.md_seam.specs.Leaves.{is_rule, is_rule_marker}
 use Rattle.md_seam.specs.Lines.{is_ending, without_ending}
@@ -182,7 +181,7 @@ between-unless bytes name p q h k = go (same_place p q)
     go true = refl
     go false = between-pair bytes name p q h k
 
-pub order-index : (p q : Point) → IsTrue (at_or_before p q) → p.index ≤ q.index
+order-index : (p q : Point) → IsTrue (at_or_before p q) → p.index ≤ q.index
 order-index p q h = grind (arith, nat_tests)
 
 -- events that go forward lie between two places

@@ -1,6 +1,6 @@
 -- What stands in front of a line goes forward, and opens as many quotes as begin in it.
 use Rattle.std.proofs.Common.{◌≡◌, ℕ, zero, suc, ◌+◌, ◌-◌, ◌≤◌, Bool, true, false, cond, List, [], ◌∷◌, ◌++◌, length, refl, ap, sym, ◌∙◌, subst, arith}
-use Rattle.std.specs.Prelude.{◌==◌, IsTrue, Option, Some, None}
+use Rattle.std.specs.Prelude.{IsTrue, Option, Some, None}
 use Rattle.std.proofs.lemmas.Bool.Decides.{nat_tests}
 use Rattle.md_engine.specs.declared.configuration.ParseOptions.{ParseOptions}
 use Rattle.md_engine.specs.declared.event.Event.{Event}
@@ -9,14 +9,14 @@ use Rattle.md_engine.specs.declared.event.Name.TheVariants as n
 use Rattle.md_engine.specs.declared.event.Point.{Point}
 use Rattle.md_seam.specs.Containers.{Taken, quote_taken}
 use Rattle.md_seam.specs.Inline.{pair_unless_empty}
-use Rattle.md_seam.specs.Nested.{Balanced, Forward, Matches, enter, exit, last_point, open_after, pair}
+use Rattle.md_seam.specs.Nested.{Balanced, Matches, enter, exit, last_point, open_after, pair}
 use Rattle.md_seam.specs.Places.{at_or_before, same_place}
 use Rattle.md_seam.specs.Rest.{Rest}
 use Rattle.md_seam.specs.Spelled.{Holds, IsQuiet, QuoteShape, Role}
 use Rattle.md_seam.specs.Spelled as spelled
 use Rattle.md_seam.proofs.NestedLemmas.{at_or_before-refl, at_or_before-trans, balanced-append, balanced-matches, balanced-none, balanced-open, forward-last, matches-append, open_after-append}
 use Rattle.md_seam.proofs.SpelledLemmas.{Roles, roles-append}
-use Rattle.markdown_blocks.specs.Fronted.{Prefixed, Quoted, no_prefix, one_more, quoted, quotes_new, quotes_on, rest_line}
+use Rattle.markdown_blocks.specs.Fronted.{Prefixed, no_prefix, one_more, quoted, quotes_new, quotes_on, rest_line}
 use Rattle.markdown_blocks.specs.Rows.{is_lazy, line_kind, quote_ends}
 use Rattle.markdown_blocks.proofs.FrontFacts.{Begins, Behind, Fronts, Goes, IsPrefix}
 use Rattle.markdown_blocks.proofs.TitleNests.{Spans, spans-append}

@@ -310,8 +310,8 @@ rows-hold bytes P by options p lines rows are =
 abbrev pub Nests : List ℕ → Point → List Group → Type 0
 Nests bytes p gs = Onward p (groups_events bytes gs)
 
-abbrev nests-under : List ℕ → ℕ → Point → List Group → Type 0
-nests-under bytes size p gs = Under size p (groups_events bytes gs)
+abbrev NestsUnder : List ℕ → ℕ → Point → List Group → Type 0
+NestsUnder bytes size p gs = Under size p (groups_events bytes gs)
 
 single-nested : (bytes : List ℕ) (size : ℕ) (p : Point) (row : Row) (events : List Event) → Ordered bytes p row → row.leaves ≤ size + row.opens → row.kind ≢ TextRow → Under (size + row.opens - row.leaves) (behind_row row) events → (kind : RowKind) → row.kind ≡ kind → Under size p (single_events_by bytes kind row ++ events)
 single-nested bytes size p row events o most other on BlankRow e = under-line bytes size p row n.BlankLineEnding row.inside events o most (blank-nested bytes p row o e) on
@@ -321,7 +321,7 @@ single-nested bytes size p row events o most other on HeadingRow e =
 single-nested bytes size p row events o most other on BreakRow e = under-line bytes size p row n.LineEnding (around n.ThematicBreak row.first row.end row.inside) events o most (break-nested bytes p row o e) on
 single-nested bytes size p row events o most other on TextRow e = absurd (other e)
 
-nests-by_lines : (bytes : List ℕ) → ByLines bytes (nests-under bytes)
+nests-by_lines : (bytes : List ℕ) → ByLines bytes (NestsUnder bytes)
 nests-by_lines bytes = record {
   none = λ p. record { matches = tt; closed = refl; forward = tt };
   single = λ size p row gs o most other on. single-nested bytes size p row (groups_events bytes gs) o most other on row.kind refl;
@@ -344,4 +344,4 @@ nests-by_lines bytes = record {
 
 -- The groups of the lines of a text nest.
 pub rows-nest : (options : ParseOptions) (bytes : List ℕ) (p : Point) (lines : List (List ℕ)) (rows : List Row) → AreRows options bytes 0 false p lines rows → Nests bytes p (groups rows)
-rows-nest options bytes p lines rows are = under-none p (groups_events bytes (groups rows)) (rows-hold bytes (nests-under bytes) (nests-by_lines bytes) options p lines rows are)
+rows-nest options bytes p lines rows are = under-none p (groups_events bytes (groups rows)) (rows-hold bytes (NestsUnder bytes) (nests-by_lines bytes) options p lines rows are)

@@ -1,7 +1,7 @@
 -- Prefixes part no text but that of a paragraph, and that at the begins of its lines.
 use Rattle.std.proofs.Common.{◌≡◌, ◌≢◌, ◌⊎◌, inl, inr, ℕ, zero, suc, ◌+◌, ◌-◌, ◌<◌, ◌≤◌, Bool, true, false, cond, ◌&&◌, ◌||◌, List, [], ◌∷◌, ◌++◌, length, get_or, take, drop, slice_range, refl, ap, sym, ◌∙◌, subst, append_assoc, append-nil, arith}
-use Rattle.std.specs.Prelude.{◌==◌, IsTrue, not, nat_lt, slice_index, Option, Some, None}
-use Rattle.std.specs.List.{list_all, onto_first}
+use Rattle.std.specs.Prelude.{◌==◌, IsTrue, not, slice_index, Option, Some, None}
+use Rattle.std.specs.List.{onto_first}
 use Rattle.std.proofs.lemmas.Bool.{and_from, and_parts, eqb-true, true≢false}
 use Rattle.std.proofs.lemmas.Bool.Decides.{nat_tests}
 use Rattle.std.proofs.lemmas.List.{get_or-drop, get_or-take}
@@ -22,7 +22,7 @@ use Rattle.md_seam.specs.Lines.{begins_with, ends_line, is_ending}
 use Rattle.md_seam.specs.Nested.{around, enter, exit, pair}
 use Rattle.md_seam.specs.Places.{at_or_before, last_line, past_byte, same_place}
 use Rattle.md_seam.specs.Rest.{Rest, is_blank, is_white, trim_start}
-use Rattle.md_seam.specs.Spelled.{AsHeading, AsMarkers, AsParagraph, Holds, IsEnding as EndingRole, IsPrefix as PrefixRole, IsQuiet, Opens, QuoteShape, Role, Tells, byte_at, role}
+use Rattle.md_seam.specs.Spelled.{AsMarkers, AsParagraph, Holds, IsEnding as EndingRole, IsPrefix as PrefixRole, IsQuiet, Opens, QuoteShape, Role, Tells, byte_at, role}
 use Rattle.md_seam.specs.Texts.{split_lines}
 use Rattle.md_seam.proofs.RestCells.{Cut}
 use Rattle.md_seam.proofs.SpelledLemmas.{Quiet, QuietOrEnding, Roles, roles-append}
@@ -32,11 +32,11 @@ use Rattle.markdown_blocks.specs.Fronted.{cut_tab, quoted, rest_from, rest_line}
 use Rattle.markdown_blocks.specs.Outlined.{are_parted, begins_line, is_unparted, parts_by, span_by}
 use Rattle.markdown_blocks.specs.Rows.{BlankRow, BreakRow, Group, HeadingRow, Lines, Row, RowKind, Single, TextRow, behind_row, ending_events, goes_on, groups, groups_events, is_text, last_row, line_kind, onto_groups, quote_ends, read_lines, read_text, read_title, row_line, row_title, single_events_by, tail_events}
 use Rattle.markdown_blocks.specs.declared.outline.Span.{Span}
-use Rattle.markdown_blocks.proofs.BetweenRows.{between-behind, ending-behind, is_low, order-index, prefix-between, white-at}
+use Rattle.markdown_blocks.proofs.BetweenRows.{between-behind, ending-behind, is_low, prefix-between, white-at}
 use Rattle.markdown_blocks.proofs.FrontFacts.{Begins, Behind, Fronts, Goes, IsPrefix}
-use Rattle.markdown_blocks.proofs.FrontLemmas.{ends-roles, fronts-roles, prefix_list}
+use Rattle.markdown_blocks.proofs.FrontLemmas.{ends-roles, fronts-roles}
 use Rattle.markdown_blocks.proofs.PlainRoles.{chunk-roles}
-use Rattle.markdown_blocks.proofs.RowFacts.{AreRows, IsEnding, IsInside, IsLine, IsRow, depth_behind, slice-split}
+use Rattle.markdown_blocks.proofs.RowFacts.{AreRows, IsEnding, IsInside, IsLine, depth_behind, slice-split}
 use Rattle.markdown_blocks.proofs.TitleNests.{blank-no_heading, break-no_heading, text_begin, text_end}
 
 -- Points that cut a tab.

@@ -1,9 +1,9 @@
 -- The events of a text where only quotes, headings and breaks are on are those that an outline can be made of.
-use Rattle.std.proofs.Common.{◌≡◌, ◌≢◌, ℕ, ◌+◌, Bool, true, false, cond, ◌||◌, ◌&&◌, ◌==◌, not, List, [], ◌∷◌, ◌++◌, length, take, drop, refl, sym, ◌∙◌, ap}
+use Rattle.std.proofs.Common.{◌≡◌, ◌≢◌, ℕ, ◌+◌, Bool, true, false, cond, ◌||◌, ◌==◌, not, List, [], ◌∷◌, ◌++◌, length, take, drop, refl, ◌∙◌, ap}
 use Rattle.std.specs.Prelude.{Option, Some, None}
 use Rattle.std.specs.List.{list_all}
 use Rattle.std.specs.Str.{IsUtf8}
-use Rattle.std.proofs.lemmas.Bool.{and_from, and_parts, true≢false}
+use Rattle.std.proofs.lemmas.Bool.{and_from, and_parts}
 use Rattle.std.proofs.lemmas.List.Folds.{list_all-append}
 use Rattle.md_engine.specs.declared.configuration.ParseOptions.{ParseOptions}
 use Rattle.md_engine.specs.declared.event.Event.{Event}
@@ -19,7 +19,7 @@ use Rattle.md_seam.specs.Places.{past_byte, past_text, same_place}
 use Rattle.md_seam.specs.Spelled.{IsQuiet, Role, byte_at, role, spelled}
 use Rattle.md_seam.proofs.SpelledLemmas.{Quiet, Roles, roles-append}
 use Rattle.markdown_blocks.specs.Between.{is_between}
-use Rattle.markdown_blocks.specs.Fronted.{quoted, rest_from, rest_line}
+use Rattle.markdown_blocks.specs.Fronted.{rest_from, rest_line}
 use Rattle.markdown_blocks.specs.Outlined.{IsOutlined, are_shallow, has_plain_name, is_plain, is_told, tells_between}
 use Rattle.markdown_blocks.specs.Rows.{BlankRow, BreakRow, Group, HeadingRow, Lines, Row, RowKind, Single, TextRow, behind_row, ending_events, group_events, groups, groups_events, is_text, last_row, quote_ends, read_lines, read_text, read_title, row_line, row_title, single_events_by, tail_events}
 use Rattle.markdown_blocks.proofs.EachRow.{EachGroup, EachRow, OfGroup, groups-each, last-each}

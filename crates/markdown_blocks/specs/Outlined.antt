@@ -1,5 +1,5 @@
 -- What an outline shows: the blocks that the events of paragraphs, headings, breaks and block quotes spell out.
-use Rattle.std.specs.Prelude.{◌≡◌, ℕ, Bool, true, false, ◌||◌, ◌&&◌, ◌==◌, nat_le, not, List, [], ◌∷◌, slice_range, Option, Some, None, option_map}
+use Rattle.std.specs.Prelude.{◌≡◌, ℕ, Bool, true, false, ◌||◌, ◌&&◌, nat_le, not, List, [], ◌∷◌, slice_range, Option, Some, None, option_map}
 use Rattle.std.specs.List.{list_all}
 use Rattle.std.specs.Str.{IsUtf8}
 use Rattle.md_engine.specs.declared.event.Event.{Event}
