@@ -31,6 +31,7 @@ pub mod EachRow
 pub mod NestedRows
 pub mod BetweenRows
 pub mod TreeRows
+pub mod TextQuoted
 pub mod Parses
 pub mod TextCuts
 pub mod Sketches

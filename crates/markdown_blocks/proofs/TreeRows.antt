@@ -260,7 +260,7 @@ come-split options column split lines built (inr e) = ap (λ (l : List (List ℕ
 
 -- The tree of a text.
 
-front-off : (options : ParseOptions) (lines : List (List ℕ)) → options.constructs.frontmatter ≡ false → front_of options lines ≡ None
+pub front-off : (options : ParseOptions) (lines : List (List ℕ)) → options.constructs.frontmatter ≡ false → front_of options lines ≡ None
 unfolding front_of
 front-off options [] off = refl
 front-off options (line ∷ lines) off = rw off refl

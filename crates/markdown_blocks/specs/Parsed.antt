@@ -1,5 +1,6 @@
 -- What a parse asks for, and what it gives.
-use Rattle.std.specs.Prelude.{◌≡◌, ℕ, ◌-◌, ◌/◌, ◌^◌, ◌≤◌, false, IsTrue, List, [], length}
+use Rattle.std.specs.Prelude.{◌≡◌, ◌≢◌, ℕ, ◌-◌, ◌/◌, ◌^◌, ◌≤◌, ◌==◌, true, false, not, IsTrue, List, [], length}
+use Rattle.std.specs.List.{list_all}
 use Rattle.md_engine.specs.declared.configuration.ParseOptions.{ParseOptions}
 use Rattle.md_engine.specs.declared.event.Event.{Event}
 use Rattle.md_engine.specs.declared.parse_state.ParseState.{ParseState}
@@ -7,8 +8,11 @@ use Rattle.md_seam.specs.Inline.{Part, plain_events}
 use Rattle.md_seam.specs.Meaning.{tree}
 use Rattle.md_seam.specs.Nested.{Nested}
 use Rattle.md_seam.specs.Places.{are_placed}
+use Rattle.md_seam.specs.Preamble.{has_mark}
 use Rattle.md_seam.specs.Spelled.{spelled}
 use Rattle.md_seam.specs.Tiles.{Tiles}
+use Rattle.md_seam.specs.Tree.{End, More, Quote}
+use Rattle.md_seam.specs.Wrapped.{quoted}
 use Rattle.markdown_blocks.specs.Outlined.{IsOutlined}
 
 -- a text that points have room for: at most an eighth of the greatest `usize`
@@ -37,6 +41,12 @@ pub record IsBuilt (options : ParseOptions) : Type 0 where
 abbrev pub reads_plain : List ℕ → Part → List Event → Type 0
 reads_plain text part events = events ≡ plain_events text part
 
+-- a text that the quote law is about: it is not empty, and has neither a tab nor a byte order mark
+pub record IsQuotable (text : List ℕ) : Type 0 where
+  pub some : text ≢ []
+  pub no_tab : list_all (λ b. not (b == 9)) text ≡ true
+  pub no_mark : has_mark text ≡ false
+
 -- What is known of a text that was read: its events nest, stand at its points, spell its tree and tile it; and it defines no label.
 pub record IsParsed (text : List ℕ) (options : ParseOptions) (events : List Event) (state : ParseState) : Type 0 where
   pub bytes : state.bytes.now ≡ text
@@ -45,6 +55,8 @@ pub record IsParsed (text : List ℕ) (options : ParseOptions) (events : List Ev
   pub nested : Nested events
   -- each point is one of the text, with the right line and column
   pub placed : IsTrue (are_placed text events)
+  -- with `> ` before each line, the text means one block quote with this tree in it, unchanged
+  pub in_quote : options.constructs.block_quote ≡ true → IsQuotable text → tree options (quoted text) ≡ More (Quote (spelled events text)) End
   pub tree : spelled events text ≡ tree options text
   -- every byte is accounted for: the innermost pairs lie side by side, `Data` over each line of a text part among them
   pub tiles : Tiles (reads_plain text) text events

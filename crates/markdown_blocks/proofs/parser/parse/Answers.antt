@@ -11,6 +11,7 @@ use Rattle.md_seam.proofs.ReachedLemmas.{events-placed}
 use Rattle.markdown_blocks.proofs.FlowReads.{reads-labels, reads-setting, map-nil}
 use Rattle.markdown_blocks.proofs.MarkLemmas.{body-placed}
 use Rattle.markdown_blocks.proofs.Parses.{Reads, parsed-reads}
+use Rattle.markdown_blocks.proofs.TextQuoted.{text-quoted}
 use Rattle.markdown_blocks.specs.TextReads.{text_kind, wants_text}
 use Rattle.markdown_blocks.proofs.parser.parse.Goals as goal
 
@@ -52,6 +53,7 @@ returns c =
       nested = read.nested;
       placed = events-placed c.args.value.now c.in_ok-events.events.items (rw c.as_bytes-bytes.ensures.value at placed);
       tree = read.tree;
+      in_quote = λ on may. text-quoted c.args.options.now c.args.value.now c.in_ok-events.events.items c.requires.built read.tree on may;
       tiles = read.tiles (events-placed c.args.value.now (c.in_ok-front.front.events.items ++ c.deref.result.now) (rw c.as_bytes-bytes.ensures.value at before));
       outlined = read.outlined;
       definitions = map-nil string_bytes c.in_ok-tokenizer.found.definitions.items none.definitions;

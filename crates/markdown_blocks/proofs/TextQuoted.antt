@@ -1,0 +1,18 @@
+-- The quote law for a text that was read: with `> ` before each line its tree stands in one block quote.
+use Rattle.std.proofs.Common.{◌≡◌, ℕ, true, List, ap, ◌∙◌, sym}
+use Rattle.md_engine.specs.declared.configuration.ParseOptions.{ParseOptions}
+use Rattle.md_engine.specs.declared.event.Event.{Event}
+use Rattle.md_seam.specs.Lines.{lines_of}
+use Rattle.md_seam.specs.Meaning.{tree}
+use Rattle.md_seam.specs.Spelled.{spelled}
+use Rattle.md_seam.specs.Tree.{Blocks, End, More, Quote}
+use Rattle.md_seam.specs.Wrapped.{quoted}
+use Rattle.md_seam.proofs.QuoteLaw.{quote-law}
+use Rattle.markdown_blocks.specs.Parsed.{IsBuilt, IsQuotable}
+use Rattle.markdown_blocks.proofs.TreeRows.{front-off}
+
+pub text-quoted : (options : ParseOptions) (text : List ℕ) (events : List Event) → IsBuilt options → spelled events text ≡ tree options text → options.constructs.block_quote ≡ true → IsQuotable text →
+    tree options (quoted text) ≡ More (Quote (spelled events text)) End
+text-quoted options text events built is on may =
+    quote-law options text on may.some may.no_tab may.no_mark (front-off options (lines_of text) built.frontmatter)
+    ∙ ap (λ (bs : Blocks). More (Quote bs) End) (sym is)
