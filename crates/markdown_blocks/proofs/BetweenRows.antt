@@ -323,8 +323,7 @@ prefix-between bytes p q es from is =
     let three : List Event = pair_unless_empty n.SpaceOrTab is.behind q in
     let middle : AreBetween bytes two =
     between-more bytes (enter n.BlockQuotePrefix is.marker) (enter n.BlockQuoteMarker is.marker ∷ exit n.BlockQuoteMarker is.behind ∷ []) marker
-    (between-more bytes (enter n.BlockQuoteMarker is.marker) (exit n.BlockQuoteMarker is.behind ∷ []) marker (between-more bytes (exit n.BlockQuoteMarker is.behind) [] behind refl)) in
-    (
+    (between-more bytes (enter n.BlockQuoteMarker is.marker) (exit n.BlockQuoteMarker is.behind ∷ []) marker (between-more bytes (exit n.BlockQuoteMarker is.behind) [] behind refl)) in (
       subst (AreBetween bytes) (sym is.events)
           (between-append bytes (one ++ (two ++ three)) (exit n.BlockQuotePrefix q ∷ [])
           (between-append bytes one (two ++ three) (between-unless bytes n.SpaceOrTab p is.marker from marker) (between-append bytes two three middle (between-unless bytes n.SpaceOrTab is.behind q behind end)))
@@ -536,8 +535,7 @@ rows-stand options bytes depth going p (line ∷ []) (row ∷ []) from are =
     let is : IsRow options bytes rest row = at.is in
     let end : is_between bytes row.end.index ≡ true = between-end bytes row.end.index are.3 in
     let behind : behind_row row ≡ row.end = behind-none row are.2 in
-    let front = fronts-between bytes row.opens p row.first row.front from at.front in
-    (
+    let front = fronts-between bytes row.opens p row.first row.front from at.front in (
       record {
         first = front.1;
         end = end;
@@ -557,8 +555,7 @@ rows-stand options bytes depth going p (line ∷ next ∷ lines) (row ∷ below 
     let end : is_between bytes row.end.index ≡ true = ending-before bytes row.end are.2 are.4 in
     let after : is_between bytes are.2.index ≡ true = ending-behind bytes row.end are.2 are.4 in
     let behind : behind_row row ≡ are.2 = behind-is row are.2 are.3 in
-    let front = fronts-between bytes row.opens p row.first row.front from at.front in
-    (
+    let front = fronts-between bytes row.opens p row.first row.front from at.front in (
       record {
         first = front.1;
         end = end;

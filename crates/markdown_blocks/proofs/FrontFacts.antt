@@ -1,5 +1,5 @@
 -- What stands in front of a line: the prefixes of its containers, and the begins of the quotes that open on it.
-use Rattle.std.proofs.Common.{◌≡◌, ℕ, suc, Bool, true, List, [], ◌∷◌, ◌++◌, slice_range}
+use Rattle.std.proofs.Common.{◌≡◌, ℕ, suc, true, List, [], ◌∷◌, ◌++◌, slice_range}
 use Rattle.std.specs.Prelude.{IsTrue, slice_get, Some}
 use Rattle.md_engine.specs.declared.event.Event.{Event}
 use Rattle.md_engine.specs.declared.event.Name.TheVariants as n

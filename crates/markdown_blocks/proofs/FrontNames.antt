@@ -1,7 +1,6 @@
 -- What holds of the events in front of a line: they are prefixes and begins of quotes, and nothing of it is read later.
 use Rattle.std.proofs.Common.{◌≡◌, ℕ, ◌≤◌, Bool, true, false, cond, ◌&&◌, List, [], ◌∷◌, ◌++◌, refl, ap, sym, ◌∙◌, subst, append_assoc, arith}
-use Rattle.std.specs.Prelude.{IsTrue, None}
-use Rattle.std.proofs.lemmas.Bool.Decides.{nat_tests}
+use Rattle.std.specs.Prelude.{None}
 use Rattle.md_engine.specs.declared.event.Event.{Event}
 use Rattle.md_engine.specs.declared.event.Name.{Name}
 use Rattle.md_engine.specs.declared.event.Name.TheVariants as n
@@ -10,7 +9,7 @@ use Rattle.md_content.specs.Joined.{content_behind, is_content}
 use Rattle.md_leaves.specs.HeadingText.{is_heading}
 use Rattle.md_seam.specs.Inline.{pair_unless_empty}
 use Rattle.md_seam.specs.Nested.{enter, exit, pair, is_enter}
-use Rattle.md_seam.specs.Places.{at_or_before, same_place}
+use Rattle.md_seam.specs.Places.{same_place}
 use Rattle.md_seam.specs.Substituted.{is_prefix}
 use Rattle.markdown_blocks.specs.Rows.{Row}
 use Rattle.markdown_blocks.proofs.FrontFacts.{Fronts, IsPrefix}

@@ -267,8 +267,7 @@ line-holds options bytes P by depth going p line row gs is ends most begun h =
     let facts = quoted-depth options depth going (rest_from p line) in
     let closes : row.closes ≤ depth = subst (λ (m : ℕ). m ≤ depth) (sym is.closes) facts.0 in
     let behind : depth_behind options depth going p line ≡ depth - row.closes + row.opens =
-    facts.1 ∙ ap (λ (m : ℕ). depth - m + (quoted options depth going (rest_from p line)).opens) (sym is.closes) ∙ ap (λ (m : ℕ). depth - row.closes + m) (sym is.opens) in
-    (
+    facts.1 ∙ ap (λ (m : ℕ). depth - m + (quoted options depth going (rest_from p line)).opens) (sym is.closes) ∙ ap (λ (m : ℕ). depth - row.closes + m) (sym is.opens) in (
       closes,
       (
         onto-begun bytes p row gs row.kind o,

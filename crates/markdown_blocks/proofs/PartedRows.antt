@@ -1,5 +1,5 @@
 -- Prefixes part no text but that of a paragraph, and that at the begins of its lines.
-use Rattle.std.proofs.Common.{◌≡◌, ◌≢◌, ◌⊎◌, inl, inr, ℕ, zero, suc, ◌+◌, ◌-◌, ◌<◌, ◌≤◌, Bool, true, false, cond, ◌&&◌, ◌||◌, List, [], ◌∷◌, ◌++◌, length, get_or, take, drop, slice_range, refl, ap, sym, ◌∙◌, subst, append_assoc, append-nil, arith}
+use Rattle.std.proofs.Common.{◌≡◌, ◌⊎◌, inl, inr, ℕ, zero, suc, ◌+◌, ◌-◌, ◌<◌, ◌≤◌, Bool, true, false, cond, ◌&&◌, ◌||◌, List, [], ◌∷◌, ◌++◌, length, get_or, take, drop, slice_range, refl, ap, sym, ◌∙◌, subst, append_assoc, append-nil, arith}
 use Rattle.std.specs.Prelude.{◌==◌, IsTrue, not, slice_index, Option, Some, None}
 use Rattle.std.specs.List.{onto_first}
 use Rattle.std.proofs.lemmas.Bool.{and_from, and_parts, eqb-true, true≢false}
@@ -22,7 +22,7 @@ use Rattle.md_seam.specs.Lines.{begins_with, ends_line, is_ending}
 use Rattle.md_seam.specs.Nested.{around, enter, exit, pair}
 use Rattle.md_seam.specs.Places.{at_or_before, last_line, past_byte, same_place}
 use Rattle.md_seam.specs.Rest.{Rest, is_blank, is_white, trim_start}
-use Rattle.md_seam.specs.Spelled.{AsMarkers, AsParagraph, Holds, IsEnding as EndingRole, IsPrefix as PrefixRole, IsQuiet, Opens, QuoteShape, Role, Tells, byte_at, role}
+use Rattle.md_seam.specs.Spelled.{IsEnding as EndingRole, IsPrefix as PrefixRole, IsQuiet, Role, Tells, byte_at, role}
 use Rattle.md_seam.specs.Texts.{split_lines}
 use Rattle.md_seam.proofs.RestCells.{Cut}
 use Rattle.md_seam.proofs.SpelledLemmas.{Quiet, QuietOrEnding, Roles, roles-append}
@@ -392,8 +392,7 @@ marks-ended bytes p q span ending fine within j h blank =
     let piece : slice_range bytes span.from j ≡ front ++ (ending_bytes ending.ending ++ white) =
     slice-split bytes span.from p.index j within (later size further)
     ∙ ap (λ (l : List ℕ). front ++ l) (slice-split bytes p.index q.index j size further ∙ ap (λ (l : List ℕ). l ++ white) ending.text) in
-    let last : EndBlank (split_lines (front ++ (ending_bytes ending.ending ++ white))) = ended-blank front ending.ending white blank in
-    (
+    let last : EndBlank (split_lines (front ++ (ending_bytes ending.ending ++ white))) = ended-blank front ending.ending white blank in (
       begins-fine bytes span j fine,
       ap (λ (l : List ℕ). is_blank (last_line (split_lines l))) piece ∙ end-blank (split_lines (front ++ (ending_bytes ending.ending ++ white))) last,
     )

@@ -19,7 +19,6 @@ use Rattle.md_seam.specs.Places.{past_byte, past_text, same_place}
 use Rattle.md_seam.specs.Spelled.{IsQuiet, Role, byte_at, role, spelled}
 use Rattle.md_seam.proofs.SpelledLemmas.{Quiet, Roles, roles-append}
 use Rattle.markdown_blocks.specs.Between.{is_between}
-use Rattle.markdown_blocks.specs.Fronted.{rest_from, rest_line}
 use Rattle.markdown_blocks.specs.Outlined.{IsOutlined, are_shallow, has_plain_name, is_plain, is_told, tells_between}
 use Rattle.markdown_blocks.specs.Rows.{BlankRow, BreakRow, Group, HeadingRow, Lines, Row, RowKind, Single, TextRow, behind_row, ending_events, group_events, groups, groups_events, is_text, last_row, quote_ends, read_lines, read_text, read_title, row_line, row_title, single_events_by, tail_events}
 use Rattle.markdown_blocks.proofs.EachRow.{EachGroup, EachRow, OfGroup, groups-each, last-each}

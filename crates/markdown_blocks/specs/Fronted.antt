@@ -1,8 +1,8 @@
 -- The quotes of a line by its bytes: which go on and open on it, as the line definition says.
-use Rattle.std.specs.Prelude.{ℕ, zero, suc, ◌+◌, ◌-◌, Bool, ◌&&◌, ◌==◌, if◌then◌else◌, List, [], ◌∷◌, ◌++◌, length, Option, Some, None}
+use Rattle.std.specs.Prelude.{ℕ, zero, suc, ◌+◌, ◌-◌, Bool, if◌then◌else◌, List, ◌++◌, length, Some, None}
 use Rattle.md_engine.specs.declared.configuration.ParseOptions.{ParseOptions}
 use Rattle.md_engine.specs.declared.event.Point.{Point}
-use Rattle.md_seam.specs.Containers.{Taken, opens_quote, quote_taken}
+use Rattle.md_seam.specs.Containers.{opens_quote, quote_taken}
 pub use Rattle.md_seam.specs.Rest.{cut_tab}
 use Rattle.md_seam.specs.Rest.{Rest}
 use Rattle.markdown_blocks.specs.Rows.{is_lazy, line_kind}
