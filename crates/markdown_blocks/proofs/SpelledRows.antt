@@ -12,7 +12,7 @@ use Rattle.md_seam.specs.Leaves.{heading_lines, heading_text}
 use Rattle.md_seam.specs.Nested.{around}
 use Rattle.md_seam.specs.Preamble.{rest_at}
 use Rattle.md_seam.specs.Rest.{Rest, run_len}
-use Rattle.md_seam.specs.Spelled.{Around, QuoteShape, Reading, add_block, left, read, role, spelled, unread}
+use Rattle.md_seam.specs.Spelled.{Around, Reading, add_block, left, read, role, spelled, unread}
 use Rattle.md_seam.specs.State.{At, InQuote, Kept, Leaf, NoLeaf, OpenParagraph, Path, Spot, Within, closed, kept, shut, spot, texts, then_leaf}
 use Rattle.md_seam.specs.Step.{spot_of, step, steps}
 use Rattle.md_seam.specs.Tree.{Block, Blocks, End, Heading, Paragraph}
@@ -22,33 +22,15 @@ use Rattle.md_seam.proofs.SpelledLemmas.{Between, Quiet, QuietOrPrefix, Roles, r
 use Rattle.markdown_blocks.specs.Fronted.{Quoted, cut_tab, rest_from, rest_line}
 use Rattle.markdown_blocks.specs.Parsed.{IsBuilt}
 use Rattle.markdown_blocks.specs.Rows.{BlankRow, BreakRow, Group, HeadingRow, Lines, Row, RowKind, Single, TextRow, ending_events, goes_on, groups, groups_events, is_lazy, is_text, last_row, line_kind, onto_groups, onto_lines, quote_ends, read_lines, read_title, row_title, single_events_by, tail_events}
+use Rattle.markdown_blocks.specs.Stands.{IsPlain, around_of, depth_of, final, is_going, outer_on, reading, reading_on}
 use Rattle.markdown_blocks.proofs.FrontFacts.{Behind, Begins, Fronts, Goes}
 use Rattle.markdown_blocks.proofs.LineKinds.{heading-kind}
-use Rattle.markdown_blocks.proofs.LineSteps.{IsPlain, behind_path, depth-step, depth_of, fresh-found, going-step, goes_lazy, held_of, is_going, kept_to, lazy-opens, lazy-text, longer, new_line, new_path, plain-step, quoted-closes, quoted-lazy, quoted_at, rest_line-kind, rest_line-trim, shut-lines, spot_by, step-quoted}
+use Rattle.markdown_blocks.proofs.LineSteps.{behind_path, depth-step, fresh-found, going-step, goes_lazy, held_of, kept_to, lazy-opens, lazy-text, longer, new_line, new_path, plain-step, quoted-closes, quoted-lazy, quoted_at, rest_line-kind, rest_line-trim, shut-lines, spot_by, step-quoted}
 use Rattle.markdown_blocks.proofs.RowFacts as f
 use Rattle.markdown_blocks.proofs.SpelledHeadings.{Begun, Whole, WithTab, read-heading}
 use Rattle.markdown_blocks.proofs.SpelledParagraphs.{IsRead, prefix-roles, read-lines, read-more, read-one}
 
--- Readings of paths.
-
-abbrev quote_around : Blocks → Around
-quote_around before = record { shape = QuoteShape; before = before }
-
--- the quotes of a path, the innermost first, inside of these
-abbrev outer_on : List Around → Path → List Around
-outer_on outer (At s) = outer
-outer_on outer (Within before container p) = outer_on (quote_around before ∷ outer) p
-
-abbrev reading_on : ParseOptions → List Around → Path → Reading
-reading_on options outer p = record { outer = outer_on outer p; here = shut options (spot p); leaf = None; text = None }
-
--- what is read where this path is open; an open paragraph is read already
-abbrev pub reading : ParseOptions → Path → Reading
-reading options p = reading_on options [] p
-
--- where all of it is closed
-abbrev pub final : ParseOptions → Path → Reading
-final options p = record { outer = []; here = closed options p; leaf = None; text = None }
+-- The ends and begins of quotes.
 
 -- so many quotes end
 abbrev lefts : ℕ → Reading → Reading
@@ -71,8 +53,8 @@ lefts-between (suc size) r t l = let next = go r.outer in lefts-between size (le
 lefts-all : (options : ParseOptions) (outer : List Around) (p : Path) → IsPlain p → lefts (depth_of p) (reading_on options outer p) ≡ record { outer = outer; here = closed options p; leaf = None; text = None }
 lefts-all options outer (At s) plain = refl
 lefts-all options outer (Within before InQuote p) plain =
-    lefts-one (depth_of p) (reading_on options (quote_around before ∷ outer) p)
-    ∙ ap (λ (r : Reading). left r.outer r) (lefts-all options (quote_around before ∷ outer) p plain)
+    lefts-one (depth_of p) (reading_on options (around_of InQuote before ∷ outer) p)
+    ∙ ap (λ (r : Reading). left r.outer r) (lefts-all options (around_of InQuote before ∷ outer) p plain)
 lefts-all options outer (Within before container p) plain = absurd plain
 
 -- where some end, the others are kept
@@ -81,17 +63,17 @@ lefts-kept options zero outer p plain le = let all : depth_of p - 0 ≡ depth_of
 lefts-kept options (suc n) outer (At s) plain le = absurd (omega arith)
 lefts-kept options (suc n) outer (Within before InQuote p) plain le =
     let less : suc (depth_of p) - suc n ≡ depth_of p - n = omega arith in
-    ap (λ (k : ℕ). lefts k (reading_on options (quote_around before ∷ outer) p)) less ∙ lefts-kept options n (quote_around before ∷ outer) p plain (omega arith)
+    ap (λ (k : ℕ). lefts k (reading_on options (around_of InQuote before ∷ outer) p)) less ∙ lefts-kept options n (around_of InQuote before ∷ outer) p plain (omega arith)
 lefts-kept options (suc n) outer (Within before container p) plain le = absurd plain
 
 -- so many quotes begin
 abbrev enters : ℕ → Reading → Reading
 enters zero r = r
-enters (suc size) r = enters size (record r { outer = quote_around r.here ∷ r.outer; here = End })
+enters (suc size) r = enters size (record r { outer = around_of InQuote r.here ∷ r.outer; here = End })
 
 enters-between : (size : ℕ) (r : Reading) → r.text ≡ None → r.leaf ≡ None → ((enters size r).text ≡ None) × ((enters size r).leaf ≡ None)
 enters-between zero r t l = (t, l)
-enters-between (suc size) r t l = enters-between size (record r { outer = quote_around r.here ∷ r.outer; here = End }) t l
+enters-between (suc size) r t l = enters-between size (record r { outer = around_of InQuote r.here ∷ r.outer; here = End }) t l
 
 -- so many new quotes with nothing in them
 abbrev new_none : ℕ → Blocks → Path
@@ -104,7 +86,7 @@ open_path options p quotes = behind_path (kept_to options (depth_of p - quotes.c
 
 reading-behind : (options : ParseOptions) (outer : List Around) (p : Path) (f : Blocks → Path) → reading_on options outer (behind_path p f) ≡ reading_on options (outer_on outer p) (f (spot p).here)
 reading-behind options outer (At s) f = refl
-reading-behind options outer (Within before container p) f = reading-behind options (quote_around before ∷ outer) p f
+reading-behind options outer (Within before container p) f = reading-behind options (around_of container before ∷ outer) p f
 
 kept-none : (options : ParseOptions) (n : ℕ) (p : Path) → (spot (kept_to options n p)).leaf ≡ NoLeaf
 kept-none options zero p = refl
@@ -116,7 +98,7 @@ none-shut options s e = ap (then_leaf options s.here) e
 
 reading-none : (options : ParseOptions) (outer : List Around) (n : ℕ) (bs : Blocks) → reading_on options outer (new_none n bs) ≡ enters n (record { outer = outer; here = bs; leaf = None; text = None })
 reading-none options outer zero bs = refl
-reading-none options outer (suc n) bs = reading-none options (quote_around bs ∷ outer) n End
+reading-none options outer (suc n) bs = reading-none options (around_of InQuote bs ∷ outer) n End
 
 -- behind the ends and the begins of quotes
 reading-open : (options : ParseOptions) (p : Path) (quotes : Quoted) → IsPlain p → quotes.closes ≤ depth_of p → reading options (open_path options p quotes) ≡ enters quotes.opens (lefts quotes.closes (reading options p))
@@ -137,7 +119,7 @@ with_spot p s = behind_path p (λ bs. At (s bs))
 
 outer-with : (outer : List Around) (p : Path) (s : Blocks → Spot) → outer_on outer (with_spot p s) ≡ outer_on outer p
 outer-with outer (At x) s = refl
-outer-with outer (Within before container p) s = outer-with (quote_around before ∷ outer) p s
+outer-with outer (Within before container p) s = outer-with (around_of container before ∷ outer) p s
 
 spot-with : (p : Path) (s : Blocks → Spot) → spot (with_spot p s) ≡ s (spot p).here
 spot-with (At x) s = refl
@@ -221,7 +203,7 @@ read-fronts bytes opens p q es r (Behind a) t = refl
 read-fronts bytes opens p q es r (Goes many a b c xs ys prefix more) t =
     read-from bytes r r xs ys (read-prefixes bytes r xs t (prefix-roles QuietOrPrefix bytes a b xs prefix tt tt)) ∙ read-fronts bytes many b c ys r more t
 read-fronts bytes opens p q es r (Begins many a b c xs ys prefix more) t =
-    let s : Reading = record r { outer = quote_around r.here ∷ r.outer; here = End } in
+    let s : Reading = record r { outer = around_of InQuote r.here ∷ r.outer; here = End } in
     read-from bytes s s xs ys (read-prefixes bytes s xs t (prefix-roles QuietOrPrefix bytes a b xs prefix tt tt)) ∙ read-fronts bytes many b c ys s more t
 
 -- the parts of the events of a line, and what follows
