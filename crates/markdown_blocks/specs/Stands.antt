@@ -39,8 +39,11 @@ abbrev pub reading : ParseOptions → Path → Reading
 reading options p = reading_on options [] p
 
 -- where all of it is closed
+abbrev pub final_on : ParseOptions → List Around → Path → Reading
+final_on options outer p = record { outer = outer; here = closed options p; leaf = None; text = None }
+
 abbrev pub final : ParseOptions → Path → Reading
-final options p = record { outer = []; here = closed options p; leaf = None; text = None }
+final options p = final_on options [] p
 
 -- What the tokenizer knows.
 
