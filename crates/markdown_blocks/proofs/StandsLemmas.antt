@@ -46,14 +46,16 @@ open-many held p are = absurd are
 stands : (options : ParseOptions) (g : Flags) (p : Path) → IsPlain p → length g.containers ≡ depth_of p → g.interrupt ≡ is_going p → StandsFor options g (reading options p) p
 stands options g p plain size going = record { containers = are-open g.containers p plain size; going = going; reading = refl }
 
--- What was read stands behind a line, if it stood before it, and the flags hold as many containers as the line leaves open, and
--- whether it is text. The events of a line that does not go on a paragraph lead from the one to the other: so many quotes ended
--- before it, and so many end behind it. The events of a paragraph are read once its last line is known.
+-- What stands behind a line, and how the events of a line that goes on no paragraph lead there from what was read before it: so
+-- many quotes ended before the line, and so many end behind it. A line that goes on a paragraph stands among the events of that
+-- paragraph; `lines-stand` says what is read of it.
 pub record Stood (options : ParseOptions) (bytes : List ℕ) (r : Reading) (p : Path) (row : Row) (going : Bool) (g : Flags) : Type 0 where
   pub behind : Reading
   pub stands : StandsFor options g behind p
   pub reads : is_lazy going row.opens row.kind ≡ false → read bytes (lefts row.closes r) (groups_events bytes (groups (row ∷ []))) ≡ lefts row.leaves behind
 
+-- What was read stands behind a line if it stood before it: where the flags hold as many containers as the line leaves open, and
+-- whether it is text.
 pub line-stands : (options : ParseOptions) (bytes : List ℕ) (g h : Flags) (r : Reading) (p : Path) (a : Point) (line : List ℕ) (row : Row) → IsBuilt options → IsPlain p → StandsFor options g r p →
     f.IsLine options bytes (length g.containers) g.interrupt a line row → length h.containers ≡ f.depth_behind options (length g.containers) g.interrupt a line → h.interrupt ≡ is_text row.kind →
     Stood options bytes r (step options p (rest_from a line)) row g.interrupt h

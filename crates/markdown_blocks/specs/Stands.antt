@@ -1,9 +1,9 @@
 -- What stands between two lines: what was read of the text, what the tokenizer knows, and what is open by the line definition.
 --
--- The events before a line, the ends of the containers that the line closes left out, spell the finished blocks, and the open
--- leaf as if it ended there. What is still open, and may go on, is told by the flags. A container adds a clause to `shape_of` and
--- one to `Is`. Items are meant as they stand before their resolver puts lists around them. A leaf of several lines (fenced code,
--- HTML, a table) will add what its scratch holds: here it is read as if it ended in front of the line.
+-- The events before a line, without the ends of the containers that the line closes, spell the finished blocks, and the open leaf
+-- as if it ended there. What is still open, and may go on, is told by the flags. A container adds a clause to `Is`. Items are
+-- meant as they stand before their resolver puts lists around them. A leaf of several lines (fenced code, HTML, a table) will add
+-- what its scratch holds.
 use Rattle.std.specs.Prelude.{◌≡◌, ℕ, suc, Bool, List, [], ◌∷◌, None}
 use Rattle.md_engine.specs.declared.configuration.ParseOptions.{ParseOptions}
 use Rattle.md_engine.specs.declared.tokenizer.Container.{Container as Held}
