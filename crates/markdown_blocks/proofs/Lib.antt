@@ -27,6 +27,7 @@ pub mod PlainRoles
 pub mod SpelledHeadings
 pub mod SpelledParagraphs
 pub mod SpelledRows
+pub mod StandsLemmas
 pub mod EachRow
 pub mod NestedRows
 pub mod BetweenRows

@@ -20,6 +20,7 @@ use Rattle.markdown_blocks.specs.Fronted.{Prefixed, cut_tab, Quoted, no_prefix, 
 use Rattle.markdown_blocks.specs.Parsed.{IsBuilt}
 use Rattle.markdown_blocks.specs.Rows.{BlankRow, BreakRow, HeadingRow, RowKind, TextRow, is_lazy, is_text, line_kind}
 use Rattle.markdown_blocks.specs.Sections.{heading_block}
+use Rattle.markdown_blocks.specs.Stands.{IsPlain, IsPlainLeaf, depth_of, is_going}
 
 code-off : (options : ParseOptions) (against : Against) (r : Rest) → options.constructs.code_indented ≡ false → code_at options against r ≡ None
 unfolding code_at
@@ -267,25 +268,6 @@ new-found options (suc n) r h = go (opens_quote options r) (opens-fewer options 
 abbrev pub held_of : Leaf → List Kept
 held_of (OpenParagraph lines) = lines
 held_of _ = []
-
--- so many quotes, and nothing or a paragraph open in the innermost
-abbrev pub depth_of : Path → ℕ
-depth_of (At s) = 0
-depth_of (Within before container p) = suc (depth_of p)
-
-abbrev pub IsPlainLeaf : Leaf → Type 0
-IsPlainLeaf NoLeaf = Unit {0}
-IsPlainLeaf (OpenParagraph (k ∷ ks)) = Unit {0}
-IsPlainLeaf _ = ⊥
-
-abbrev pub IsPlain : Path → Type 0
-IsPlain (At s) = IsPlainLeaf s.leaf
-IsPlain (Within before InQuote p) = IsPlain p
-IsPlain (Within before container p) = ⊥
-
--- whether a paragraph is open
-abbrev pub is_going : Path → Bool
-is_going p = is_open_text (spot p).leaf
 
 -- with these lines more in the open paragraph, or in a new one
 abbrev pub longer : Path → List Kept → Path

@@ -1,6 +1,6 @@
 -- What the events of a text are read as, where quotes, headings and breaks alone may be on: what its lines do to the quotes and
 -- the paragraph that are open.
-use Rattle.std.proofs.Common.{◌≡◌, ◌≢◌, ℕ, zero, suc, ◌-◌, ◌≤◌, Bool, true, false, cond, ◌&&◌, List, [], ◌∷◌, ◌++◌, map, drop, refl, ap, sym, ◌∙◌, subst, append_assoc, inl, inr, ◌⊎◌, arith}
+use Rattle.std.proofs.Common.{◌≡◌, ◌≢◌, ℕ, zero, suc, ◌+◌, ◌-◌, ◌≤◌, Bool, true, false, cond, ◌&&◌, List, [], ◌∷◌, ◌++◌, length, map, take, drop, refl, ap, ap₂, sym, ◌∙◌, subst, append_assoc, take_all, inl, inr, ◌⊎◌, arith}
 use Rattle.std.specs.Prelude.{◌==◌, Option, Some, None}
 use Rattle.std.proofs.lemmas.Bool.Decides.{nat_tests}
 use Rattle.md_engine.specs.declared.configuration.ParseOptions.{ParseOptions}
@@ -12,8 +12,8 @@ use Rattle.md_seam.specs.Leaves.{heading_lines, heading_text}
 use Rattle.md_seam.specs.Nested.{around}
 use Rattle.md_seam.specs.Preamble.{rest_at}
 use Rattle.md_seam.specs.Rest.{Rest, run_len}
-use Rattle.md_seam.specs.Spelled.{Around, QuoteShape, Reading, add_block, left, read, role, spelled, unread}
-use Rattle.md_seam.specs.State.{At, InQuote, Kept, Leaf, NoLeaf, OpenParagraph, Path, Spot, Within, closed, kept, shut, spot, texts, then_leaf}
+use Rattle.md_seam.specs.Spelled.{Around, Reading, add_block, block_around, left, read, role, spelled, unread}
+use Rattle.md_seam.specs.State.{At, Container, InFootnote, InItem, InQuote, Kept, Leaf, NoLeaf, OpenParagraph, Path, Spot, Within, closed, container_block, kept, shut, spot, texts, then_block, then_leaf}
 use Rattle.md_seam.specs.Step.{spot_of, step, steps}
 use Rattle.md_seam.specs.Tree.{Block, Blocks, End, Heading, Paragraph}
 use Rattle.md_seam.proofs.BlocksLemmas.{read-break}
@@ -22,36 +22,18 @@ use Rattle.md_seam.proofs.SpelledLemmas.{Between, Quiet, QuietOrPrefix, Roles, r
 use Rattle.markdown_blocks.specs.Fronted.{Quoted, cut_tab, rest_from, rest_line}
 use Rattle.markdown_blocks.specs.Parsed.{IsBuilt}
 use Rattle.markdown_blocks.specs.Rows.{BlankRow, BreakRow, Group, HeadingRow, Lines, Row, RowKind, Single, TextRow, ending_events, goes_on, groups, groups_events, is_lazy, is_text, last_row, line_kind, onto_groups, onto_lines, quote_ends, read_lines, read_title, row_title, single_events_by, tail_events}
+use Rattle.markdown_blocks.specs.Stands.{IsPlain, around_of, depth_of, final, final_on, is_going, outer_on, reading, reading_on, shape_of}
 use Rattle.markdown_blocks.proofs.FrontFacts.{Behind, Begins, Fronts, Goes}
 use Rattle.markdown_blocks.proofs.LineKinds.{heading-kind}
-use Rattle.markdown_blocks.proofs.LineSteps.{IsPlain, behind_path, depth-step, depth_of, fresh-found, going-step, goes_lazy, held_of, is_going, kept_to, lazy-opens, lazy-text, longer, new_line, new_path, plain-step, quoted-closes, quoted-lazy, quoted_at, rest_line-kind, rest_line-trim, shut-lines, spot_by, step-quoted}
+use Rattle.markdown_blocks.proofs.LineSteps.{behind_path, depth-step, fresh-found, going-step, goes_lazy, held_of, kept_to, lazy-opens, lazy-text, longer, new_line, new_path, plain-step, quoted-closes, quoted-lazy, quoted_at, rest_line-kind, rest_line-trim, shut-lines, spot_by, step-quoted}
 use Rattle.markdown_blocks.proofs.RowFacts as f
 use Rattle.markdown_blocks.proofs.SpelledHeadings.{Begun, Whole, WithTab, read-heading}
 use Rattle.markdown_blocks.proofs.SpelledParagraphs.{IsRead, prefix-roles, read-lines, read-more, read-one}
 
--- Readings of paths.
-
-abbrev quote_around : Blocks → Around
-quote_around before = record { shape = QuoteShape; before = before }
-
--- the quotes of a path, the innermost first, inside of these
-abbrev outer_on : List Around → Path → List Around
-outer_on outer (At s) = outer
-outer_on outer (Within before container p) = outer_on (quote_around before ∷ outer) p
-
-abbrev reading_on : ParseOptions → List Around → Path → Reading
-reading_on options outer p = record { outer = outer_on outer p; here = shut options (spot p); leaf = None; text = None }
-
--- what is read where this path is open; an open paragraph is read already
-abbrev pub reading : ParseOptions → Path → Reading
-reading options p = reading_on options [] p
-
--- where all of it is closed
-abbrev pub final : ParseOptions → Path → Reading
-final options p = record { outer = []; here = closed options p; leaf = None; text = None }
+-- The ends and begins of quotes.
 
 -- so many quotes end
-abbrev lefts : ℕ → Reading → Reading
+abbrev pub lefts : ℕ → Reading → Reading
 lefts zero r = r
 lefts (suc size) r = lefts size (left r.outer r)
 
@@ -67,31 +49,36 @@ lefts-between (suc size) r t l = let next = go r.outer in lefts-between size (le
     go [] = (t, l)
     go (x ∷ outer) = (t, l)
 
--- where all quotes of a path end, all of it is closed
-lefts-all : (options : ParseOptions) (outer : List Around) (p : Path) → IsPlain p → lefts (depth_of p) (reading_on options outer p) ≡ record { outer = outer; here = closed options p; leaf = None; text = None }
-lefts-all options outer (At s) plain = refl
-lefts-all options outer (Within before InQuote p) plain =
-    lefts-one (depth_of p) (reading_on options (quote_around before ∷ outer) p)
-    ∙ ap (λ (r : Reading). left r.outer r) (lefts-all options (quote_around before ∷ outer) p plain)
-lefts-all options outer (Within before container p) plain = absurd plain
+-- a container is read as its block
+shape-block : (container : Container) (bs : Blocks) → block_around (shape_of container) bs ≡ container_block container bs
+shape-block InQuote bs = refl
+shape-block (InItem digits marker width starts_blank) bs = refl
+shape-block (InFootnote label) bs = refl
+
+-- where all containers of a path end, all of it is closed
+lefts-all : (options : ParseOptions) (outer : List Around) (p : Path) → lefts (depth_of p) (reading_on options outer p) ≡ final_on options outer p
+lefts-all options outer (At s) = refl
+lefts-all options outer (Within before container p) =
+    lefts-one (depth_of p) (reading_on options (around_of container before ∷ outer) p)
+    ∙ ap (λ (r : Reading). left r.outer r) (lefts-all options (around_of container before ∷ outer) p)
+    ∙ ap (λ (b : Block). record { outer = outer; here = then_block before b; leaf = None; text = None }) (shape-block container (closed options p))
 
 -- where some end, the others are kept
-lefts-kept : (options : ParseOptions) (n : ℕ) (outer : List Around) (p : Path) → IsPlain p → n ≤ depth_of p → lefts (depth_of p - n) (reading_on options outer p) ≡ reading_on options outer (kept_to options n p)
-lefts-kept options zero outer p plain le = let all : depth_of p - 0 ≡ depth_of p = omega arith in ap (λ (k : ℕ). lefts k (reading_on options outer p)) all ∙ lefts-all options outer p plain
-lefts-kept options (suc n) outer (At s) plain le = absurd (omega arith)
-lefts-kept options (suc n) outer (Within before InQuote p) plain le =
+lefts-kept : (options : ParseOptions) (n : ℕ) (outer : List Around) (p : Path) → n ≤ depth_of p → lefts (depth_of p - n) (reading_on options outer p) ≡ reading_on options outer (kept_to options n p)
+lefts-kept options zero outer p le = let all : depth_of p - 0 ≡ depth_of p = omega arith in ap (λ (k : ℕ). lefts k (reading_on options outer p)) all ∙ lefts-all options outer p
+lefts-kept options (suc n) outer (At s) le = absurd (omega arith)
+lefts-kept options (suc n) outer (Within before container p) le =
     let less : suc (depth_of p) - suc n ≡ depth_of p - n = omega arith in
-    ap (λ (k : ℕ). lefts k (reading_on options (quote_around before ∷ outer) p)) less ∙ lefts-kept options n (quote_around before ∷ outer) p plain (omega arith)
-lefts-kept options (suc n) outer (Within before container p) plain le = absurd plain
+    ap (λ (k : ℕ). lefts k (reading_on options (around_of container before ∷ outer) p)) less ∙ lefts-kept options n (around_of container before ∷ outer) p (omega arith)
 
 -- so many quotes begin
 abbrev enters : ℕ → Reading → Reading
 enters zero r = r
-enters (suc size) r = enters size (record r { outer = quote_around r.here ∷ r.outer; here = End })
+enters (suc size) r = enters size (record r { outer = around_of InQuote r.here ∷ r.outer; here = End })
 
 enters-between : (size : ℕ) (r : Reading) → r.text ≡ None → r.leaf ≡ None → ((enters size r).text ≡ None) × ((enters size r).leaf ≡ None)
 enters-between zero r t l = (t, l)
-enters-between (suc size) r t l = enters-between size (record r { outer = quote_around r.here ∷ r.outer; here = End }) t l
+enters-between (suc size) r t l = enters-between size (record r { outer = around_of InQuote r.here ∷ r.outer; here = End }) t l
 
 -- so many new quotes with nothing in them
 abbrev new_none : ℕ → Blocks → Path
@@ -104,7 +91,7 @@ open_path options p quotes = behind_path (kept_to options (depth_of p - quotes.c
 
 reading-behind : (options : ParseOptions) (outer : List Around) (p : Path) (f : Blocks → Path) → reading_on options outer (behind_path p f) ≡ reading_on options (outer_on outer p) (f (spot p).here)
 reading-behind options outer (At s) f = refl
-reading-behind options outer (Within before container p) f = reading-behind options (quote_around before ∷ outer) p f
+reading-behind options outer (Within before container p) f = reading-behind options (around_of container before ∷ outer) p f
 
 kept-none : (options : ParseOptions) (n : ℕ) (p : Path) → (spot (kept_to options n p)).leaf ≡ NoLeaf
 kept-none options zero p = refl
@@ -116,18 +103,18 @@ none-shut options s e = ap (then_leaf options s.here) e
 
 reading-none : (options : ParseOptions) (outer : List Around) (n : ℕ) (bs : Blocks) → reading_on options outer (new_none n bs) ≡ enters n (record { outer = outer; here = bs; leaf = None; text = None })
 reading-none options outer zero bs = refl
-reading-none options outer (suc n) bs = reading-none options (quote_around bs ∷ outer) n End
+reading-none options outer (suc n) bs = reading-none options (around_of InQuote bs ∷ outer) n End
 
 -- behind the ends and the begins of quotes
-reading-open : (options : ParseOptions) (p : Path) (quotes : Quoted) → IsPlain p → quotes.closes ≤ depth_of p → reading options (open_path options p quotes) ≡ enters quotes.opens (lefts quotes.closes (reading options p))
-reading-open options p quotes plain le =
+reading-open : (options : ParseOptions) (p : Path) (quotes : Quoted) → quotes.closes ≤ depth_of p → reading options (open_path options p quotes) ≡ enters quotes.opens (lefts quotes.closes (reading options p))
+reading-open options p quotes le =
     let n : ℕ = depth_of p - quotes.closes in
     let k : Path = kept_to options n p in
     let same : depth_of p - n ≡ quotes.closes = omega arith in
     reading-behind options [] k (new_none quotes.opens)
     ∙ reading-none options (outer_on [] k) quotes.opens (spot k).here
     ∙ ap (λ (bs : Blocks). enters quotes.opens (record { outer = outer_on [] k; here = bs; leaf = None; text = None })) (sym (none-shut options (spot k) (kept-none options n p)))
-    ∙ ap (enters quotes.opens) (sym (lefts-kept options n [] p plain (omega arith)) ∙ ap (λ (m : ℕ). lefts m (reading options p)) same)
+    ∙ ap (enters quotes.opens) (sym (lefts-kept options n [] p (omega arith)) ∙ ap (λ (m : ℕ). lefts m (reading options p)) same)
 
 -- Leaves.
 
@@ -137,7 +124,7 @@ with_spot p s = behind_path p (λ bs. At (s bs))
 
 outer-with : (outer : List Around) (p : Path) (s : Blocks → Spot) → outer_on outer (with_spot p s) ≡ outer_on outer p
 outer-with outer (At x) s = refl
-outer-with outer (Within before container p) s = outer-with (quote_around before ∷ outer) p s
+outer-with outer (Within before container p) s = outer-with (around_of container before ∷ outer) p s
 
 spot-with : (p : Path) (s : Blocks → Spot) → spot (with_spot p s) ≡ s (spot p).here
 spot-with (At x) s = refl
@@ -221,7 +208,7 @@ read-fronts bytes opens p q es r (Behind a) t = refl
 read-fronts bytes opens p q es r (Goes many a b c xs ys prefix more) t =
     read-from bytes r r xs ys (read-prefixes bytes r xs t (prefix-roles QuietOrPrefix bytes a b xs prefix tt tt)) ∙ read-fronts bytes many b c ys r more t
 read-fronts bytes opens p q es r (Begins many a b c xs ys prefix more) t =
-    let s : Reading = record r { outer = quote_around r.here ∷ r.outer; here = End } in
+    let s : Reading = record r { outer = around_of InQuote r.here ∷ r.outer; here = End } in
     read-from bytes s s xs ys (read-prefixes bytes s xs t (prefix-roles QuietOrPrefix bytes a b xs prefix tt tt)) ∙ read-fronts bytes many b c ys s more t
 
 -- the parts of the events of a line, and what follows
@@ -230,35 +217,35 @@ read-parts bytes r a b c d xs ys zs more e f g h = read-from bytes r c (xs ++ ys
 
 -- Groups.
 
--- these groups, where a path is open of whose quotes so many end first, are read to the end of a text
-abbrev Reads : ParseOptions → List ℕ → Path → ℕ → List Group → Path → Type 0
-Reads options bytes p closes gs last = read bytes (lefts closes (reading options p)) (groups_events bytes gs) ≡ final options last
+-- these groups, where a path is open of whose quotes so many end first, are read as this
+abbrev Reads : ParseOptions → List ℕ → Path → ℕ → List Group → Reading → Type 0
+Reads options bytes p closes gs last = read bytes (lefts closes (reading options p)) (groups_events bytes gs) ≡ last
 
--- the lines of a paragraph go on an open one or begin one, and what follows is read to the end of a text
-record ReadsLines (options : ParseOptions) (bytes : List ℕ) (p : Path) (row : Row) (rows : List Row) (gs : List Group) (last : Path) : Type 0 where
+-- the lines of a paragraph go on an open one or begin one, and with what follows are read as this
+record ReadsLines (options : ParseOptions) (bytes : List ℕ) (p : Path) (row : Row) (rows : List Row) (gs : List Group) (last : Reading) : Type 0 where
   first : Kept
   lines : List Kept
   are : IsRead bytes row rows (first ∷ lines)
-  behind : read bytes (reading options (longer p (first ∷ lines))) (tail_events n.LineEnding (last_row row rows) ++ groups_events bytes gs) ≡ final options last
+  behind : read bytes (reading options (longer p (first ∷ lines))) (tail_events n.LineEnding (last_row row rows) ++ groups_events bytes gs) ≡ last
 
-record StartsLines (options : ParseOptions) (bytes : List ℕ) (p : Path) (row : Row) (gs : List Group) (last : Path) : Type 0 where
+record StartsLines (options : ParseOptions) (bytes : List ℕ) (p : Path) (row : Row) (gs : List Group) (last : Reading) : Type 0 where
   rows : List Row
   below : List Group
   groups_are : gs ≡ Lines row rows ∷ below
   reads : ReadsLines options bytes p row rows below last
 
 -- by whether the first line goes on the open paragraph
-abbrev Means : ParseOptions → List ℕ → Path → Bool → Row → List Group → Path → Type 0
+abbrev Means : ParseOptions → List ℕ → Path → Bool → Row → List Group → Reading → Type 0
 Means options bytes p true row gs last = StartsLines options bytes p row gs last
 Means options bytes p false row gs last = Reads options bytes p row.closes gs last
 
 -- Behind a line: what follows does not go on a paragraph,
-record Parts (options : ParseOptions) (bytes : List ℕ) (p : Path) (row : Row) (gs : List Group) (last : Path) : Type 0 where
+record Parts (options : ParseOptions) (bytes : List ℕ) (p : Path) (row : Row) (gs : List Group) (last : Reading) : Type 0 where
   apart : row.kind ≡ TextRow → onto_groups row TextRow gs ≡ Lines row [] ∷ gs
   reads : Reads options bytes p row.leaves gs last
 
 -- or it does
-record Joins (options : ParseOptions) (bytes : List ℕ) (p : Path) (row : Row) (gs : List Group) (last : Path) : Type 0 where
+record Joins (options : ParseOptions) (bytes : List ℕ) (p : Path) (row : Row) (gs : List Group) (last : Reading) : Type 0 where
   text : is_text row.kind ≡ true
   next : Row
   starts : StartsLines options bytes p next gs last
@@ -268,7 +255,7 @@ record Joins (options : ParseOptions) (bytes : List ℕ) (p : Path) (row : Row) 
   ending : f.IsEnding bytes row.end after
   fronts : Fronts bytes 0 after next.first next.front
 
-abbrev Follows : ParseOptions → List ℕ → Path → Row → List Group → Path → Type 0
+abbrev Follows : ParseOptions → List ℕ → Path → Row → List Group → Reading → Type 0
 Follows options bytes p row gs last = Parts options bytes p row gs last ⊎ Joins options bytes p row gs last
 
 onto-joined : (row next : Row) (rows : List Row) (gs : List Group) → row.leaves ≡ 0 → next.opens ≡ 0 → onto_lines row next rows gs ≡ Lines row (next ∷ rows) ∷ gs
@@ -279,7 +266,7 @@ onto-joined row next rows gs e h =
     ∙ ap (λ (t : Bool). cond t (Lines row (next ∷ rows) ∷ gs) (Lines row [] ∷ Lines next rows ∷ gs)) y
 
 -- a line of text, and what follows
-starts-lines : (options : ParseOptions) (bytes : List ℕ) (p : Path) (r : Rest) (row : Row) (gs : List Group) (last : Path) → f.IsRow options bytes (rest_line r) row → Cut r.spaces row.first → row.kind ≡ TextRow →
+starts-lines : (options : ParseOptions) (bytes : List ℕ) (p : Path) (r : Rest) (row : Row) (gs : List Group) (last : Reading) → f.IsRow options bytes (rest_line r) row → Cut r.spaces row.first → row.kind ≡ TextRow →
     Follows options bytes (longer p (kept r ∷ [])) row gs last → StartsLines options bytes p row (onto_groups row TextRow gs) last
 starts-lines options bytes p r row gs last is cut text (inl parts) = record {
   rows = [];
@@ -305,24 +292,24 @@ starts-lines options bytes p r row gs last is cut text (inr joins) =
         first = kept r;
         lines = reads.first ∷ reads.lines;
         are = read-more options bytes r row joins.next below.rows joins.after (reads.first ∷ reads.lines) is cut text joins.ending joins.fronts reads.are;
-        behind = subst (λ (x : Path). read bytes (reading options x) (tail_events n.LineEnding (last_row joins.next below.rows) ++ groups_events bytes below.below) ≡ final options last) (longer-longer p (kept r ∷ []) (reads.first ∷ reads.lines)) reads.behind;
+        behind = subst (λ (x : Path). read bytes (reading options x) (tail_events n.LineEnding (last_row joins.next below.rows) ++ groups_events bytes below.below) ≡ last) (longer-longer p (kept r ∷ []) (reads.first ∷ reads.lines)) reads.behind;
       };
     }
 
 -- Lines.
 
 -- a line that is no text
-single-reads : (options : ParseOptions) (bytes : List ℕ) (p : Path) (quotes : Quoted) (row : Row) (gs : List Group) (last new : Path) (name : Name) (leaf : List Event) → IsPlain p → quotes.closes ≤ depth_of p →
+single-reads : (options : ParseOptions) (bytes : List ℕ) (p : Path) (quotes : Quoted) (row : Row) (gs : List Group) (last : Reading) (new : Path) (name : Name) (leaf : List Event) → quotes.closes ≤ depth_of p →
     row.closes ≡ quotes.closes → row.opens ≡ quotes.opens → (a : Point) → Fronts bytes row.opens a row.first row.front →
     ((e : Reading) → e ≡ reading options (open_path options p quotes) → read bytes e leaf ≡ reading options new) → Between (role name) → Reads options bytes new row.leaves gs last →
-    read bytes (lefts row.closes (reading options p)) ((row.front ++ leaf ++ tail_events name row) ++ groups_events bytes gs) ≡ final options last
-single-reads options bytes p quotes row gs last new name leaf plain le closes opens a fronts found between reads =
+    read bytes (lefts row.closes (reading options p)) ((row.front ++ leaf ++ tail_events name row) ++ groups_events bytes gs) ≡ last
+single-reads options bytes p quotes row gs last new name leaf le closes opens a fronts found between reads =
     let start : Reading = lefts row.closes (reading options p) in
     let begin : Reading = enters row.opens start in
     let text = lefts-between row.closes (reading options p) refl refl in
     let same : begin ≡ reading options (open_path options p quotes) =
-    ap (λ (k : ℕ). enters k start) opens ∙ ap (λ (k : ℕ). enters quotes.opens (lefts k (reading options p))) closes ∙ sym (reading-open options p quotes plain le) in
-    read-parts bytes start begin (reading options new) (lefts row.leaves (reading options new)) (final options last) row.front leaf (tail_events name row) (groups_events bytes gs)
+    ap (λ (k : ℕ). enters k start) opens ∙ ap (λ (k : ℕ). enters quotes.opens (lefts k (reading options p))) closes ∙ sym (reading-open options p quotes le) in
+    read-parts bytes start begin (reading options new) (lefts row.leaves (reading options new)) last row.front leaf (tail_events name row) (groups_events bytes gs)
     (read-fronts bytes row.opens a row.first row.front start fronts text.0) (found begin same) (read-tail bytes name row (reading options new) between refl refl) reads
 
 -- the heading behind the indent of a line
@@ -343,12 +330,12 @@ cut-begun r p cut = go r.spaces cut
     go zero whole = Whole whole
     go (suc k) within = WithTab r.bytes refl
 
-no-joins : (options : ParseOptions) (bytes : List ℕ) (p : Path) (row : Row) (gs : List Group) (last : Path) → is_text row.kind ≡ false → Follows options bytes p row gs last → Reads options bytes p row.leaves gs last
+no-joins : (options : ParseOptions) (bytes : List ℕ) (p : Path) (row : Row) (gs : List Group) (last : Reading) → is_text row.kind ≡ false → Follows options bytes p row gs last → Reads options bytes p row.leaves gs last
 no-joins options bytes p row gs last none (inl parts) = parts.reads
 no-joins options bytes p row gs last none (inr joins) = let text = joins.text in cc
 
 -- One line, and what follows.
-row-means : (options : ParseOptions) (bytes : List ℕ) (p : Path) (a : Point) (line : List ℕ) (row : Row) (gs : List Group) (last : Path) → IsBuilt options → IsPlain p →
+row-means : (options : ParseOptions) (bytes : List ℕ) (p : Path) (a : Point) (line : List ℕ) (row : Row) (gs : List Group) (last : Reading) → IsBuilt options → IsPlain p →
     f.IsLine options bytes (depth_of p) (is_going p) a line row → Follows options bytes (step options p (rest_from a line)) row gs last →
     Means options bytes p (is_lazy (is_going p) row.opens row.kind) row (onto_groups row row.kind gs) last
 row-means options bytes p a line row gs last built plain is follows = go (goes_lazy options p quotes) refl
@@ -382,20 +369,20 @@ row-means options bytes p a line row gs last built plain is follows = go (goes_l
     inside h = (is.is.inside h).quiet
 
     by : (kind : RowKind) → row.kind ≡ kind → Follows options bytes (to kind) row gs last → Reads options bytes p row.closes (onto_groups row kind gs) last
-    by BlankRow e further = subst (λ (k : RowKind). read bytes (lefts row.closes (reading options p)) (single_events_by bytes k row ++ groups_events bytes gs) ≡ final options last) (sym e)
-        (single-reads options bytes p quotes row gs last (to BlankRow) n.BlankLineEnding row.inside plain le is.closes is.opens a is.front
+    by BlankRow e further = subst (λ (k : RowKind). read bytes (lefts row.closes (reading options p)) (single_events_by bytes k row ++ groups_events bytes gs) ≡ last) (sym e)
+        (single-reads options bytes p quotes row gs last (to BlankRow) n.BlankLineEnding row.inside le is.closes is.opens a is.front
         (λ s same. read-quiet bytes s row.inside (inside (λ (h : row.kind ≡ HeadingRow). let bad : BlankRow ≡ HeadingRow = sym e ∙ h in cc)) ∙ same ∙ sym (reading-with options o (λ bs. spot_by bs [] quotes.rest BlankRow) none))
         tt (no-joins options bytes (to BlankRow) row gs last (ap is_text e) further))
-    by HeadingRow e further = subst (λ (k : RowKind). read bytes (lefts row.closes (reading options p)) (single_events_by bytes k row ++ groups_events bytes gs) ≡ final options last) (sym e)
-        (single-reads options bytes p quotes row gs last (to HeadingRow) n.LineEnding (around n.HeadingAtx row.first row.end (read_title bytes (row_title bytes row))) plain le is.closes is.opens a is.front
+    by HeadingRow e further = subst (λ (k : RowKind). read bytes (lefts row.closes (reading options p)) (single_events_by bytes k row ++ groups_events bytes gs) ≡ last) (sym e)
+        (single-reads options bytes p quotes row gs last (to HeadingRow) n.LineEnding (around n.HeadingAtx row.first row.end (read_title bytes (row_title bytes row))) le is.closes is.opens a is.front
         (λ s same.
         ap (λ (x : Reading). read bytes x (around n.HeadingAtx row.first row.end (read_title bytes (row_title bytes row)))) same
         ∙ read-heading options bytes (rest_line quotes.rest) row (reading options o) is.is (cut-begun quotes.rest row.first is.cut) (heading-kind options (rest_line quotes.rest) (sym kind-is ∙ e)) refl refl
         ∙ ap (λ (l : List ℕ). add_block (heading_with l) (reading options o)) (rest_line-trim quotes.rest)
         ∙ sym (reading-with options o (λ bs. spot_by bs [] quotes.rest HeadingRow) none))
         tt (no-joins options bytes (to HeadingRow) row gs last (ap is_text e) further))
-    by BreakRow e further = subst (λ (k : RowKind). read bytes (lefts row.closes (reading options p)) (single_events_by bytes k row ++ groups_events bytes gs) ≡ final options last) (sym e)
-        (single-reads options bytes p quotes row gs last (to BreakRow) n.LineEnding (around n.ThematicBreak row.first row.end row.inside) plain le is.closes is.opens a is.front
+    by BreakRow e further = subst (λ (k : RowKind). read bytes (lefts row.closes (reading options p)) (single_events_by bytes k row ++ groups_events bytes gs) ≡ last) (sym e)
+        (single-reads options bytes p quotes row gs last (to BreakRow) n.LineEnding (around n.ThematicBreak row.first row.end row.inside) le is.closes is.opens a is.front
         (λ s same.
         ap (λ (x : Reading). read bytes x (around n.ThematicBreak row.first row.end row.inside)) same
         ∙ read-break bytes (reading options o) row.first row.end row.inside refl (inside (λ (h : row.kind ≡ HeadingRow). let bad : BreakRow ≡ HeadingRow = sym e ∙ h in cc))
@@ -406,7 +393,7 @@ row-means options bytes p a line row gs last built plain is follows = go (goes_l
         let start : Reading = lefts row.closes (reading options p) in
         let text = lefts-between row.closes (reading options p) refl refl in
         let same : begin ≡ reading options o =
-        ap (λ (k : ℕ). enters k start) is.opens ∙ ap (λ (k : ℕ). enters quotes.opens (lefts k (reading options p))) is.closes ∙ sym (reading-open options p quotes plain le) in
+        ap (λ (k : ℕ). enters k start) is.opens ∙ ap (λ (k : ℕ). enters quotes.opens (lefts k (reading options p))) is.closes ∙ sym (reading-open options p quotes le) in
         let starts = starts-lines options bytes o quotes.rest row gs last is.is is.cut e (subst (λ (x : Path). Follows options bytes x row gs last) (sym (longer-with o (kept quotes.rest ∷ []) none)) further) in
         let reads = starts.reads in
         let whole : List Event = around n.Paragraph row.first (last_row row starts.rows).end (read_lines bytes row starts.rows) in
@@ -431,6 +418,18 @@ row-means options bytes p a line row gs last built plain is follows = go (goes_l
     go false e =
         subst (λ (x : Bool). Means options bytes p x row (onto_groups row row.kind gs) last) (sym (same ∙ e))
         (by row.kind refl (subst (λ (x : Path). Follows options bytes x row gs last) (stepped false e ∙ new-path options p quotes row.kind built (sym kind-is)) follows))
+
+-- where nothing follows
+row-ends : (options : ParseOptions) (bytes : List ℕ) (p : Path) (a : Point) (line : List ℕ) (row : Row) → IsBuilt options → IsPlain p → f.IsLine options bytes (depth_of p) (is_going p) a line row →
+    Means options bytes p (is_lazy (is_going p) row.opens row.kind) row (groups (row ∷ [])) (lefts row.leaves (reading options (step options p (rest_from a line))))
+row-ends options bytes p a line row built plain is =
+    row-means options bytes p a line row [] (lefts row.leaves (reading options (step options p (rest_from a line)))) built plain is (inl (record { apart = λ text. refl; reads = refl }))
+
+-- a line that does not go on a paragraph, but for the quotes that end behind it
+pub row-read : (options : ParseOptions) (bytes : List ℕ) (p : Path) (a : Point) (line : List ℕ) (row : Row) → IsBuilt options → IsPlain p → f.IsLine options bytes (depth_of p) (is_going p) a line row →
+    is_lazy (is_going p) row.opens row.kind ≡ false → read bytes (lefts row.closes (reading options p)) (groups_events bytes (groups (row ∷ []))) ≡ lefts row.leaves (reading options (step options p (rest_from a line)))
+row-read options bytes p a line row built plain is new =
+    subst (λ (x : Bool). Means options bytes p x row (groups (row ∷ [])) (lefts row.leaves (reading options (step options p (rest_from a line))))) new (row-ends options bytes p a line row built plain is)
 
 -- Lines, one after another.
 
@@ -484,7 +483,7 @@ not-joined row below gs lazy = go below.kind lazy
     go TextRow e = onto gs (opens (below.opens == 0) e)
 
 -- what follows a line, by what is read of the lines below
-follows-below : (options : ParseOptions) (bytes : List ℕ) (p : Path) (row below : Row) (gs : List Group) (q : Point) (line : List ℕ) (last : Path) → IsBuilt options → IsPlain p → is_going p ≡ is_text row.kind →
+follows-below : (options : ParseOptions) (bytes : List ℕ) (p : Path) (row below : Row) (gs : List Group) (q : Point) (line : List ℕ) (last : Reading) → IsBuilt options → IsPlain p → is_going p ≡ is_text row.kind →
     row.leaves ≡ below.closes → f.IsEnding bytes row.end q → f.IsLine options bytes (depth_of p) (is_going p) q line below →
     (x : Bool) → is_lazy (is_going p) below.opens below.kind ≡ x → Means options bytes p x below (onto_groups below below.kind gs) last → Follows options bytes p row (onto_groups below below.kind gs) last
 follows-below options bytes p row below gs q line last built plain going leaves ending is true lazy means =
@@ -511,52 +510,99 @@ follows-below options bytes p row below gs q line last built plain going leaves 
 })
 
 -- what the first line is read as
-abbrev RowsMean : ParseOptions → List ℕ → Path → Path → List Row → Type 0
+abbrev RowsMean : ParseOptions → List ℕ → Path → Reading → List Row → Type 0
 RowsMean options bytes p last [] = ⊥
 RowsMean options bytes p last (row ∷ rows) = Means options bytes p (is_lazy (is_going p) row.opens row.kind) row (groups (row ∷ rows)) last
 
--- The groups of the lines of a text are read as what its lines do.
-rows-mean : (options : ParseOptions) (bytes : List ℕ) (a : Path) (p : Point) (lines : List (List ℕ)) (rows : List Row) → IsBuilt options → IsPlain a →
-    f.AreRows options bytes (depth_of a) (is_going a) p lines rows → RowsMean options bytes a (steps options a (rests_from p lines)) rows
-rows-mean options bytes a p (line ∷ []) (row ∷ []) built plain are =
-    let b : Path = step options a (rest_from p line) in
-    let all : row.leaves ≡ depth_of b = are.1 ∙ sym (depth-step options a (rest_from p line) built plain) in
-    row-means options bytes a p line row [] b built plain are.0
-    (inl (record { apart = λ text. refl; reads = ap (λ (k : ℕ). lefts k (reading options b)) all ∙ lefts-all options [] b (plain-step options a (rest_from p line) built plain) }))
-rows-mean options bytes a p (line ∷ next ∷ lines) (row ∷ below ∷ rows) built plain are =
+-- how many quotes end behind the last of these lines
+abbrev pub last_leaves : List Row → ℕ
+last_leaves [] = 0
+last_leaves (row ∷ []) = row.leaves
+last_leaves (row ∷ next ∷ rows) = last_leaves (next ∷ rows)
+
+-- the lines behind the first stand behind what it does
+rows-below : (options : ParseOptions) (bytes : List ℕ) (a : Path) (p : Point) (line next : List ℕ) (lines : List (List ℕ)) (row below : Row) (rows : List Row) → IsBuilt options → IsPlain a →
+    (are : f.AreRows options bytes (depth_of a) (is_going a) p (line ∷ next ∷ lines) (row ∷ below ∷ rows)) →
+    let b : Path = step options a (rest_from p line) in f.AreRows options bytes (depth_of b) (is_going b) are.2 (next ∷ lines) (below ∷ rows)
+rows-below options bytes a p line next lines row below rows built plain are =
+    let r : Rest = rest_from p line in
+    let b : Path = step options a r in
+    let depth : depth_of b ≡ f.depth_behind options (depth_of a) (is_going a) p line = depth-step options a r built plain in
+    let going : is_going b ≡ is_text row.kind = going-step options a r built plain ∙ ap is_text (sym are.0.is.kind) in
+    subst (λ (d : ℕ). f.AreRows options bytes d (is_going b) are.2 (next ∷ lines) (below ∷ rows)) (sym depth)
+    (subst (λ (g : Bool). f.AreRows options bytes (f.depth_behind options (depth_of a) (is_going a) p line) g are.2 (next ∷ lines) (below ∷ rows)) (sym going) are.5)
+
+-- what so many lines, and one more, come to, but for the quotes that end behind them
+abbrev Came : ParseOptions → List ℕ → Path → ℕ → List Rest → List Row → Type 0
+Came options bytes a n rests rows = RowsMean options bytes a (lefts (last_leaves (take (suc n) rows)) (reading options (steps options a (take (suc n) rests)))) (take (suc n) rows)
+
+-- The groups of the lines of a text, up to any of them, are read as what these lines do.
+rows-mean : (options : ParseOptions) (bytes : List ℕ) (a : Path) (p : Point) (n : ℕ) (lines : List (List ℕ)) (rows : List Row) → IsBuilt options → IsPlain a →
+    f.AreRows options bytes (depth_of a) (is_going a) p lines rows → Came options bytes a n (rests_from p lines) rows
+rows-mean options bytes a p zero (line ∷ []) (row ∷ []) built plain are = row-ends options bytes a p line row built plain are.0
+rows-mean options bytes a p (suc n) (line ∷ []) (row ∷ []) built plain are = row-ends options bytes a p line row built plain are.0
+rows-mean options bytes a p zero (line ∷ next ∷ lines) (row ∷ below ∷ rows) built plain are = row-ends options bytes a p line row built plain are.0
+rows-mean options bytes a p (suc n) (line ∷ next ∷ lines) (row ∷ below ∷ rows) built plain are =
     let r : Rest = rest_from p line in
     let b : Path = step options a r in
     let q : Point = are.2 in
-    let depth : depth_of b ≡ f.depth_behind options (depth_of a) (is_going a) p line = depth-step options a r built plain in
     let going : is_going b ≡ is_text row.kind = going-step options a r built plain ∙ ap is_text (sym are.0.is.kind) in
     let plain_b : IsPlain b = plain-step options a r built plain in
-    let are_b : f.AreRows options bytes (depth_of b) (is_going b) q (next ∷ lines) (below ∷ rows) =
-    subst (λ (d : ℕ). f.AreRows options bytes d (is_going b) q (next ∷ lines) (below ∷ rows)) (sym depth)
-    (subst (λ (g : Bool). f.AreRows options bytes (f.depth_behind options (depth_of a) (is_going a) p line) g q (next ∷ lines) (below ∷ rows)) (sym going) are.5) in
-    let further : RowsMean options bytes b (steps options b (rests_from q (next ∷ lines))) (below ∷ rows) = rows-mean options bytes b q (next ∷ lines) (below ∷ rows) built plain_b are_b in
-    let last : Path = steps options b (map (rest_at 0) (next ∷ lines)) in
-    let same : steps options b (rests_from q (next ∷ lines)) ≡ last = ap (steps options b) (rests-behind q (next ∷ lines) are.4.column) in
-    row-means options bytes a p line row (groups (below ∷ rows)) last built plain are.0
-    (follows-below options bytes b row below (groups rows) q next last built plain_b going are.1 are.4 (first-line options bytes (depth_of b) (is_going b) q (next ∷ lines) (below ∷ rows) are_b)
-    (is_lazy (is_going b) below.opens below.kind) refl (subst (λ (l : Path). RowsMean options bytes b l (below ∷ rows)) same further))
-rows-mean options bytes a p lines rows built plain are = absurd are
+    let are_b = rows-below options bytes a p line next lines row below rows built plain are in
+    let further : Came options bytes b n (rests_from q (next ∷ lines)) (below ∷ rows) = rows-mean options bytes b q n (next ∷ lines) (below ∷ rows) built plain_b are_b in
+    let some : List Row = take n rows in
+    let last : Reading = lefts (last_leaves (below ∷ some)) (reading options (steps options b (take (suc n) (map (rest_at 0) (next ∷ lines))))) in
+    row-means options bytes a p line row (groups (below ∷ some)) last built plain are.0
+    (follows-below options bytes b row below (groups some) q next last built plain_b going are.1 are.4 (first-line options bytes (depth_of b) (is_going b) q (next ∷ lines) (below ∷ rows) are_b)
+    (is_lazy (is_going b) below.opens below.kind) refl
+    (subst (λ (rests : List Rest). Came options bytes b n rests (below ∷ rows)) (rests-behind q (next ∷ lines) are.4.column) further))
+rows-mean options bytes a p n lines rows built plain are = absurd are
 
--- The events of a text are read as what its lines come to.
-pub spelled-rows : (options : ParseOptions) (bytes : List ℕ) (p : Point) (lines : List (List ℕ)) (rows : List Row) → IsBuilt options → f.AreRows options bytes 0 false p lines rows →
-    spelled (groups_events bytes (groups rows)) bytes ≡ closed options (steps options (At (spot_of End)) (rests_from p lines))
-unfolding spelled
-spelled-rows options bytes p lines rows built are = go lines rows (first-line options bytes 0 false p lines rows are) (rows-mean options bytes (At (spot_of End)) p lines rows built tt are)
+-- behind the last line of a text all quotes end
+all-leave : (options : ParseOptions) (bytes : List ℕ) (a : Path) (p : Point) (lines : List (List ℕ)) (rows : List Row) → IsBuilt options → IsPlain a →
+    f.AreRows options bytes (depth_of a) (is_going a) p lines rows → last_leaves rows ≡ depth_of (steps options a (rests_from p lines))
+all-leave options bytes a p (line ∷ []) (row ∷ []) built plain are = are.1 ∙ sym (depth-step options a (rest_from p line) built plain)
+all-leave options bytes a p (line ∷ next ∷ lines) (row ∷ below ∷ rows) built plain are =
+    let b : Path = step options a (rest_from p line) in
+    all-leave options bytes b are.2 (next ∷ lines) (below ∷ rows) built (plain-step options a (rest_from p line) built plain) (rows-below options bytes a p line next lines row below rows built plain are)
+    ∙ ap (λ (rests : List Rest). depth_of (steps options b rests)) (rests-behind are.2 (next ∷ lines) are.4.column)
+all-leave options bytes a p lines rows built plain are = absurd are
+
+-- The events of a text, up to any of its lines, are read as what these lines come to, but for the quotes that end behind them.
+pub lines-read : (options : ParseOptions) (bytes : List ℕ) (p : Point) (n : ℕ) (lines : List (List ℕ)) (rows : List Row) → IsBuilt options → f.AreRows options bytes 0 false p lines rows →
+    read bytes unread (groups_events bytes (groups (take n rows))) ≡ lefts (last_leaves (take n rows)) (reading options (steps options (At (spot_of End)) (take n (rests_from p lines))))
+lines-read options bytes p zero lines rows built are = refl
+lines-read options bytes p (suc n) lines rows built are = go lines rows (first-line options bytes 0 false p lines rows are) (rows-mean options bytes (At (spot_of End)) p n lines rows built tt are)
   where
     -- no quote ends in front of the first line
     none : (closes : ℕ) → closes ≤ 0 → lefts closes unread ≡ unread
     none zero le = refl
     none (suc k) le = absurd (omega arith)
 
-    go : (ls : List (List ℕ)) (rs : List Row) → First options bytes 0 false p ls rs → RowsMean options bytes (At (spot_of End)) (steps options (At (spot_of End)) (rests_from p lines)) rs →
-        (read bytes unread (groups_events bytes (groups rs))).here ≡ closed options (steps options (At (spot_of End)) (rests_from p lines))
+    go : (ls : List (List ℕ)) (rs : List Row) → First options bytes 0 false p ls rs → Came options bytes (At (spot_of End)) n (rests_from p lines) rs →
+        read bytes unread (groups_events bytes (groups (take (suc n) rs))) ≡ lefts (last_leaves (take (suc n) rs)) (reading options (steps options (At (spot_of End)) (take (suc n) (rests_from p lines))))
     go (line ∷ ls) (row ∷ rs) is means =
         let closes = quoted-closes options (At (spot_of End)) (rest_from p line) in
         let same = is.closes in
-        ap (λ (r : Reading). (read bytes r (groups_events bytes (groups (row ∷ rs)))).here) (sym (none row.closes (omega arith))) ∙ ap (λ (r : Reading). r.here) means
+        ap (λ (r : Reading). read bytes r (groups_events bytes (groups (row ∷ take n rs)))) (sym (none row.closes (omega arith))) ∙ means
     go [] rs is means = absurd is
     go (line ∷ ls) [] is means = absurd is
+
+-- The events of a text are read as what its lines come to, with all of it closed.
+rows-final : (options : ParseOptions) (bytes : List ℕ) (p : Point) (lines : List (List ℕ)) (rows : List Row) → IsBuilt options → f.AreRows options bytes 0 false p lines rows →
+    read bytes unread (groups_events bytes (groups rows)) ≡ final options (steps options (At (spot_of End)) (rests_from p lines))
+rows-final options bytes p lines rows built are =
+    let rests : List Rest = rests_from p lines in
+    let start : Path = At (spot_of End) in
+    let n : ℕ = length rows + length rests in
+    ap (λ (rs : List Row). read bytes unread (groups_events bytes (groups rs))) (sym (take_all n rows (omega arith)))
+    ∙ lines-read options bytes p n lines rows built are
+    ∙ ap₂ (λ (rs : List Row) (xs : List Rest). lefts (last_leaves rs) (reading options (steps options start xs))) (take_all n rows (omega arith)) (take_all n rests (omega arith))
+    ∙ ap (λ (k : ℕ). lefts k (reading options (steps options start rests))) (all-leave options bytes start p lines rows built tt are)
+    ∙ lefts-all options [] (steps options start rests)
+
+-- So they spell it.
+pub spelled-rows : (options : ParseOptions) (bytes : List ℕ) (p : Point) (lines : List (List ℕ)) (rows : List Row) → IsBuilt options → f.AreRows options bytes 0 false p lines rows →
+    spelled (groups_events bytes (groups rows)) bytes ≡ closed options (steps options (At (spot_of End)) (rests_from p lines))
+unfolding spelled
+spelled-rows options bytes p lines rows built are = ap (λ (r : Reading). r.here) (rows-final options bytes p lines rows built are)

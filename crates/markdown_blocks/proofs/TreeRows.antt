@@ -27,8 +27,9 @@ use Rattle.markdown_blocks.specs.Outlined.{are_shallow, is_shallow}
 use Rattle.markdown_blocks.specs.Parsed.{IsBuilt}
 use Rattle.markdown_blocks.specs.Rows.{BlankRow, BreakRow, HeadingRow, Row, RowKind, TextRow, groups, groups_events, is_lazy, line_kind}
 use Rattle.markdown_blocks.specs.Sections.{heading_block}
+use Rattle.markdown_blocks.specs.Stands.{IsPlain, IsPlainLeaf, depth_of, is_going}
 use Rattle.markdown_blocks.proofs.LineKinds.{heading-kind}
-use Rattle.markdown_blocks.proofs.LineSteps.{IsPlain, IsPlainLeaf, all_new, behind_path, depth_of, fresh-found, goes_lazy, is_going, kept_to, longer, new_line, new_path, plain-step, quoted_at, shut-lines, spot_by, step-new, step-quoted, stepped}
+use Rattle.markdown_blocks.proofs.LineSteps.{all_new, behind_path, fresh-found, goes_lazy, kept_to, longer, new_line, new_path, plain-step, quoted_at, shut-lines, spot_by, step-new, step-quoted, stepped}
 use Rattle.markdown_blocks.proofs.MarkLemmas.{without-mark}
 use Rattle.markdown_blocks.proofs.RowFacts as f
 use Rattle.markdown_blocks.proofs.SpelledRows.{rests_from, spelled-rows}

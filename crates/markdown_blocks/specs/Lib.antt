@@ -7,6 +7,7 @@ pub mod FlowRule
 pub mod Rows
 pub mod Fronted
 pub mod Sections
+pub mod Stands
 pub mod Between
 pub mod FlowReads
 pub mod Unread

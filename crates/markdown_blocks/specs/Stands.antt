@@ -1,0 +1,89 @@
+-- What stands between two lines: what was read of the text, what the tokenizer knows, and what is open by the line definition.
+--
+-- The events before a line, without the ends of the containers that the line closes, spell the finished blocks, and the open leaf
+-- as if it ended there. What is still open, and may go on, is told by the flags. A container adds a clause to `Is`. Items are
+-- meant as they stand before their resolver puts lists around them. A leaf of several lines (fenced code, HTML, a table) will add
+-- what its scratch holds.
+use Rattle.std.specs.Prelude.{◌≡◌, ℕ, suc, Bool, List, [], ◌∷◌, None}
+use Rattle.md_engine.specs.declared.configuration.ParseOptions.{ParseOptions}
+use Rattle.md_engine.specs.declared.tokenizer.Container.{Container as Held}
+use Rattle.md_engine.specs.declared.tokenizer.ContainerKind.TheVariants as kind
+use Rattle.md_engine.specs.World.{Flags}
+use Rattle.md_seam.specs.Spelled.{Around, FootnoteShape, ItemShape, QuoteShape, Reading, Shape}
+use Rattle.md_seam.specs.State.{At, Container, InFootnote, InItem, InQuote, Leaf, NoLeaf, OpenParagraph, Path, Within, closed, shut, spot}
+use Rattle.md_seam.specs.Step.{is_open_text}
+use Rattle.md_seam.specs.Tree.{Blocks}
+
+-- What was read.
+
+-- what the events tell of an open container; the width of an item, and whether it started blank, they do not tell
+abbrev pub shape_of : Container → Shape
+shape_of InQuote = QuoteShape
+shape_of (InItem digits marker width starts_blank) = ItemShape marker digits
+shape_of (InFootnote label) = FootnoteShape label
+
+-- an open container behind these blocks
+abbrev pub around_of : Container → Blocks → Around
+around_of container before = record { shape = shape_of container; before = before }
+
+-- the containers of a path, the innermost first, inside of these
+abbrev pub outer_on : List Around → Path → List Around
+outer_on outer (At s) = outer
+outer_on outer (Within before container p) = outer_on (around_of container before ∷ outer) p
+
+abbrev pub reading_on : ParseOptions → List Around → Path → Reading
+reading_on options outer p = record { outer = outer_on outer p; here = shut options (spot p); leaf = None; text = None }
+
+-- what is read where this path is open; its leaf is read already
+abbrev pub reading : ParseOptions → Path → Reading
+reading options p = reading_on options [] p
+
+-- where all of it is closed
+abbrev pub final_on : ParseOptions → List Around → Path → Reading
+final_on options outer p = record { outer = outer; here = closed options p; leaf = None; text = None }
+
+abbrev pub final : ParseOptions → Path → Reading
+final options p = final_on options [] p
+
+-- What the tokenizer knows.
+
+-- A container that the tokenizer holds is this one: it is of its kind, and holds what the events do not tell. Quotes alone have
+-- a kind yet.
+abbrev pub Is : Held → Container → Type 0
+Is held InQuote = held.kind ≡ kind.BlockQuote
+Is held container = ⊥
+
+-- those that the tokenizer holds are those of a path, the outermost first
+abbrev pub AreOpen : List Held → Path → Type 0
+AreOpen [] (At s) = Unit {0}
+AreOpen (held ∷ more) (Within before container p) = Is held container × AreOpen more p
+AreOpen more p = ⊥
+
+-- how many containers are open
+abbrev pub depth_of : Path → ℕ
+depth_of (At s) = 0
+depth_of (Within before container p) = suc (depth_of p)
+
+-- whether a paragraph is open
+abbrev pub is_going : Path → Bool
+is_going p = is_open_text (spot p).leaf
+
+-- Between two lines, this was read, and these flags tell what is open.
+pub record StandsFor (options : ParseOptions) (g : Flags) (r : Reading) (p : Path) : Type 0 where
+  pub containers : AreOpen g.containers p
+  pub going : g.interrupt ≡ is_going p
+  pub reading : r ≡ reading options p
+
+-- What may be open where quotes, headings and breaks alone may be on.
+
+-- nothing or a paragraph,
+abbrev pub IsPlainLeaf : Leaf → Type 0
+IsPlainLeaf NoLeaf = Unit {0}
+IsPlainLeaf (OpenParagraph (k ∷ ks)) = Unit {0}
+IsPlainLeaf _ = ⊥
+
+-- in quotes
+abbrev pub IsPlain : Path → Type 0
+IsPlain (At s) = IsPlainLeaf s.leaf
+IsPlain (Within before InQuote p) = IsPlain p
+IsPlain (Within before container p) = ⊥
