@@ -24,32 +24,26 @@ QUOTE = "> Some words of a quote, which goes on for a line or two,\n> and *ends*
 DEEP = ">" * 1_000 + " a\n"
 
 
-def write_paragraphs(target: BinaryIO, size: int) -> None:
-    """Writes paragraphs, with a break after every eighth, cut to `size` bytes."""
-    part = (PARAGRAPH * 8 + BREAK).encode()
-    for _ in range(size // len(part)):
-        target.write(part)
-    target.write(part[: size % len(part)])
+def cut(part: str) -> Callable[[BinaryIO, int], None]:
+    """What writes a part again and again, cut to a size in bytes."""
+
+    def write(target: BinaryIO, size: int) -> None:
+        data = part.encode()
+        for _ in range(size // len(data)):
+            target.write(data)
+        target.write(data[: size % len(data)])
+
+    return write
 
 
-def write_headings(target: BinaryIO, count: int) -> None:
-    """Writes so many headings."""
-    for _ in range(count):
-        target.write(HEADING.encode())
+def counted(part: str) -> Callable[[BinaryIO, int], None]:
+    """What writes a part so many times."""
 
+    def write(target: BinaryIO, count: int) -> None:
+        for _ in range(count):
+            target.write(part.encode())
 
-def write_quotes(target: BinaryIO, size: int) -> None:
-    """Writes quotes, one in the other, cut to `size` bytes."""
-    part = QUOTE.encode()
-    for _ in range(size // len(part)):
-        target.write(part)
-    target.write(part[: size % len(part)])
-
-
-def write_deep(target: BinaryIO, count: int) -> None:
-    """Writes so many lines, each in 1,000 quotes."""
-    for _ in range(count):
-        target.write(DEEP.encode())
+    return write
 
 
 def measure(program: Path, write: Callable[[BinaryIO, int], None], size: int) -> tuple[float, int]:
@@ -72,22 +66,16 @@ def main() -> None:
     program = Path(sys.argv[1]) if len(sys.argv) > 1 else default
     if not program.is_file():
         raise SystemExit(f"{program} is not there: build it by `rt run` in its crate")
-    for megabytes in (1, 2, 4, 8):
-        seconds, kilobytes = measure(program, write_paragraphs, megabytes * MEGABYTE)
-        speed = megabytes / seconds
-        print(f"{megabytes} MB: {seconds:.2f} s, {speed:.2f} MB/s, {kilobytes / 1024:.0f} MiB at most")
-    for count in (10_000, 20_000, 40_000, 80_000):
-        seconds, kilobytes = measure(program, write_headings, count)
-        speed = count * len(HEADING) / MEGABYTE / seconds
-        print(f"{count} headings: {seconds:.3f} s, {speed:.2f} MB/s, {kilobytes / 1024:.0f} MiB at most")
-    for megabytes in (1, 2, 4, 8):
-        seconds, kilobytes = measure(program, write_quotes, megabytes * MEGABYTE)
-        speed = megabytes / seconds
-        print(f"{megabytes} MB of quotes: {seconds:.2f} s, {speed:.2f} MB/s, {kilobytes / 1024:.0f} MiB at most")
-    for count in (500, 1_000, 2_000, 4_000):
-        seconds, kilobytes = measure(program, write_deep, count)
-        speed = count * len(DEEP) / MEGABYTE / seconds
-        print(f"{count} lines in 1,000 quotes: {seconds:.2f} s, {speed:.2f} MB/s, {kilobytes / 1024:.0f} MiB at most")
+    for name, part in (("paragraphs", PARAGRAPH * 8 + BREAK), ("quotes", QUOTE)):
+        for megabytes in (1, 2, 4, 8):
+            seconds, kilobytes = measure(program, cut(part), megabytes * MEGABYTE)
+            speed = megabytes / seconds
+            print(f"{megabytes} MB of {name}: {seconds:.2f} s, {speed:.2f} MB/s, {kilobytes / 1024:.0f} MiB at most")
+    for name, part, least in (("headings", HEADING, 10_000), ("lines in 1,000 quotes", DEEP, 500)):
+        for count in (least, 2 * least, 4 * least, 8 * least):
+            seconds, kilobytes = measure(program, counted(part), count)
+            speed = count * len(part) / MEGABYTE / seconds
+            print(f"{count} {name}: {seconds:.3f} s, {speed:.2f} MB/s, {kilobytes / 1024:.0f} MiB at most")
 
 
 if __name__ == "__main__":
