@@ -122,7 +122,7 @@ fn reads_texts(rt: HostRuntime) {
 }
 
 #[test]
-fn reads_quotes(rt: HostRuntime) {
+fn reads_texts_with_quotes(rt: HostRuntime) {
     for (text, want) in [
         (">", "q"),
         (">a\n>\n>b", "qp|a|p|b|"),
