@@ -17,6 +17,7 @@ pub mod HeadingRuns
 pub mod RestRows
 pub mod FrontRows
 pub mod RowLemmas
+pub mod LeafRows
 pub mod FlowRows
 pub mod FlowReads
 pub mod SubstitutedLemmas

@@ -21,7 +21,7 @@ use Rattle.md_seam.specs.Nested.{around, enter, enter_link, exit, pair}
 use Rattle.md_seam.specs.Rest.{is_blank, trim_start}
 use Rattle.md_seam.specs.Spaces.{small_indent}
 
--- what a line is where only headings and breaks are on
+-- what the rest of a line is, behind the prefixes of its containers, where only headings and breaks are on
 pub data RowKind : Type 0 where
   BlankRow : RowKind
   HeadingRow : RowKind

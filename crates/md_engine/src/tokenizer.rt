@@ -78,7 +78,7 @@ impl Scratch {
     };
 }
 
-/// What a construct tells the containers around it.
+/// What a construct tells the containers around it, and what the document knows of these.
 #[derive(Clone, Copy, Debug, PartialEq, Eq)]
 pub struct Flags {
     /// Whether a paragraph is open, which the next line would interrupt.
