@@ -1,4 +1,4 @@
--- What stands in front of a line: the prefixes of its containers, and the begins of the quotes that open on it.
+-- What stands in front of a line: the prefixes of its containers, and the begins of those that open on it.
 use Rattle.std.proofs.Common.{◌≡◌, ℕ, suc, true, List, [], ◌∷◌, ◌++◌, slice_range}
 use Rattle.std.specs.Prelude.{IsTrue, slice_get, Some}
 use Rattle.md_engine.specs.declared.event.Event.{Event}
@@ -8,6 +8,8 @@ use Rattle.md_seam.specs.Inline.{pair_unless_empty}
 use Rattle.md_seam.specs.Nested.{enter, exit}
 use Rattle.md_seam.specs.Places.{at_or_before}
 use Rattle.md_seam.specs.Rest.{is_blank}
+use Rattle.md_seam.specs.State.{Container, InQuote}
+use Rattle.markdown_blocks.specs.Change.{container_name}
 
 -- The prefix of a quote, from a point to a point: whitespace, `>`, and at most one column of whitespace.
 pub record IsPrefix (bytes : List ℕ) (p q : Point) (es : List Event) : Type 0 where
@@ -29,8 +31,21 @@ pub record IsPrefix (bytes : List ℕ) (p q : Point) (es : List Event) : Type 0 
   -- all on one line
   pub line : q.line ≡ p.line
 
--- prefixes, from a point to a point, with the begins of so many quotes among them, each in front of a prefix
-pub data Fronts (bytes : List ℕ) : ℕ → Point → Point → List Event → Type 0 where
-  Behind : (p : Point) → Fronts bytes 0 p p []
-  Goes : (opens : ℕ) (p q r : Point) (es fs : List Event) → IsPrefix bytes p q es → Fronts bytes opens q r fs → Fronts bytes opens p r (es ++ fs)
-  Begins : (opens : ℕ) (p q r : Point) (es fs : List Event) → IsPrefix bytes p q es → Fronts bytes opens q r fs → Fronts bytes (suc opens) p r (enter n.BlockQuote p ∷ es ++ fs)
+-- What stands in front of the content of a container, by the container; there are only quotes yet.
+
+-- of one that goes on,
+abbrev pub IsFurther : List ℕ → Container → Point → Point → List Event → Type 0
+IsFurther bytes InQuote p q es = IsPrefix bytes p q es
+IsFurther bytes container p q es = ⊥
+
+-- and, behind its begin, of one that opens
+abbrev pub IsOpening : List ℕ → Container → Point → Point → List Event → Type 0
+IsOpening bytes InQuote p q es = IsPrefix bytes p q es
+IsOpening bytes container p q es = ⊥
+
+-- all of it, from a point to a point, with the begins of these containers, the outermost first
+pub data Fronts (bytes : List ℕ) : List Container → Point → Point → List Event → Type 0 where
+  Behind : (p : Point) → Fronts bytes [] p p []
+  Goes : (c : Container) (opens : List Container) (p q r : Point) (es fs : List Event) → IsFurther bytes c p q es → Fronts bytes opens q r fs → Fronts bytes opens p r (es ++ fs)
+  Begins : (c : Container) (opens : List Container) (p q r : Point) (es fs : List Event) → IsOpening bytes c p q es → Fronts bytes opens q r fs →
+      Fronts bytes (c ∷ opens) p r (enter (container_name c) p ∷ es ++ fs)

@@ -11,7 +11,9 @@ pub use Rattle.md_seam.proofs.FeedLines.{IsEnding}
 use Rattle.md_seam.proofs.RestCells.{Cut}
 use Rattle.md_seam.proofs.SpelledLemmas.{Roles, Quiet}
 use Rattle.md_seam.proofs.TextsLemmas.{NoEnding, ending_bytes}
-use Rattle.markdown_blocks.specs.Fronted.{quoted, rest_from, rest_line}
+use Rattle.md_seam.specs.State.{Container}
+use Rattle.markdown_blocks.specs.Change.{open_behind}
+use Rattle.markdown_blocks.specs.Fronted.{contained, rest_from, rest_line}
 use Rattle.markdown_blocks.specs.Rows.{HeadingRow, Row, TextRow, is_text, line_kind}
 use Rattle.markdown_blocks.proofs.FrontFacts.{Fronts}
 use Rattle.markdown_blocks.proofs.PiecesLemmas.{Tiled}
@@ -40,30 +42,30 @@ pub record IsRow (options : ParseOptions) (bytes line : List ℕ) (row : Row) : 
   -- in a heading, its runs
   pub heading : row.kind ≡ HeadingRow → row.inside ≡ line_runs Apart line row.first
 
--- a line from a point on, where so many quotes are open, and a paragraph or none: its containers, and its rest as a row
-pub record IsLine (options : ParseOptions) (bytes : List ℕ) (depth : ℕ) (going : Bool) (p : Point) (line : List ℕ) (row : Row) : Type 0 where
-  pub is : IsRow options bytes (rest_line (quoted options depth going (rest_from p line)).rest) row
+-- a line from a point on, where these containers are open, and a paragraph or none: what it does to the containers, and its rest as
+-- a row
+pub record IsLine (options : ParseOptions) (bytes : List ℕ) (open_before : List Container) (going : Bool) (p : Point) (line : List ℕ) (row : Row) : Type 0 where
+  pub is : IsRow options bytes (rest_line (contained options open_before going (rest_from p line)).rest) row
   -- a tab that is cut at the begin of the rest, if there is one
-  pub cut : Cut (quoted options depth going (rest_from p line)).rest.spaces row.first
-  pub front : Fronts bytes row.opens p row.first row.front
-  pub opens : row.opens ≡ (quoted options depth going (rest_from p line)).opens
-  pub closes : row.closes ≡ (quoted options depth going (rest_from p line)).closes
+  pub cut : Cut (contained options open_before going (rest_from p line)).rest.spaces row.first
+  pub front : Fronts bytes row.change.opens p row.first row.front
+  pub change : row.change ≡ (contained options open_before going (rest_from p line)).change
   -- where the line begins no tab is cut
   pub whole : p.vs ≡ 0
   pub column : 1 ≤ p.column
 
--- how many quotes are open behind a line
-abbrev pub depth_behind : ParseOptions → ℕ → Bool → Point → List ℕ → ℕ
-depth_behind options depth going p line = (quoted options depth going (rest_from p line)).depth
+-- which containers are open behind a line
+abbrev pub behind_line : ParseOptions → List Container → Bool → Point → List ℕ → List Container
+behind_line options open_before going p line = open_behind (contained options open_before going (rest_from p line)).change
 
--- These lines, from this point to the end of the text, where so many quotes are open, and a paragraph or none.
-abbrev pub AreRows : ParseOptions → List ℕ → ℕ → Bool → Point → List (List ℕ) → List Row → Type 0
-AreRows options bytes depth going p (line ∷ []) (row ∷ []) =
-    (is : IsLine options bytes depth going p line row) × (leaves : row.leaves ≡ depth_behind options depth going p line) × (last : row.after ≡ None) × (row.end.index ≡ length bytes)
-AreRows options bytes depth going p (line ∷ next ∷ lines) (row ∷ below ∷ rows) =
-    (is : IsLine options bytes depth going p line row) × (leaves : row.leaves ≡ below.closes) × (q : Point) × (after : row.after ≡ Some q) × (ending : IsEnding bytes row.end q)
-    × AreRows options bytes (depth_behind options depth going p line) (is_text row.kind) q (next ∷ lines) (below ∷ rows)
-AreRows options bytes depth going p _ _ = ⊥
+-- These lines, from this point to the end of the text, where these containers are open, and a paragraph or none.
+abbrev pub AreRows : ParseOptions → List ℕ → List Container → Bool → Point → List (List ℕ) → List Row → Type 0
+AreRows options bytes open_before going p (line ∷ []) (row ∷ []) =
+    (is : IsLine options bytes open_before going p line row) × (leaves : row.leaves ≡ behind_line options open_before going p line) × (last : row.after ≡ None) × (row.end.index ≡ length bytes)
+AreRows options bytes open_before going p (line ∷ next ∷ lines) (row ∷ below ∷ rows) =
+    (is : IsLine options bytes open_before going p line row) × (leaves : row.leaves ≡ below.change.closes) × (q : Point) × (after : row.after ≡ Some q) × (ending : IsEnding bytes row.end q)
+    × AreRows options bytes (behind_line options open_before going p line) (is_text row.kind) q (next ∷ lines) (below ∷ rows)
+AreRows options bytes open_before going p _ _ = ⊥
 
 -- a slice is cut at a place inside
 pub slice-split : (bytes : List ℕ) (a b c : ℕ) → a ≤ b → b ≤ c → slice_range bytes a c ≡ slice_range bytes a b ++ slice_range bytes b c

@@ -20,7 +20,7 @@ text_cells bytes options p = text_feed (text_setting bytes options p) p
 
 -- its lines, as flow reads them
 abbrev pub text_rows : ParseOptions → List ℕ → Point → List Row
-text_rows options bytes p = rows_at options (suc (length (text_cells bytes options p))) 0 false (text_cells bytes options p) p
+text_rows options bytes p = rows_at options (suc (length (text_cells bytes options p))) [] false (text_cells bytes options p) p
 
 -- no line is content
 abbrev pub NoText : List Row → Type 0

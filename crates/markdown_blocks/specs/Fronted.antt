@@ -1,32 +1,34 @@
--- The quotes of a line by its bytes: which go on and open on it, as the line definition says.
-use Rattle.std.specs.Prelude.{ℕ, zero, suc, ◌+◌, ◌-◌, Bool, if◌then◌else◌, List, ◌++◌, length, Some, None}
+-- The containers of a line by its bytes: which go on and open on it, as the line definition says.
+use Rattle.std.specs.Prelude.{ℕ, zero, suc, ◌-◌, Bool, false, List, [], ◌∷◌, ◌++◌, length, Some, None}
 use Rattle.md_engine.specs.declared.configuration.ParseOptions.{ParseOptions}
 use Rattle.md_engine.specs.declared.event.Point.{Point}
-use Rattle.md_seam.specs.Containers.{opens_quote, quote_taken}
+use Rattle.md_seam.specs.Containers.{continues, opens}
 pub use Rattle.md_seam.specs.Rest.{cut_tab}
 use Rattle.md_seam.specs.Rest.{Rest}
+use Rattle.md_seam.specs.State.{Container}
+use Rattle.markdown_blocks.specs.Change.{Change, change_by, interrupts, others_of}
 use Rattle.markdown_blocks.specs.Rows.{is_lazy, line_kind}
 
--- how many prefixes a line has, and its rest behind them
+-- containers that have a prefix on a line, and its rest behind them
 pub record Prefixed : Type 0 where
-  pub many : ℕ
+  pub containers : List Container
   pub rest : Rest
 
 abbrev pub no_prefix : Rest → Prefixed
-no_prefix r = record { many = 0; rest = r }
+no_prefix r = record { containers = []; rest = r }
 
-abbrev pub one_more : Prefixed → Prefixed
-one_more f = record f { many = suc f.many }
+abbrev pub one_more : Container → Prefixed → Prefixed
+one_more c f = record f { containers = c ∷ f.containers }
 
--- the prefixes of at most so many quotes that are open
-abbrev pub quotes_on : ParseOptions → ℕ → Rest → Prefixed
-quotes_on options zero r = no_prefix r
-quotes_on options (suc n) r = elim (quote_taken options r) [ None ↦ no_prefix r | Some t ↦ one_more (quotes_on options n t.rest) ]
+-- each open container is asked whether it goes on, from the outermost in, until one does not
+abbrev pub prefixes_on : ParseOptions → List Container → Rest → Prefixed
+prefixes_on options [] r = no_prefix r
+prefixes_on options (c ∷ cs) r = elim (continues options c r) [ None ↦ no_prefix r | Some t ↦ one_more t.container (prefixes_on options cs t.rest) ]
 
--- at most so many that open
-abbrev pub quotes_new : ParseOptions → ℕ → Rest → Prefixed
-quotes_new options zero r = no_prefix r
-quotes_new options (suc n) r = elim (opens_quote options r) [ None ↦ no_prefix r | Some t ↦ one_more (quotes_new options n t.rest) ]
+-- containers open as often as they do, at most so many; the first may interrupt a paragraph
+abbrev pub prefixes_new : ParseOptions → Bool → ℕ → Rest → Prefixed
+prefixes_new options interrupting zero r = no_prefix r
+prefixes_new options interrupting (suc n) r = elim (opens options interrupting r) [ None ↦ no_prefix r | Some t ↦ one_more t.container (prefixes_new options false n t.rest) ]
 
 -- as the rest of a line stands in the text: a tab that is cut is counted among its bytes
 abbrev pub rest_line : Rest → List ℕ
@@ -36,22 +38,21 @@ rest_line r = cut_tab r.spaces ++ r.bytes
 abbrev pub rest_from : Point → List ℕ → Rest
 rest_from p line = record { column = p.column - 1; spaces = 0; bytes = line }
 
--- The quotes of a line, where so many were open before it, and a paragraph or none: how many end before it, how many open on
--- it, how many are open behind it, and its rest.
-pub record Quoted : Type 0 where
-  pub closes : ℕ
-  pub opens : ℕ
-  pub depth : ℕ
+-- what a line does to the containers, and its rest behind them
+pub record Contained : Type 0 where
+  pub change : Change
   pub rest : Rest
 
-abbrev pub quoted_by : ℕ → ℕ → Prefixed → Quoted
-quoted_by depth keep new = record { closes = depth - keep; opens = new.many; depth = keep + new.many; rest = new.rest }
+abbrev pub contained_by : List Container → Bool → Prefixed → Prefixed → Contained
+contained_by cs lazy went new = record { change = change_by lazy went.containers (others_of cs went.containers) new.containers; rest = new.rest }
 
-abbrev pub quoted_of : ParseOptions → ℕ → Bool → ℕ → Prefixed → Quoted
-quoted_of options depth going went new = quoted_by depth (if is_lazy going new.many (line_kind options (rest_line new.rest)) then depth else went) new
+abbrev pub contained_of : ParseOptions → List Container → Bool → Prefixed → Prefixed → Contained
+contained_of options cs going went new = contained_by cs (is_lazy going new.containers (line_kind options (rest_line new.rest))) went new
 
-abbrev pub quoted_behind : ParseOptions → ℕ → Bool → Prefixed → Quoted
-quoted_behind options depth going went = quoted_of options depth going went.many (quotes_new options (length went.rest.bytes) went.rest)
+abbrev pub contained_behind : ParseOptions → List Container → Bool → Prefixed → Contained
+contained_behind options cs going went =
+    contained_of options cs going went (prefixes_new options (interrupts going (others_of cs went.containers)) (length went.rest.bytes) went.rest)
 
-unfoldable pub quoted : ParseOptions → ℕ → Bool → Rest → Quoted
-quoted options depth going r = quoted_behind options depth going (quotes_on options depth r)
+-- where these containers are open before it, and a paragraph or none
+unfoldable pub contained : ParseOptions → List Container → Bool → Rest → Contained
+contained options cs going r = contained_behind options cs going (prefixes_on options cs r)

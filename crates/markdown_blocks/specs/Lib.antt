@@ -4,6 +4,7 @@ pub mod States
 pub mod Parsed
 pub mod Resolved
 pub mod FlowRule
+pub mod Change
 pub mod Rows
 pub mod Fronted
 pub mod Sections

@@ -20,6 +20,8 @@ use Rattle.md_seam.specs.Leaves.{is_rule}
 use Rattle.md_seam.specs.Nested.{around, enter, enter_link, exit, pair}
 use Rattle.md_seam.specs.Rest.{is_blank, trim_start}
 use Rattle.md_seam.specs.Spaces.{small_indent}
+use Rattle.md_seam.specs.State.{Container, InQuote}
+use Rattle.markdown_blocks.specs.Change.{Change, change_by, ends_of, interrupts, is_none, open_behind, others_of}
 
 -- what the rest of a line is, behind the prefixes of its containers, where only headings and breaks are on
 pub data RowKind : Type 0 where
@@ -33,10 +35,10 @@ pub record Row : Type 0 where
   pub kind : RowKind
   -- what stands in front of it: the prefixes of its containers, and the begins of those that open on it
   pub front : List Event
-  -- how many quotes open on it, how many end before it, and how many end behind it
-  pub opens : ℕ
-  pub closes : ℕ
-  pub leaves : ℕ
+  -- what it does to the containers that were open before it
+  pub change : Change
+  -- those that end behind it, the outermost first
+  pub leaves : List Container
   -- behind its containers: where it begins, what stands in it unless it is text, where its ending begins, and where it has
   -- ended, if it has an ending
   pub first : Point
@@ -91,43 +93,59 @@ after_ending (c ∷ cs) = Some c.after
 
 -- Containers by the cells of a line.
 
--- prefixes of so many containers, or their begins, and what is left of the line behind them
-pub record Front : Type 0 where
+-- a container that goes on or opens: what stands in front of its content, and what is left behind it
+pub record Passed : Type 0 where
+  pub container : Container
   pub events : List Event
-  pub many : ℕ
+  pub cells : List Cell
+  pub point : Point
+
+-- a quote that goes on
+abbrev pub quote_on : ParseOptions → List Cell → Point → Passed
+quote_on options cells p = record { container = InQuote; events = prefix_events options cells p; cells = prefix_rest options cells; point = prefix_end options cells p }
+
+-- one that opens
+abbrev pub quote_new : ParseOptions → List Cell → Point → Passed
+quote_new options cells p = record { container = InQuote; events = enter n.BlockQuote p ∷ prefix_events options cells p; cells = prefix_rest options cells; point = prefix_end options cells p }
+
+-- whether an open container goes on; there are only quotes yet
+abbrev pub goes_at : ParseOptions → Container → List Cell → Point → Option Passed
+goes_at options InQuote cells p = if takes_prefix options cells then Some (quote_on options cells p) else None
+goes_at options container cells p = None
+
+-- the container that opens, if one does, where it would interrupt a paragraph or not
+abbrev pub opens_at : ParseOptions → Bool → List Cell → Point → Option Passed
+opens_at options interrupting cells p = if options.constructs.block_quote && takes_prefix options cells then Some (quote_new options cells p) else None
+
+-- containers that have a prefix on a line, and what is left of it behind them
+pub record Front : Type 0 where
+  pub containers : List Container
+  pub events : List Event
   pub cells : List Cell
   pub point : Point
 
 abbrev pub no_front : List Cell → Point → Front
-no_front cells p = record { events = []; many = 0; cells = cells; point = p }
+no_front cells p = record { containers = []; events = []; cells = cells; point = p }
 
--- these events of one more in front
-abbrev pub in_front : List Event → Front → Front
-in_front events f = record f { events = events ++ f.events; many = suc f.many }
+-- one more in front
+abbrev pub in_front : Passed → Front → Front
+in_front t f = record f { containers = t.container ∷ f.containers; events = t.events ++ f.events }
 
--- each of so many open quotes is asked whether it goes on, until one does not
-abbrev pub went_front : ParseOptions → ℕ → List Cell → Point → Front
-went_front options zero cells p = no_front cells p
-went_front options (suc size) cells p =
-    if takes_prefix options cells
-    then in_front (prefix_events options cells p) (went_front options size (prefix_rest options cells) (prefix_end options cells p))
-    else no_front cells p
+-- each open container is asked whether it goes on, from the outermost in, until one does not
+abbrev pub went_front : ParseOptions → List Container → List Cell → Point → Front
+went_front options [] cells p = no_front cells p
+went_front options (c ∷ cs) cells p = elim (goes_at options c cells p) [ None ↦ no_front cells p | Some t ↦ in_front t (went_front options cs t.cells t.point) ]
 
--- quotes open as often as they do, at most so many
-abbrev pub new_front : ParseOptions → ℕ → List Cell → Point → Front
-new_front options zero cells p = no_front cells p
-new_front options (suc size) cells p =
-    if options.constructs.block_quote && takes_prefix options cells
-    then in_front (enter n.BlockQuote p ∷ prefix_events options cells p) (new_front options size (prefix_rest options cells) (prefix_end options cells p))
-    else no_front cells p
+-- containers open as often as they do, at most so many; the first may interrupt a paragraph
+abbrev pub new_front : ParseOptions → Bool → ℕ → List Cell → Point → Front
+new_front options interrupting zero cells p = no_front cells p
+new_front options interrupting (suc size) cells p =
+    elim (opens_at options interrupting cells p) [ None ↦ no_front cells p | Some t ↦ in_front t (new_front options false size t.cells t.point) ]
 
--- The containers of a line: those before it, whether a paragraph is open, and what goes on and opens.
+-- What a line does to the containers that are open before it, and what is left of it.
 pub record Held : Type 0 where
+  pub change : Change
   pub front : List Event
-  pub opens : ℕ
-  pub closes : ℕ
-  -- how many are open behind it
-  pub depth : ℕ
   pub cells : List Cell
   pub point : Point
 
@@ -135,37 +153,37 @@ abbrev pub is_text : RowKind → Bool
 is_text TextRow = true
 is_text _ = false
 
--- so many of the containers before it are still open
-abbrev pub held_by : ℕ → ℕ → Front → Front → Held
-held_by depth keep went new = record { front = went.events ++ new.events; opens = new.many; closes = depth - keep; depth = keep + new.many; cells = new.cells; point = new.point }
-
 -- whether a line goes on the open paragraph, whatever containers go on (CommonMark 5.1, "laziness")
-abbrev pub is_lazy : Bool → ℕ → RowKind → Bool
-is_lazy going opens kind = going && (opens == 0) && is_text kind
+abbrev pub is_lazy : Bool → List Container → RowKind → Bool
+is_lazy going opens kind = going && is_none opens && is_text kind
 
-abbrev pub held_of : ParseOptions → ℕ → Bool → Front → Front → Held
-held_of options depth going went new = held_by depth (if is_lazy going new.many (row_kind options new.cells) then depth else went.many) went new
+abbrev pub held_by : List Container → Bool → Front → Front → Held
+held_by cs lazy went new = record { change = change_by lazy went.containers (others_of cs went.containers) new.containers; front = went.events ++ new.events; cells = new.cells; point = new.point }
 
-abbrev pub held_behind : ParseOptions → ℕ → Bool → Front → Held
-held_behind options depth going went = held_of options depth going went (new_front options (length went.cells) went.cells went.point)
+abbrev pub held_of : ParseOptions → List Container → Bool → Front → Front → Held
+held_of options cs going went new = held_by cs (is_lazy going new.containers (row_kind options new.cells)) went new
 
-unfoldable pub held_at : ParseOptions → ℕ → Bool → List Cell → Point → Held
-held_at options depth going cells p = held_behind options depth going (went_front options depth cells p)
+abbrev pub held_behind : ParseOptions → List Container → Bool → Front → Held
+held_behind options cs going went =
+    held_of options cs going went (new_front options (interrupts going (others_of cs went.containers)) (length went.cells) went.cells went.point)
+
+-- where these containers are open before it, and a paragraph or none
+unfoldable pub held_at : ParseOptions → List Container → Bool → List Cell → Point → Held
+held_at options cs going cells p = held_behind options cs going (went_front options cs cells p)
 
 -- The lines.
 
--- how many quotes end in front of these lines; so many do at the end of the text
-abbrev pub closes_before : ℕ → List Row → ℕ
-closes_before depth [] = depth
-closes_before depth (row ∷ rows) = row.closes
+-- which containers end in front of these lines; all do at the end of the text
+abbrev pub closes_before : List Container → List Row → List Container
+closes_before cs [] = cs
+closes_before cs (row ∷ rows) = row.change.closes
 
 abbrev pub row_of : ParseOptions → Held → List Row → Row
 row_of options h below = record {
   kind = row_kind options h.cells;
   front = h.front;
-  opens = h.opens;
-  closes = h.closes;
-  leaves = closes_before h.depth below;
+  change = h.change;
+  leaves = closes_before (open_behind h.change) below;
   first = h.point;
   inside = inside_of options h.cells h.point (row_kind options h.cells);
   end = line_end h.cells h.point;
@@ -176,28 +194,24 @@ abbrev pub onto_rows : ParseOptions → Held → List Row → List Row
 onto_rows options h below = row_of options h below ∷ below
 
 -- the lines behind one, by what reads them
-abbrev pub rows_by : ParseOptions → Held → (ℕ → Bool → List Cell → Point → List Row) → List Row
-rows_by options h further = onto_rows options h (elim (from_ending h.cells) [ [] ↦ [] | c ∷ cs ↦ further h.depth (is_text (row_kind options h.cells)) cs c.after ])
+abbrev pub rows_by : ParseOptions → Held → (List Container → Bool → List Cell → Point → List Row) → List Row
+rows_by options h further =
+    onto_rows options h (elim (from_ending h.cells) [ [] ↦ [] | c ∷ cs ↦ further (open_behind h.change) (is_text (row_kind options h.cells)) cs c.after ])
 
--- At most so many lines, where so many quotes are open, and a paragraph or none; behind the last ending stands an empty line.
-abbrev pub rows_at : ParseOptions → ℕ → ℕ → Bool → List Cell → Point → List Row
-rows_at options zero depth going cells p = []
-rows_at options (suc size) depth going cells p = rows_by options (held_at options depth going cells p) (rows_at options size)
+-- At most so many lines, where these containers are open, and a paragraph or none; behind the last ending stands an empty line.
+abbrev pub rows_at : ParseOptions → ℕ → List Container → Bool → List Cell → Point → List Row
+rows_at options zero open_before going cells p = []
+rows_at options (suc size) open_before going cells p = rows_by options (held_at options open_before going cells p) (rows_at options size)
 
 -- Events.
-
--- the ends of so many quotes
-abbrev pub quote_ends : ℕ → Point → List Event
-quote_ends zero p = []
-quote_ends (suc size) p = exit n.BlockQuote p ∷ quote_ends size p
 
 -- the ending of a line
 abbrev pub ending_events : Name → Row → List Event
 ending_events name row = elim row.after [ None ↦ [] | Some q ↦ pair name row.end q ]
 
--- behind a line: the quotes that end there, and its ending
+-- behind a line: the containers that end there, and its ending
 abbrev pub tail_events : Name → Row → List Event
-tail_events name row = quote_ends row.leaves row.end ++ ending_events name row
+tail_events name row = ends_of row.leaves row.end ++ ending_events name row
 
 abbrev pub ending_of : RowKind → Name
 ending_of BlankRow = n.BlankLineEnding
@@ -251,9 +265,9 @@ pub data Group : Type 0 where
   Single : Row → Group
   Lines : Row → List Row → Group
 
--- whether a line of text goes on the paragraph of the one before: no quote ends or opens between them
+-- whether a line of text goes on the paragraph of the one before: no container ends or opens between them
 abbrev pub goes_on : Row → Row → Bool
-goes_on row next = (row.leaves == 0) && (next.opens == 0)
+goes_on row next = is_none row.leaves && is_none next.change.opens
 
 abbrev pub onto_lines : Row → Row → List Row → List Group → List Group
 onto_lines row next rows groups = if goes_on row next then Lines row (next ∷ rows) ∷ groups else Lines row [] ∷ Lines next rows ∷ groups
@@ -263,7 +277,7 @@ onto_groups row TextRow (Lines next rows ∷ groups) = onto_lines row next rows 
 onto_groups row TextRow groups = Lines row [] ∷ groups
 onto_groups row kind groups = Single row ∷ groups
 
--- lines of text that follow one another are a paragraph, unless quotes end or open between them
+-- lines of text that follow one another are a paragraph, unless containers end or open between them
 abbrev pub groups : List Row → List Group
 groups [] = []
 groups (row ∷ rows) = onto_groups row row.kind (groups rows)

@@ -4,7 +4,7 @@
 -- as if it ended there. What is still open, and may go on, is told by the flags. A container adds a clause to `Is`. Items are
 -- meant as they stand before their resolver puts lists around them. A leaf of several lines (fenced code, HTML, a table) will add
 -- what its scratch holds.
-use Rattle.std.specs.Prelude.{◌≡◌, ℕ, suc, Bool, List, [], ◌∷◌, None}
+use Rattle.std.specs.Prelude.{◌≡◌, Bool, List, [], ◌∷◌, None}
 use Rattle.md_engine.specs.declared.configuration.ParseOptions.{ParseOptions}
 use Rattle.md_engine.specs.declared.tokenizer.Container.{Container as Held}
 use Rattle.md_engine.specs.declared.tokenizer.ContainerKind.TheVariants as kind
@@ -53,16 +53,16 @@ abbrev pub Is : Held → Container → Type 0
 Is held InQuote = held.kind ≡ kind.BlockQuote
 Is held container = ⊥
 
--- those that the tokenizer holds are those of a path, the outermost first
-abbrev pub AreOpen : List Held → Path → Type 0
-AreOpen [] (At s) = Unit {0}
-AreOpen (held ∷ more) (Within before container p) = Is held container × AreOpen more p
-AreOpen more p = ⊥
+-- those that the tokenizer holds are these, the outermost first
+abbrev pub AreOpen : List Held → List Container → Type 0
+AreOpen [] [] = Unit {0}
+AreOpen (held ∷ more) (container ∷ containers) = Is held container × AreOpen more containers
+AreOpen more containers = ⊥
 
--- how many containers are open
-abbrev pub depth_of : Path → ℕ
-depth_of (At s) = 0
-depth_of (Within before container p) = suc (depth_of p)
+-- the open containers of a path, the outermost first
+abbrev pub containers_of : Path → List Container
+containers_of (At s) = []
+containers_of (Within before container p) = container ∷ containers_of p
 
 -- whether a paragraph is open
 abbrev pub is_going : Path → Bool
@@ -70,20 +70,15 @@ is_going p = is_open_text (spot p).leaf
 
 -- Between two lines, this was read, and these flags tell what is open.
 pub record StandsFor (options : ParseOptions) (g : Flags) (r : Reading) (p : Path) : Type 0 where
-  pub containers : AreOpen g.containers p
+  pub containers : AreOpen g.containers (containers_of p)
   pub going : g.interrupt ≡ is_going p
   pub reading : r ≡ reading options p
 
--- What may be open where quotes, headings and breaks alone may be on.
-
--- nothing or a paragraph,
+-- What may be open where quotes, headings and breaks alone may be on: nothing or a paragraph, in containers.
 abbrev pub IsPlainLeaf : Leaf → Type 0
 IsPlainLeaf NoLeaf = Unit {0}
 IsPlainLeaf (OpenParagraph (k ∷ ks)) = Unit {0}
 IsPlainLeaf _ = ⊥
 
--- in quotes
 abbrev pub IsPlain : Path → Type 0
-IsPlain (At s) = IsPlainLeaf s.leaf
-IsPlain (Within before InQuote p) = IsPlain p
-IsPlain (Within before container p) = ⊥
+IsPlain p = IsPlainLeaf (spot p).leaf

@@ -1,101 +1,23 @@
 -- The tree of a quoted text is a quote with the tree of the text in it.
-use Rattle.std.proofs.Common.{◌≡◌, ℕ, zero, suc, ◌+◌, ◌-◌, ◌%◌, ◌<◌, ◌≤◌, Bool, true, false, cond, not, ◌==◌, ◌&&◌, ◌||◌, List, [], ◌∷◌, ◌++◌, map, length, drop, Option, Some, None, refl, sym, ap, ◌∙◌, subst, arith}
+use Rattle.std.proofs.Common.{◌≡◌, ℕ, zero, suc, ◌≤◌, Bool, true, false, cond, not, ◌==◌, ◌||◌, List, [], ◌∷◌, ◌++◌, map, length, drop, Option, Some, None, refl, sym, ap, ◌∙◌, subst, arith}
 use Rattle.std.specs.List.{concat, list_all}
 use Rattle.std.specs.Option.{option_or}
-use Rattle.std.proofs.lemmas.List.{append-nil, length-drop}
+use Rattle.std.proofs.lemmas.List.{append-nil}
 use Rattle.md_engine.specs.declared.configuration.ParseOptions.{ParseOptions}
-use Rattle.md_seam.specs.Containers.{Labelled, Marker, Taken, footnote_by, footnote_label, item_by, item_padding, list_marker, opens, opens_footnote, opens_item, opens_quote, quote_taken}
+use Rattle.md_seam.specs.Containers.{Taken, opens, opens_footnote, opens_item, opens_quote, quote_taken}
 use Rattle.md_seam.specs.Grouped.{grouped}
 use Rattle.md_seam.specs.Label.{Labels, both, labels, no_labels}
 use Rattle.md_seam.specs.Lines.{full_lines_of, lines_of}
 use Rattle.md_seam.specs.Meaning.{tree, with_frontmatter}
 use Rattle.md_seam.specs.Preamble.{Preamble, front_by, front_of, has_mark, preamble_by, rest_at}
-use Rattle.md_seam.specs.Rest.{Rest, behind, behind_indent, indent, lose, without_column}
+use Rattle.md_seam.specs.Rest.{Rest}
 use Rattle.md_seam.specs.State.{At, InQuote, Path, Within, closed}
 use Rattle.md_seam.specs.Step.{all_continued, all_continued_by, opened, spot_of, step, steps}
 use Rattle.md_seam.specs.Tree.{Blocks, End, More, Quote}
 use Rattle.md_seam.specs.Wrapped.{prefixed, quoted}
-use Rattle.md_seam.proofs.ColumnLemmas.{NoTab, footnote_from, item_from, opened_by, quote_from, step-any, step_by}
+use Rattle.md_seam.proofs.ColumnLemmas.{NoTab, opened_by, step-any, step_by}
+use Rattle.md_seam.proofs.ContainerLemmas.{LeavesFewer, opens-leaves}
 use Rattle.md_seam.proofs.QuotedLines.{NoTabs, lines_of-quoted, no_tab-lines, quote_line, some-line}
-
--- What a container leaves is shorter than its line.
-
-length-without_column : (column spaces : ℕ) (bytes : List ℕ) → length (without_column column spaces bytes).bytes ≤ length bytes
-length-without_column column (suc spaces) bytes = omega arith
-length-without_column column zero [] = omega arith
-length-without_column column zero (b ∷ bytes) = go (b == 9) (b == 32)
-  where
-    go : (x y : Bool) → length (cond x (record { column = column + 1; spaces = 4 - column % 4 - 1; bytes = bytes }) (cond y (rest_at (column + 1) bytes) (rest_at column (b ∷ bytes)))).bytes ≤ length (b ∷ bytes)
-    go true y = omega arith
-    go false true = omega arith
-    go false false = omega arith
-
-length-lose : (n : ℕ) (r : Rest) → length (lose n r).bytes ≤ length r.bytes
-length-lose zero r = omega arith
-length-lose (suc n) r = omega (arith, length-lose n (without_column r.column r.spaces r.bytes), length-without_column r.column r.spaces r.bytes)
-
--- what is taken leaves fewer bytes than these
-abbrev LeavesFewer : Option Taken → ℕ → Type 0
-LeavesFewer o n = (t : Taken) → o ≡ Some t → length t.rest.bytes < n
-
-when-leaves : (x : Bool) (o : Option Taken) (n : ℕ) → LeavesFewer o n → LeavesFewer (cond x o None) n
-when-leaves true o n h = h
-when-leaves false o n h = λ t e. cc
-
-some-leaves : (u : Taken) (n : ℕ) → length u.rest.bytes < n → LeavesFewer (Some u) n
-some-leaves u n h = λ t e. let same : u ≡ t = cc in omega (arith, h, ap (λ (x : Taken). length x.rest.bytes) same)
-
-first-leaves : (o p : Option Taken) (n : ℕ) → LeavesFewer o n → LeavesFewer p n → LeavesFewer (option_or o p) n
-first-leaves None p n h k = k
-first-leaves (Some u) p n h k = h
-
-none-leaves : (n : ℕ) → LeavesFewer None n
-none-leaves n = λ t e. cc
-
--- what is taken behind an indent leaves fewer bytes than the line has
-behind-leaves : (o : Option Taken) (r : Rest) → LeavesFewer o (length (behind_indent r).bytes) → LeavesFewer o (length r.bytes)
-behind-leaves o r h = λ t e. omega (arith, h t e, length-lose (indent r) r)
-
-quote-leaves : (options : ParseOptions) (k column spaces : ℕ) (bytes : List ℕ) → LeavesFewer (quote_from options k (record { column = column; spaces = spaces; bytes = bytes })) (length bytes)
-quote-leaves options k column spaces [] = go _
-  where
-    go : (x : Bool) → LeavesFewer (cond (x && false) (Some (record { container = InQuote; rest = lose 1 (rest_at (column + 1) []) })) None) 0
-    go true = none-leaves 0
-    go false = none-leaves 0
-quote-leaves options k column spaces (b ∷ bytes) = when-leaves _ _ _ (some-leaves _ _ (omega (arith, length-lose 1 (rest_at (column + 1) bytes))))
-
-item-leaves : (options : ParseOptions) (interrupting : Bool) (k column spaces : ℕ) (bytes : List ℕ) → LeavesFewer (item_from options interrupting k (record { column = column; spaces = spaces; bytes = bytes })) (length bytes)
-item-leaves options interrupting k column spaces [] = when-leaves _ _ _ (none-leaves 0)
-item-leaves options interrupting k column spaces (b ∷ bytes) = when-leaves _ _ _ (go (list_marker (b ∷ bytes)))
-  where
-    go : (marker : Option Marker) → LeavesFewer (item_by options interrupting k (record { column = column; spaces = spaces; bytes = b ∷ bytes }) marker) (length (b ∷ bytes))
-    go None = none-leaves _
-    go (Some marker) =
-        let n : ℕ = length marker.digits + 1 in
-        let after : Rest = behind n (record { column = column; spaces = spaces; bytes = b ∷ bytes }) in
-        when-leaves _ _ _ (some-leaves _ _ (omega (arith, length-lose (item_padding after) after, length-drop n (b ∷ bytes))))
-
-footnote-leaves : (options : ParseOptions) (k column spaces : ℕ) (bytes : List ℕ) → LeavesFewer (footnote_from options k (record { column = column; spaces = spaces; bytes = bytes })) (length bytes)
-footnote-leaves options k column spaces [] = when-leaves _ _ _ (none-leaves 0)
-footnote-leaves options k column spaces (b ∷ bytes) = when-leaves _ _ _ (go (footnote_label false (drop 2 (b ∷ bytes))))
-  where
-    go : (label : Option Labelled) → LeavesFewer (footnote_by (record { column = column; spaces = spaces; bytes = b ∷ bytes }) label) (length (b ∷ bytes))
-    go None = none-leaves _
-    go (Some l) =
-        let n : ℕ = length l.label + 4 in
-        let from : Rest = behind n (record { column = column; spaces = spaces; bytes = b ∷ bytes }) in
-        when-leaves _ _ _ (some-leaves _ _ (omega (arith, length-lose (indent from) from, length-drop n (b ∷ bytes))))
-
--- each container that opens takes a byte
-opens-leaves : (options : ParseOptions) (interrupting : Bool) (r : Rest) → LeavesFewer (opens options interrupting r) (length r.bytes)
-unfolding opens_quote quote_taken opens_item opens_footnote
-opens-leaves options interrupting r =
-    let from : Rest = behind_indent r in
-    first-leaves (opens_quote options r) (option_or (opens_item options interrupting r) (opens_footnote options r)) (length r.bytes)
-    (when-leaves options.constructs.block_quote (quote_taken options r) (length r.bytes) (behind-leaves (quote_taken options r) r (quote-leaves options (indent r) from.column from.spaces from.bytes)))
-    (first-leaves (opens_item options interrupting r) (opens_footnote options r) (length r.bytes)
-    (behind-leaves (opens_item options interrupting r) r (item-leaves options interrupting (indent r) from.column from.spaces from.bytes))
-    (behind-leaves (opens_footnote options r) r (footnote-leaves options (indent r) from.column from.spaces from.bytes)))
 
 -- a bound on the containers that is not below the bytes does not matter
 opened-enough : (options : ParseOptions) (n m : ℕ) (r : Rest) → length r.bytes ≤ n → length r.bytes ≤ m → opened options n r ≡ opened options m r

@@ -1,0 +1,49 @@
+-- What a line does to the containers that are open before it.
+use Rattle.std.specs.Prelude.{Bool, true, false, ◌&&◌, List, [], ◌∷◌, ◌++◌, length, drop}
+use Rattle.md_engine.specs.declared.event.Event.{Event}
+use Rattle.md_engine.specs.declared.event.Name.{Name}
+use Rattle.md_engine.specs.declared.event.Name.TheVariants as n
+use Rattle.md_engine.specs.declared.event.Point.{Point}
+use Rattle.md_seam.specs.Nested.{exit}
+use Rattle.md_seam.specs.State.{Container, InFootnote, InItem, InQuote}
+
+-- The containers of a line, the outermost first.
+pub record Change : Type 0 where
+  -- those open before it that are still open behind it, as they are then
+  pub stays : List Container
+  -- those that end before it
+  pub closes : List Container
+  -- those that open on it
+  pub opens : List Container
+
+-- all that are open behind the line
+abbrev pub open_behind : Change → List Container
+open_behind c = c.stays ++ c.opens
+
+-- some containers went on, and some open; the others stay too where the line goes on the open paragraph, and end where it does not
+abbrev pub change_by : Bool → List Container → List Container → List Container → Change
+change_by true went others opens = record { stays = went ++ others; closes = []; opens = opens }
+change_by false went others opens = record { stays = went; closes = others; opens = opens }
+
+-- those of the open containers that are not among the first, which went on
+abbrev pub others_of : List Container → List Container → List Container
+others_of open_before went = drop (length went) open_before
+
+abbrev pub is_none : List Container → Bool
+is_none [] = true
+is_none (c ∷ cs) = false
+
+-- whether a container that opens would interrupt a paragraph: one is open, and all containers went on
+abbrev pub interrupts : Bool → List Container → Bool
+interrupts going others = going && is_none others
+
+-- the name of a container's events
+abbrev pub container_name : Container → Name
+container_name InQuote = n.BlockQuote
+container_name (InItem digits marker width starts_blank) = n.ListItem
+container_name (InFootnote label) = n.GfmFootnoteDefinition
+
+-- the ends of containers at a point, the innermost first
+abbrev pub ends_of : List Container → Point → List Event
+ends_of [] p = []
+ends_of (c ∷ cs) p = ends_of cs p ++ exit (container_name c) p ∷ []
