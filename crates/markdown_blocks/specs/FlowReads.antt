@@ -1,26 +1,13 @@
 -- What flow has read of a text, before and after its resolvers.
-use Rattle.std.specs.Prelude.{◌≡◌, ◌≢◌, ◌⊎◌, ℕ, suc, false, List, [], ◌∷◌, length, Option}
+use Rattle.std.specs.Prelude.{◌≡◌, ◌≢◌, ◌⊎◌, ℕ, List, [], ◌∷◌, Option}
 use Rattle.md_engine.specs.declared.configuration.ParseOptions.{ParseOptions}
 use Rattle.md_engine.specs.declared.event.Point.{Point}
 use Rattle.md_engine.specs.declared.resolve.Name.TheVariants.{Content, HeadingAtx}
 use Rattle.md_engine.specs.Found.{Found, nothing, with_found}
-use Rattle.md_engine.specs.Meaning.{Cell}
 use Rattle.md_engine.specs.Run.{Resolution}
-use Rattle.md_engine.specs.TextFeed.{text_feed}
-use Rattle.md_engine.specs.World.{Setting, World, fresh, reads_to}
-use Rattle.markdown_blocks.specs.Rows.{HeadingRow, Row, TextRow, rows_at, rows_events}
-
--- all of a text may be read, from a point on
-abbrev pub text_setting : List ℕ → ParseOptions → Point → Setting
-text_setting bytes options p = (reads_to (fresh bytes options p) (length bytes)).setting
-
--- its cells
-abbrev pub text_cells : List ℕ → ParseOptions → Point → List Cell
-text_cells bytes options p = text_feed (text_setting bytes options p) p
-
--- its lines, as flow reads them
-abbrev pub text_rows : ParseOptions → List ℕ → Point → List Row
-text_rows options bytes p = rows_at options (suc (length (text_cells bytes options p))) [] false (text_cells bytes options p) p
+use Rattle.md_engine.specs.World.{World}
+use Rattle.markdown_blocks.specs.Rows.{HeadingRow, Row, TextRow, rows_events}
+pub use Rattle.markdown_blocks.specs.TextRows.{text_cells, text_rows, text_setting}
 
 -- no line is content
 abbrev pub NoText : List Row → Type 0

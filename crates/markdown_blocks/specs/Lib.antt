@@ -10,6 +10,8 @@ pub mod Fronted
 pub mod Sections
 pub mod Stands
 pub mod Between
+pub mod TextRows
+pub mod Fed
 pub mod FlowReads
 pub mod Unread
 pub mod Outlined

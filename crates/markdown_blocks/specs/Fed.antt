@@ -1,0 +1,73 @@
+-- What stands between two lines while flow reads a text: whenever a line has been fed, what the tokenizer holds stands for what is
+-- open by the line definition.
+use Rattle.std.specs.Prelude.{◌≡◌, ℕ, zero, suc, ◌+◌, ◌<◌, Bool, ◌==◌, if◌then◌else◌, List, [], ◌∷◌, length, map, take, drop, Option, Some}
+use Rattle.md_engine.specs.declared.configuration.ParseOptions.{ParseOptions}
+use Rattle.md_engine.specs.declared.event.Point.{Point}
+use Rattle.md_engine.specs.declared.state.Name.{Name as StateName}
+use Rattle.md_engine.specs.declared.state.Name.TheVariants as s
+use Rattle.md_engine.specs.declared.state.State.{State}
+use Rattle.md_engine.specs.Run.{Calls, Leaves, Runs, Step}
+use Rattle.md_engine.specs.Run.Runs.{Stays, ThenCalls, ThenLeaves}
+use Rattle.md_engine.specs.World.{World, looks}
+use Rattle.md_seam.specs.Preamble.{rest_at}
+use Rattle.md_seam.specs.Rest.{Rest}
+use Rattle.md_seam.specs.Spelled.{Reading, left, read, unread}
+use Rattle.md_seam.specs.State.{At, Container, Path}
+use Rattle.md_seam.specs.Step.{spot_of, steps}
+use Rattle.md_seam.specs.Texts.{split_lines}
+use Rattle.md_seam.specs.Tree.{End}
+use Rattle.markdown_blocks.specs.Fronted.{rest_from}
+use Rattle.markdown_blocks.specs.Rows.{Row, groups, groups_events, rows_events}
+use Rattle.markdown_blocks.specs.Stands.{StandsFor}
+use Rattle.markdown_blocks.specs.TextRows.{text_rows}
+
+-- how many lines a call of a state feeds: one where it takes the ending of a line
+abbrev pub feeds : StateName → Option ℕ → ℕ
+feeds s.DocumentFlowEnd (Some b) = if b == 10 then 1 else 0
+feeds name current = 0
+
+-- how many lines a run has fed
+abbrev pub fed : (T : Step) (is_end : Bool) (s : State) (w : World) (t : State) (v : World) → Runs T is_end s w t v → ℕ
+fed T is_end s w t v Stays = 0
+fed T is_end s w t v (ThenLeaves from old to new run leaves) = fed T is_end s w from old run
+fed T is_end s w t v (ThenCalls from old to new run calls) = feeds calls.name (looks old) + fed T is_end s w from old run
+
+-- what is left of each line, of which the first begins at this point
+abbrev pub rests_from : Point → List (List ℕ) → List Rest
+rests_from p [] = []
+rests_from p (line ∷ lines) = rest_from p line ∷ map (rest_at 0) lines
+
+-- what is open behind so many lines of a text, from a point on
+abbrev pub path_behind : ParseOptions → List ℕ → Point → ℕ → Path
+path_behind options bytes p n = steps options (At (spot_of End)) (take n (rests_from p (split_lines (drop p.index bytes))))
+
+-- what is read where so many containers end
+abbrev pub lefts : ℕ → Reading → Reading
+lefts zero r = r
+lefts (suc size) r = lefts size (left r.outer r)
+
+-- the containers that end behind the last of these lines
+abbrev pub last_leaves : List Row → List Container
+last_leaves [] = []
+last_leaves (row ∷ []) = row.leaves
+last_leaves (row ∷ next ∷ rows) = last_leaves (next ∷ rows)
+
+-- the lines while it is not known what ends behind the last
+abbrev pub not_left : List Row → List Row
+not_left [] = []
+not_left (row ∷ []) = record row { leaves = [] } ∷ []
+not_left (row ∷ next ∷ rows) = row ∷ not_left (next ∷ rows)
+
+-- So many lines of a text were fed, from a point on, and a further one begins.
+pub record StandsBehind (bytes : List ℕ) (options : ParseOptions) (p : Point) (n : ℕ) (w : World) : Type 0 where
+  -- no attempt is around
+  pub frames : w.frames ≡ []
+  -- behind the last ending there is a further line, perhaps an empty one
+  pub further : n < length (text_rows options bytes p)
+  -- the events of these lines were added, but for the ends of the containers that the next line closes
+  pub events : w.events ≡ rows_events (not_left (take n (text_rows options bytes p)))
+  -- these, with their parts read, are read as a tree that is not closed yet,
+  pub reading : Reading
+  pub reads : read bytes unread (groups_events bytes (groups (take n (text_rows options bytes p)))) ≡ lefts (length (last_leaves (take n (text_rows options bytes p)))) reading
+  -- and with the flags it stands for what these lines come to
+  pub stands : StandsFor options w.flags reading (path_behind options bytes p n)
