@@ -1,5 +1,5 @@
 -- The events of a text stand between its characters, where only quotes, headings and breaks are on.
-use Rattle.std.proofs.Common.{◌≡◌, ◌≢◌, ℕ, zero, suc, ◌+◌, ◌-◌, ◌<◌, ◌≤◌, Bool, true, false, cond, ◌&&◌, ◌||◌, List, [], ◌∷◌, ◌++◌, length, get_or, take, drop, slice_range, refl, ap, sym, ◌∙◌, subst, append_assoc, drop-drop, arith}
+use Rattle.std.proofs.Common.{◌≡◌, ◌≢◌, ℕ, suc, ◌+◌, ◌-◌, ◌<◌, ◌≤◌, Bool, true, false, cond, ◌&&◌, ◌||◌, List, [], ◌∷◌, ◌++◌, length, get_or, take, drop, slice_range, refl, ap, sym, ◌∙◌, subst, append_assoc, drop-drop, arith}
 use Rattle.std.specs.Prelude.{◌==◌, IsTrue, not, nat_lt, nat_le, slice_index, Option, Some, None}
 use Rattle.std.specs.List.{count_by, list_all, prefix_len, AllPass}
 use Rattle.std.proofs.lemmas.Bool.{and_parts, and_from, eqb-true}
@@ -25,19 +25,21 @@ use Rattle.md_seam.specs.Lines.{is_ending, without_ending}
 use Rattle.md_seam.specs.Nested.{Forward, around, enter, enter_link, exit, last_point, pair}
 use Rattle.md_seam.specs.Places.{at_or_before, past_byte, past_text, same_place}
 use Rattle.md_seam.specs.Rest.{is_blank, is_white, trim_start}
+use Rattle.md_seam.specs.State.{Container, InQuote}
 use Rattle.md_seam.proofs.InlineLemmas.{past-index}
 use Rattle.md_seam.proofs.NestedLemmas.{at_or_before-trans, forward-last}
 use Rattle.md_seam.proofs.PlacesLemmas.{all-append}
 use Rattle.md_seam.proofs.TextsLemmas.{Both, Ending, LineFeed, NoEnding, Return, ending_bytes}
 use Rattle.markdown_blocks.specs.Between.{is_between}
-use Rattle.markdown_blocks.specs.Fronted.{quoted, rest_from, rest_line}
-use Rattle.markdown_blocks.specs.Rows.{BlankRow, BreakRow, Group, HeadingRow, Lines, Row, RowKind, Single, TextRow, behind_row, ending_events, groups, groups_events, is_text, last_row, line_kind, quote_ends, read_lines, read_text, read_title, row_title, single_events_by, tail_events}
+use Rattle.markdown_blocks.specs.Change.{container_name, ends_of}
+use Rattle.markdown_blocks.specs.Fronted.{contained, rest_from, rest_line}
+use Rattle.markdown_blocks.specs.Rows.{BlankRow, BreakRow, Group, HeadingRow, Lines, Row, RowKind, Single, TextRow, behind_row, ending_events, groups, groups_events, is_text, last_row, line_kind, read_lines, read_text, read_title, row_title, single_events_by, tail_events}
 use Rattle.md_seam.proofs.FeedLines.{at-next, drop-past, past-next, slice-front}
 use Rattle.markdown_blocks.proofs.EachRow.{EachGroup, EachRow, groups-each, last-each}
-use Rattle.markdown_blocks.proofs.FrontFacts.{Begins, Behind, Fronts, Goes, IsPrefix}
+use Rattle.markdown_blocks.proofs.FrontFacts.{Begins, Behind, Fronts, Goes, IsFurther, IsOpening, IsPrefix}
 use Rattle.markdown_blocks.proofs.JoinedLemmas.{behind-is, behind-none}
 use Rattle.markdown_blocks.proofs.LineKinds.{no_ending-parts}
-use Rattle.markdown_blocks.proofs.RowFacts.{AreRows, IsEnding, IsInside, IsLine, IsRow, depth_behind, line-text}
+use Rattle.markdown_blocks.proofs.RowFacts.{AreRows, IsEnding, IsInside, IsLine, IsRow, behind_line, line-text}
 use Rattle.markdown_blocks.proofs.TitleNests.{back_bytes, blank-no_heading, break-no_heading, line-end-is, text-end-is, text_begin, text_bytes, text_end}
 
 -- Bytes of ASCII.
@@ -265,13 +267,13 @@ ending-between bytes name row end = go row.after
     go None h = refl
     go (Some q) h = between-pair bytes name row.end q end h
 
--- the ends of quotes, and an ending
+-- the ends of containers, and an ending
 tail-between : (bytes : List ℕ) (name : Name) (row : Row) → is_between bytes row.end.index ≡ true → is_between bytes (behind_row row).index ≡ true → AreBetween bytes (tail_events name row)
-tail-between bytes name row end behind = between-append bytes (quote_ends row.leaves row.end) (ending_events name row) (go row.leaves) (ending-between bytes name row end behind)
+tail-between bytes name row end behind = between-append bytes (ends_of row.leaves row.end) (ending_events name row) (go row.leaves) (ending-between bytes name row end behind)
   where
-    go : (many : ℕ) → AreBetween bytes (quote_ends many row.end)
-    go zero = refl
-    go (suc many) = between-more bytes (exit n.BlockQuote row.end) (quote_ends many row.end) end (go many)
+    go : (cs : List Container) → AreBetween bytes (ends_of cs row.end)
+    go [] = refl
+    go (c ∷ cs) = between-append bytes (ends_of cs row.end) (exit (container_name c) row.end ∷ []) (go cs) (between-more bytes (exit (container_name c) row.end) [] end refl)
 
 -- a block around events
 around-between : (bytes : List ℕ) (name : Name) (p q : Point) (inside : List Event) → is_between bytes p.index ≡ true → is_between bytes q.index ≡ true → AreBetween bytes inside → AreBetween bytes (around name p q inside)
@@ -310,7 +312,7 @@ white-between bytes a e h k from = go (a == e) refl
         between-behind bytes e (white-at bytes a e (e - 1) h (omega (arith, below)) (omega (arith, below)))
 
 -- a prefix stands between characters, if it begins so
-pub prefix-between : (bytes : List ℕ) (p q : Point) (es : List Event) → is_between bytes p.index ≡ true → IsPrefix bytes p q es → AreBetween bytes es × (is_between bytes q.index ≡ true)
+prefix-between : (bytes : List ℕ) (p q : Point) (es : List Event) → is_between bytes p.index ≡ true → IsPrefix bytes p q es → AreBetween bytes es × (is_between bytes q.index ≡ true)
 prefix-between bytes p q es from is =
     let quote : slice_index bytes is.marker.index ≡ 62 = get_or_from_slice_get bytes is.marker.index 62 0 is.byte in
     let low : is_low (slice_index bytes is.marker.index) ≡ true = subst (λ (b : ℕ). is_low b ≡ true) (sym quote) refl in
@@ -331,17 +333,27 @@ prefix-between bytes p q es from is =
       end,
     )
 
--- and so does what stands in front of a line
-pub fronts-between : (bytes : List ℕ) (opens : ℕ) (p q : Point) (front : List Event) → is_between bytes p.index ≡ true → Fronts bytes opens p q front → AreBetween bytes front × (is_between bytes q.index ≡ true)
+-- and so does what stands in front of the content of a container, of one that goes on,
+pub further-between : (bytes : List ℕ) (c : Container) (p q : Point) (es : List Event) → is_between bytes p.index ≡ true → IsFurther bytes c p q es → AreBetween bytes es × (is_between bytes q.index ≡ true)
+further-between bytes InQuote p q es from is = prefix-between bytes p q es from is
+further-between bytes c p q es from is = absurd is
+
+-- of one that opens,
+opening-between : (bytes : List ℕ) (c : Container) (p q : Point) (es : List Event) → is_between bytes p.index ≡ true → IsOpening bytes c p q es → AreBetween bytes es × (is_between bytes q.index ≡ true)
+opening-between bytes InQuote p q es from is = prefix-between bytes p q es from is
+opening-between bytes c p q es from is = absurd is
+
+-- and what stands in front of a line
+pub fronts-between : (bytes : List ℕ) (opens : List Container) (p q : Point) (front : List Event) → is_between bytes p.index ≡ true → Fronts bytes opens p q front → AreBetween bytes front × (is_between bytes q.index ≡ true)
 fronts-between bytes _ p _ _ from (Behind _) = (refl, from)
-fronts-between bytes opens p r _ from (Goes _ _ q _ es fs is more) =
-    let here = prefix-between bytes p q es from is in
+fronts-between bytes opens p r _ from (Goes c _ _ q _ es fs is more) =
+    let here = further-between bytes c p q es from is in
     let rest = fronts-between bytes opens q r fs here.1 more in
     (between-append bytes es fs here.0 rest.0, rest.1)
-fronts-between bytes _ p r _ from (Begins opens _ q _ es fs is more) =
-    let here = prefix-between bytes p q es from is in
+fronts-between bytes _ p r _ from (Begins c opens _ q _ es fs is more) =
+    let here = opening-between bytes c p q es from is in
     let rest = fronts-between bytes opens q r fs here.1 more in
-    (between-more bytes (enter n.BlockQuote p) (es ++ fs) from (between-append bytes es fs here.0 rest.0), rest.1)
+    (between-more bytes (enter (container_name c) p) (es ++ fs) from (between-append bytes es fs here.0 rest.0), rest.1)
 
 -- Headings.
 
@@ -528,14 +540,14 @@ groups-between bytes (Lines row rows ∷ gs) h =
     (groups-between bytes gs h.1)
 
 -- Each line of a text stands so.
-pub rows-stand : (options : ParseOptions) (bytes : List ℕ) (depth : ℕ) (going : Bool) (p : Point) (lines : List (List ℕ)) (rows : List Row) → is_between bytes p.index ≡ true → AreRows options bytes depth going p lines rows → EachRow (RowBetween bytes) rows
-rows-stand options bytes depth going p (line ∷ []) (row ∷ []) from are =
-    let at : IsLine options bytes depth going p line row = are.0 in
-    let rest : List ℕ = rest_line (quoted options depth going (rest_from p line)).rest in
+pub rows-stand : (options : ParseOptions) (bytes : List ℕ) (open_before : List Container) (going : Bool) (p : Point) (lines : List (List ℕ)) (rows : List Row) → is_between bytes p.index ≡ true → AreRows options bytes open_before going p lines rows → EachRow (RowBetween bytes) rows
+rows-stand options bytes open_before going p (line ∷ []) (row ∷ []) from are =
+    let at : IsLine options bytes open_before going p line row = are.0 in
+    let rest : List ℕ = rest_line (contained options open_before going (rest_from p line)).rest in
     let is : IsRow options bytes rest row = at.is in
     let end : is_between bytes row.end.index ≡ true = between-end bytes row.end.index are.3 in
     let behind : behind_row row ≡ row.end = behind-none row are.2 in
-    let front = fronts-between bytes row.opens p row.first row.front from at.front in (
+    let front = fronts-between bytes row.change.opens p row.first row.front from at.front in (
       record {
         first = front.1;
         end = end;
@@ -548,14 +560,14 @@ rows-stand options bytes depth going p (line ∷ []) (row ∷ []) from are =
       },
       tt,
     )
-rows-stand options bytes depth going p (line ∷ next ∷ lines) (row ∷ below ∷ rows) from are =
-    let at : IsLine options bytes depth going p line row = are.0 in
-    let rest : List ℕ = rest_line (quoted options depth going (rest_from p line)).rest in
+rows-stand options bytes open_before going p (line ∷ next ∷ lines) (row ∷ below ∷ rows) from are =
+    let at : IsLine options bytes open_before going p line row = are.0 in
+    let rest : List ℕ = rest_line (contained options open_before going (rest_from p line)).rest in
     let is : IsRow options bytes rest row = at.is in
     let end : is_between bytes row.end.index ≡ true = ending-before bytes row.end are.2 are.4 in
     let after : is_between bytes are.2.index ≡ true = ending-behind bytes row.end are.2 are.4 in
     let behind : behind_row row ≡ are.2 = behind-is row are.2 are.3 in
-    let front = fronts-between bytes row.opens p row.first row.front from at.front in (
+    let front = fronts-between bytes row.change.opens p row.first row.front from at.front in (
       record {
         first = front.1;
         end = end;
@@ -566,10 +578,10 @@ rows-stand options bytes depth going p (line ∷ next ∷ lines) (row ∷ below 
         alone = line_end-alone options bytes rest row is;
         ended = subst (λ (q : Point). line_end bytes (record { first = row.first; after = q }) ≡ row.end) (sym behind) (line_end-ended options bytes rest row are.2 is are.4);
       },
-      rows-stand options bytes (depth_behind options depth going p line) (is_text row.kind) are.2 (next ∷ lines) (below ∷ rows) after are.5,
+      rows-stand options bytes (behind_line options open_before going p line) (is_text row.kind) are.2 (next ∷ lines) (below ∷ rows) after are.5,
     )
-rows-stand options bytes depth going p lines rows from are = absurd are
+rows-stand options bytes open_before going p lines rows from are = absurd are
 
 -- The groups of the lines of a text stand between its characters.
-pub rows-between : (options : ParseOptions) (bytes : List ℕ) (p : Point) (lines : List (List ℕ)) (rows : List Row) → is_between bytes p.index ≡ true → AreRows options bytes 0 false p lines rows → AreBetween bytes (groups_events bytes (groups rows))
-rows-between options bytes p lines rows from are = groups-between bytes (groups rows) (groups-each (RowBetween bytes) rows (rows-stand options bytes 0 false p lines rows from are))
+pub rows-between : (options : ParseOptions) (bytes : List ℕ) (p : Point) (lines : List (List ℕ)) (rows : List Row) → is_between bytes p.index ≡ true → AreRows options bytes [] false p lines rows → AreBetween bytes (groups_events bytes (groups rows))
+rows-between options bytes p lines rows from are = groups-between bytes (groups rows) (groups-each (RowBetween bytes) rows (rows-stand options bytes [] false p lines rows from are))

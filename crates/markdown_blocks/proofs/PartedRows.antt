@@ -2,7 +2,7 @@
 use Rattle.std.proofs.Common.{◌≡◌, ◌⊎◌, inl, inr, ℕ, zero, suc, ◌+◌, ◌-◌, ◌<◌, ◌≤◌, Bool, true, false, cond, ◌&&◌, ◌||◌, List, [], ◌∷◌, ◌++◌, length, get_or, take, drop, slice_range, refl, ap, sym, ◌∙◌, subst, append_assoc, append-nil, arith}
 use Rattle.std.specs.Prelude.{◌==◌, IsTrue, not, slice_index, Option, Some, None}
 use Rattle.std.specs.List.{onto_first}
-use Rattle.std.proofs.lemmas.Bool.{and_from, and_parts, eqb-true, true≢false}
+use Rattle.std.proofs.lemmas.Bool.{and_from, and_parts, true≢false}
 use Rattle.std.proofs.lemmas.Bool.Decides.{nat_tests}
 use Rattle.std.proofs.lemmas.List.{get_or-drop, get_or-take}
 use Rattle.std.proofs.lemmas.List.Folds.{list_all-append}
@@ -23,20 +23,23 @@ use Rattle.md_seam.specs.Nested.{around, enter, exit, pair}
 use Rattle.md_seam.specs.Places.{at_or_before, last_line, past_byte, same_place}
 use Rattle.md_seam.specs.Rest.{Rest, is_blank, is_white, trim_start}
 use Rattle.md_seam.specs.Spelled.{IsEnding as EndingRole, IsPrefix as PrefixRole, IsQuiet, Role, Tells, byte_at, role}
+use Rattle.md_seam.specs.State.{Container, InFootnote, InItem, InQuote}
 use Rattle.md_seam.specs.Texts.{split_lines}
 use Rattle.md_seam.proofs.RestCells.{Cut}
 use Rattle.md_seam.proofs.SpelledLemmas.{Quiet, QuietOrEnding, Roles, roles-append}
 use Rattle.md_seam.proofs.TextsLemmas.{Both, Ending, EndsBefore, LineFeed, NoEnding, Return, ending_bytes, split-line, split-next}
 use Rattle.markdown_blocks.specs.Between.{is_between}
-use Rattle.markdown_blocks.specs.Fronted.{cut_tab, quoted, rest_from, rest_line}
+use Rattle.markdown_blocks.specs.Change.{container_name, ends_of, is_none}
+use Rattle.markdown_blocks.specs.Fronted.{contained, cut_tab, rest_from, rest_line}
 use Rattle.markdown_blocks.specs.Outlined.{are_parted, begins_line, is_unparted, parts_by, span_by}
-use Rattle.markdown_blocks.specs.Rows.{BlankRow, BreakRow, Group, HeadingRow, Lines, Row, RowKind, Single, TextRow, behind_row, ending_events, goes_on, groups, groups_events, is_text, last_row, line_kind, onto_groups, quote_ends, read_lines, read_text, read_title, row_line, row_title, single_events_by, tail_events}
+use Rattle.markdown_blocks.specs.Rows.{BlankRow, BreakRow, Group, HeadingRow, Lines, Row, RowKind, Single, TextRow, behind_row, ending_events, goes_on, groups, groups_events, is_text, last_row, line_kind, onto_groups, read_lines, read_text, read_title, row_line, row_title, single_events_by, tail_events}
 use Rattle.markdown_blocks.specs.declared.outline.Span.{Span}
-use Rattle.markdown_blocks.proofs.BetweenRows.{between-behind, ending-behind, is_low, prefix-between, white-at}
-use Rattle.markdown_blocks.proofs.FrontFacts.{Begins, Behind, Fronts, Goes, IsPrefix}
+use Rattle.markdown_blocks.proofs.BetweenRows.{between-behind, ending-behind, further-between, is_low, white-at}
+use Rattle.markdown_blocks.proofs.ContainedLemmas.{none-nil}
+use Rattle.markdown_blocks.proofs.FrontFacts.{Begins, Behind, Fronts, Goes, IsFurther, IsOpening, IsPrefix}
 use Rattle.markdown_blocks.proofs.FrontLemmas.{ends-roles, fronts-roles}
 use Rattle.markdown_blocks.proofs.PlainRoles.{chunk-roles}
-use Rattle.markdown_blocks.proofs.RowFacts.{AreRows, IsEnding, IsInside, IsLine, depth_behind, slice-split}
+use Rattle.markdown_blocks.proofs.RowFacts.{AreRows, IsEnding, IsInside, IsLine, behind_line, slice-split}
 use Rattle.markdown_blocks.proofs.TitleNests.{blank-no_heading, break-no_heading, text_begin, text_end}
 
 -- Points that cut a tab.
@@ -80,10 +83,18 @@ prefix-clear bytes p q es is = low-clear bytes p (λ e. white-at bytes p.index i
     before : (m : Point) → IsTrue (at_or_before p m) → m.vs ≡ 0 → (p.vs == 0) ≡ false → p.index < m.index
     before m h w e = grind (arith, nat_tests)
 
-fronts-clear : (bytes : List ℕ) (opens : ℕ) (p q : Point) (front : List Event) → Fronts bytes opens p q front → clear bytes q ≡ true → clear bytes p ≡ true
+further-clear : (bytes : List ℕ) (c : Container) (p q : Point) (es : List Event) → IsFurther bytes c p q es → clear bytes p ≡ true
+further-clear bytes InQuote p q es is = prefix-clear bytes p q es is
+further-clear bytes c p q es is = absurd is
+
+opening-clear : (bytes : List ℕ) (c : Container) (p q : Point) (es : List Event) → IsOpening bytes c p q es → clear bytes p ≡ true
+opening-clear bytes InQuote p q es is = prefix-clear bytes p q es is
+opening-clear bytes c p q es is = absurd is
+
+fronts-clear : (bytes : List ℕ) (opens : List Container) (p q : Point) (front : List Event) → Fronts bytes opens p q front → clear bytes q ≡ true → clear bytes p ≡ true
 fronts-clear bytes _ p _ _ (Behind _) h = h
-fronts-clear bytes opens p r _ (Goes _ _ q _ es fs is more) h = prefix-clear bytes p q es is
-fronts-clear bytes _ p r _ (Begins opens _ q _ es fs is more) h = prefix-clear bytes p q es is
+fronts-clear bytes opens p r _ (Goes c _ _ q _ es fs is more) h = further-clear bytes c p q es is
+fronts-clear bytes _ p r _ (Begins c opens _ q _ es fs is more) h = opening-clear bytes c p q es is
 
 -- Slices.
 
@@ -215,19 +226,24 @@ prefix-parted bytes p q es span rest is marks between more = subst (λ (l : List
     go false true = step
     go false false = step
 
--- the prefixes in front of a further line of a text
-fronts-parted : (bytes : List ℕ) (opens : ℕ) (p q : Point) (front : List Event) (span : Span) (rest : List Event) → Fronts bytes opens p q front → opens ≡ 0 → is_between bytes p.index ≡ true → clear bytes q ≡ true → Marks bytes p span →
+-- what stands in a text in front of the content of a container that goes on
+further-parted : (bytes : List ℕ) (c : Container) (p q : Point) (es : List Event) (span : Span) (rest : List Event) → IsFurther bytes c p q es → Marks bytes p span → is_between bytes (byte_at q) ≡ true → are_parted bytes (Some (behind_prefix q)) rest ≡ true → are_parted bytes (Some span) (es ++ rest) ≡ true
+further-parted bytes InQuote p q es span rest is marks between more = prefix-parted bytes p q es span rest is marks between more
+further-parted bytes c p q es span rest is marks between more = absurd is
+
+-- what stands in front of a further line of a text
+fronts-parted : (bytes : List ℕ) (opens : List Container) (p q : Point) (front : List Event) (span : Span) (rest : List Event) → Fronts bytes opens p q front → opens ≡ [] → is_between bytes p.index ≡ true → clear bytes q ≡ true → Marks bytes p span →
     ((next : Span) → ((next ≡ span) × (p ≡ q)) ⊎ (next ≡ behind_prefix q) → are_parted bytes (Some next) rest ≡ true) → are_parted bytes (Some span) (front ++ rest) ≡ true
 fronts-parted bytes _ p _ _ span rest (Behind _) e between at marks f = f span (inl (refl, refl))
-fronts-parted bytes opens p r _ span rest (Goes _ _ q _ es fs is more) e between at marks f =
-    let here = prefix-between bytes p q es between is in
-    let onward : are_parted bytes (Some (behind_prefix q)) (fs ++ rest) ≡ true = fronts-parted bytes opens q r fs (behind_prefix q) rest more e here.1 at (marks-behind bytes q) (λ next c. f next (inr (same next c))) in
-    ap (are_parted bytes (Some span)) (append_assoc es fs rest) ∙ prefix-parted bytes p q es span (fs ++ rest) is marks (clear-between bytes q (fronts-clear bytes opens q r fs more at) here.1) onward
+fronts-parted bytes opens p r _ span rest (Goes c _ _ q _ es fs is more) e between at marks f =
+    let here = further-between bytes c p q es between is in
+    let onward : are_parted bytes (Some (behind_prefix q)) (fs ++ rest) ≡ true = fronts-parted bytes opens q r fs (behind_prefix q) rest more e here.1 at (marks-behind bytes q) (λ next k. f next (inr (same next k))) in
+    ap (are_parted bytes (Some span)) (append_assoc es fs rest) ∙ further-parted bytes c p q es span (fs ++ rest) is marks (clear-between bytes q (fronts-clear bytes opens q r fs more at) here.1) onward
   where
     same : (next : Span) → ((next ≡ behind_prefix q) × (q ≡ r)) ⊎ (next ≡ behind_prefix r) → next ≡ behind_prefix r
     same next (inl c) = c.0 ∙ ap behind_prefix c.1
     same next (inr c) = c
-fronts-parted bytes _ p r _ span rest (Begins opens _ q _ es fs is more) e between at marks f = cc
+fronts-parted bytes _ p r _ span rest (Begins c opens _ q _ es fs is more) e between at marks f = cc
 
 -- Events outside of texts.
 
@@ -242,6 +258,12 @@ sits-append bytes xs ys h k zs z = ap (are_parted bytes None) (append_assoc xs y
 abbrev Still : Role → Type 0
 Still (Tells purpose) = ⊥
 Still _ = Unit {0}
+
+-- so is the name of a container
+container-still : (c : Container) → Still (role (container_name c))
+container-still InQuote = tt
+container-still (InItem digits marker width starts_blank) = tt
+container-still (InFootnote label) = tt
 
 still-span : (kind : Kind) (x : Role) (p : Point) → Still x → span_by kind x p None ≡ None
 still-span Enter (Tells purpose) p h = absurd h
@@ -289,9 +311,9 @@ passes bytes s (e ∷ xs) ys h =
 passes-chunk : (bytes : List ℕ) (s : Option Span) (chunk : Chunk) (ys : List Event) → are_parted bytes s (plain_chunk bytes chunk ++ ys) ≡ are_parted bytes s ys
 passes-chunk bytes s chunk ys = passes bytes s (plain_chunk bytes chunk) ys (chunk-roles QuietOrEnding bytes chunk tt tt)
 
--- the ends of quotes, and an ending
+-- the ends of containers, and an ending
 sits-tail : (bytes : List ℕ) (name : Name) (row : Row) → Still (role name) → Sits bytes (tail_events name row)
-sits-tail bytes name row h = sits-still bytes (tail_events name row) (roles-append Still (quote_ends row.leaves row.end) (ending_events name row) (ends-roles Still row.leaves row.end tt) (go row.after))
+sits-tail bytes name row h = sits-still bytes (tail_events name row) (roles-append Still (ends_of row.leaves row.end) (ending_events name row) (ends-roles Still row.leaves row.end container-still) (go row.after))
   where
     go : (o : Option Point) → Roles Still (elim o [ None ↦ [] | Some q ↦ pair name row.end q ])
     go None = tt
@@ -412,7 +434,7 @@ Core bytes row es = (span : Span) → Fine bytes span → span.from ≤ row.end.
 abbrev After : List ℕ → Point → List Group → Type 0
 After bytes p [] = Unit {0}
 After bytes p (Single row ∷ gs) = Unit {0}
-After bytes p (Lines row rows ∷ gs) = row.opens ≡ 0 → (span : Span) → Fine bytes span → span.from ≤ p.index → Marks bytes p span → is_between bytes p.index ≡ true →
+After bytes p (Lines row rows ∷ gs) = row.change.opens ≡ [] → (span : Span) → Fine bytes span → span.from ≤ p.index → Marks bytes p span → is_between bytes p.index ≡ true →
     are_parted bytes (Some span) (row.front ++ (read_lines bytes row rows ++ behind_text bytes (last_row row rows) gs)) ≡ true
 
 record Parted (bytes : List ℕ) (p : Point) (gs : List Group) : Type 0 where
@@ -420,7 +442,7 @@ record Parted (bytes : List ℕ) (p : Point) (gs : List Group) : Type 0 where
   after : After bytes p gs
 
 -- a paragraph, by its text
-text-parted : (bytes : List ℕ) (p : Point) (row : Row) (rows : List Row) (gs : List Group) → Fronts bytes row.opens p row.first row.front → clear bytes row.first ≡ true → BeginsText bytes row → Core bytes row (read_lines bytes row rows ++ behind_text bytes (last_row row rows) gs) →
+text-parted : (bytes : List ℕ) (p : Point) (row : Row) (rows : List Row) (gs : List Group) → Fronts bytes row.change.opens p row.first row.front → clear bytes row.first ≡ true → BeginsText bytes row → Core bytes row (read_lines bytes row rows ++ behind_text bytes (last_row row rows) gs) →
     Parted bytes p (Lines row rows ∷ gs)
 text-parted bytes p row rows gs front at begins core =
     let last : Row = last_row row rows in
@@ -433,9 +455,9 @@ text-parted bytes p row rows gs front at begins core =
     record {
       apart =
           ap (are_parted bytes None) whole
-          ∙ sits-still bytes row.front (fronts-roles Still bytes row.opens p row.first row.front tt tt tt front) (enter n.Paragraph row.first ∷ events) (core span refl begins.within);
+          ∙ sits-still bytes row.front (fronts-roles Still bytes row.change.opens p row.first row.front tt tt container-still front) (enter n.Paragraph row.first ∷ events) (core span refl begins.within);
       after = λ none span fine within marks between.
-          fronts-parted bytes row.opens p row.first row.front span events front none between at marks (next span fine within);
+          fronts-parted bytes row.change.opens p row.first row.front span events front none between at marks (next span fine within);
     }
   where
     later : (a b c d : ℕ) → a ≤ b → b ≤ c → c ≤ d → a ≤ d
@@ -455,7 +477,7 @@ core-alone bytes row gs h span fine within =
     (begins-fine bytes span row.end.index fine) (sits-tail bytes n.LineEnding row tt (groups_events bytes gs) h)
 
 -- a line in front of another
-core-next : (bytes : List ℕ) (row below : Row) (rows : List Row) (gs : List Group) (q : Point) → IsEnding bytes row.end q → below.opens ≡ 0 → After bytes q (Lines below rows ∷ gs) → Core bytes row (read_lines bytes row (below ∷ rows) ++ behind_text bytes (last_row row (below ∷ rows)) gs)
+core-next : (bytes : List ℕ) (row below : Row) (rows : List Row) (gs : List Group) (q : Point) → IsEnding bytes row.end q → below.change.opens ≡ [] → After bytes q (Lines below rows ∷ gs) → Core bytes row (read_lines bytes row (below ∷ rows) ++ behind_text bytes (last_row row (below ∷ rows)) gs)
 core-next bytes row below rows gs q ending none after span fine within =
     let chunk : Chunk = record { first = row.first; after = behind_row row } in
     let events : List Event = plain_chunk bytes chunk in
@@ -482,9 +504,9 @@ line-clear bytes row (suc spaces) rest cut text size =
     let tab : slice_index bytes row.first.index ≡ 9 = ap (slice_index bytes) (sym zero_at) ∙ line-at bytes (9 ∷ rest) row.first.index row.end.index 0 9 text size (omega arith) refl in
     low-clear bytes row.first (λ e. subst (λ (b : ℕ). is_low b ≡ true) (sym tab) refl)
 
-pub rest-clear : (options : ParseOptions) (bytes : List ℕ) (depth : ℕ) (going : Bool) (p : Point) (line : List ℕ) (row : Row) → IsLine options bytes depth going p line row → clear bytes row.first ≡ true
-rest-clear options bytes depth going p line row is =
-    let rest : Rest = (quoted options depth going (rest_from p line)).rest in
+pub rest-clear : (options : ParseOptions) (bytes : List ℕ) (open_before : List Container) (going : Bool) (p : Point) (line : List ℕ) (row : Row) → IsLine options bytes open_before going p line row → clear bytes row.first ≡ true
+rest-clear options bytes open_before going p line row is =
+    let rest : Rest = (contained options open_before going (rest_from p line)).rest in
     line-clear bytes row rest.spaces rest.bytes is.cut is.is.text is.is.size
 
 -- a line of text is not blank
@@ -515,9 +537,9 @@ line-begins bytes row (suc spaces) (b ∷ rest) cut text size blank none =
     positive : (v : ℕ) → 0 < v → (v == 0) ≡ false
     positive v h = grind (arith, nat_tests)
 
-text-begins : (options : ParseOptions) (bytes : List ℕ) (depth : ℕ) (going : Bool) (p : Point) (line : List ℕ) (row : Row) → IsLine options bytes depth going p line row → row.kind ≡ TextRow → BeginsText bytes row
-text-begins options bytes depth going p line row is e =
-    let rest : Rest = (quoted options depth going (rest_from p line)).rest in
+text-begins : (options : ParseOptions) (bytes : List ℕ) (open_before : List Container) (going : Bool) (p : Point) (line : List ℕ) (row : Row) → IsLine options bytes open_before going p line row → row.kind ≡ TextRow → BeginsText bytes row
+text-begins options bytes open_before going p line row is e =
+    let rest : Rest = (contained options open_before going (rest_from p line)).rest in
     line-begins bytes row rest.spaces rest.bytes is.cut is.is.text is.is.size (text-nonblank options (rest_line rest) (sym is.is.kind ∙ e)) is.is.no_ending
 
 -- behind a line stands an ending, if lines of text follow it
@@ -526,11 +548,11 @@ Linked bytes row q [] = Unit {0}
 Linked bytes row q (group ∷ gs) = IsEnding bytes row.end q
 
 -- a line in front of others
-onto-parted : (options : ParseOptions) (bytes : List ℕ) (depth : ℕ) (going : Bool) (p q : Point) (line : List ℕ) (row : Row) (gs : List Group) → IsLine options bytes depth going p line row → Linked bytes row q gs → Parted bytes q gs → (kind : RowKind) → row.kind ≡ kind → Parted bytes p (onto_groups row kind gs)
-onto-parted options bytes depth going p q line row gs is linked h kind e = go kind e gs linked h
+onto-parted : (options : ParseOptions) (bytes : List ℕ) (open_before : List Container) (going : Bool) (p q : Point) (line : List ℕ) (row : Row) (gs : List Group) → IsLine options bytes open_before going p line row → Linked bytes row q gs → Parted bytes q gs → (kind : RowKind) → row.kind ≡ kind → Parted bytes p (onto_groups row kind gs)
+onto-parted options bytes open_before going p q line row gs is linked h kind e = go kind e gs linked h
   where
     front : Roles Still row.front
-    front = fronts-roles Still bytes row.opens p row.first row.front tt tt tt is.front
+    front = fronts-roles Still bytes row.change.opens p row.first row.front tt tt container-still is.front
 
     single : (kind : RowKind) → row.kind ≡ kind → (gs : List Group) → Parted bytes q gs → Sits bytes (single_events_by bytes kind row) → Parted bytes p (Single row ∷ gs)
     single kind e gs h sits = record {
@@ -539,7 +561,7 @@ onto-parted options bytes depth going p q line row gs is linked h kind e = go ki
     }
 
     text : row.kind ≡ TextRow → (rows : List Row) (gs : List Group) → Core bytes row (read_lines bytes row rows ++ behind_text bytes (last_row row rows) gs) → Parted bytes p (Lines row rows ∷ gs)
-    text e rows gs core = text-parted bytes p row rows gs is.front (rest-clear options bytes depth going p line row is) (text-begins options bytes depth going p line row is e) core
+    text e rows gs core = text-parted bytes p row rows gs is.front (rest-clear options bytes open_before going p line row is) (text-begins options bytes open_before going p line row is e) core
 
     go : (kind : RowKind) → row.kind ≡ kind → (gs : List Group) → Linked bytes row q gs → Parted bytes q gs → Parted bytes p (onto_groups row kind gs)
     go BlankRow e gs linked h = single BlankRow e gs h (blank-sits bytes row front (is.is.inside (blank-no_heading row.kind e)))
@@ -552,21 +574,21 @@ onto-parted options bytes depth going p q line row gs is linked h kind e = go ki
         by : (x : Bool) → goes_on row below ≡ x → Parted bytes p (cond x (Lines row (below ∷ rows) ∷ gs) (Lines row [] ∷ Lines below rows ∷ gs))
         by false k = text e [] (Lines below rows ∷ gs) (core-alone bytes row (Lines below rows ∷ gs) h.apart)
         by true k =
-            let parts = and_parts (row.leaves == 0) (below.opens == 0) k in
-            text e (below ∷ rows) gs (core-next bytes row below rows gs q linked (eqb-true below.opens 0 parts.1) h.after)
+            let parts = and_parts (is_none row.leaves) (is_none below.change.opens) k in
+            text e (below ∷ rows) gs (core-next bytes row below rows gs q linked (none-nil below.change.opens parts.1) h.after)
 
 -- The lines of a text.
-lines-parted : (options : ParseOptions) (bytes : List ℕ) (depth : ℕ) (going : Bool) (p : Point) (lines : List (List ℕ)) (rows : List Row) → AreRows options bytes depth going p lines rows → Parted bytes p (groups rows)
-lines-parted options bytes depth going p (line ∷ []) (row ∷ []) are = onto-parted options bytes depth going p row.end line row [] are.0 tt (record { apart = refl; after = tt }) row.kind refl
-lines-parted options bytes depth going p (line ∷ next ∷ lines) (row ∷ below ∷ rows) are =
-    onto-parted options bytes depth going p are.2 line row (groups (below ∷ rows)) are.0 (linked (groups (below ∷ rows)))
-    (lines-parted options bytes (depth_behind options depth going p line) (is_text row.kind) are.2 (next ∷ lines) (below ∷ rows) are.5) row.kind refl
+lines-parted : (options : ParseOptions) (bytes : List ℕ) (open_before : List Container) (going : Bool) (p : Point) (lines : List (List ℕ)) (rows : List Row) → AreRows options bytes open_before going p lines rows → Parted bytes p (groups rows)
+lines-parted options bytes open_before going p (line ∷ []) (row ∷ []) are = onto-parted options bytes open_before going p row.end line row [] are.0 tt (record { apart = refl; after = tt }) row.kind refl
+lines-parted options bytes open_before going p (line ∷ next ∷ lines) (row ∷ below ∷ rows) are =
+    onto-parted options bytes open_before going p are.2 line row (groups (below ∷ rows)) are.0 (linked (groups (below ∷ rows)))
+    (lines-parted options bytes (behind_line options open_before going p line) (is_text row.kind) are.2 (next ∷ lines) (below ∷ rows) are.5) row.kind refl
   where
     linked : (gs : List Group) → Linked bytes row are.2 gs
     linked [] = tt
     linked (group ∷ gs) = are.4
-lines-parted options bytes depth going p lines rows are = absurd are
+lines-parted options bytes open_before going p lines rows are = absurd are
 
 -- no text of a whole text is parted but those of paragraphs, at the begins of their lines
-pub rows-parted : (options : ParseOptions) (bytes : List ℕ) (depth : ℕ) (going : Bool) (p : Point) (lines : List (List ℕ)) (rows : List Row) → AreRows options bytes depth going p lines rows → are_parted bytes None (groups_events bytes (groups rows)) ≡ true
-rows-parted options bytes depth going p lines rows are = let parted : Parted bytes p (groups rows) = lines-parted options bytes depth going p lines rows are in parted.apart
+pub rows-parted : (options : ParseOptions) (bytes : List ℕ) (open_before : List Container) (going : Bool) (p : Point) (lines : List (List ℕ)) (rows : List Row) → AreRows options bytes open_before going p lines rows → are_parted bytes None (groups_events bytes (groups rows)) ≡ true
+rows-parted options bytes open_before going p lines rows are = let parted : Parted bytes p (groups rows) = lines-parted options bytes open_before going p lines rows are in parted.apart

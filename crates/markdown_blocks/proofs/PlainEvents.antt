@@ -1,5 +1,5 @@
 -- The events of a text where only quotes, headings and breaks are on are those that an outline can be made of.
-use Rattle.std.proofs.Common.{◌≡◌, ◌≢◌, ℕ, ◌+◌, Bool, true, false, cond, ◌||◌, ◌==◌, not, List, [], ◌∷◌, ◌++◌, length, take, drop, refl, ◌∙◌, ap}
+use Rattle.std.proofs.Common.{◌≡◌, ◌≢◌, ℕ, ◌+◌, Bool, true, false, cond, ◌||◌, ◌==◌, not, List, [], ◌∷◌, ◌++◌, length, map, take, drop, refl, sym, ◌∙◌, ap, subst}
 use Rattle.std.specs.Prelude.{Option, Some, None}
 use Rattle.std.specs.List.{list_all}
 use Rattle.std.specs.Str.{IsUtf8}
@@ -16,15 +16,20 @@ use Rattle.md_seam.specs.declared.inline.Chunk.{Chunk}
 use Rattle.md_seam.specs.Inline.{line_end, plain_chunk}
 use Rattle.md_seam.specs.Nested.{Balanced, around, enter, exit, pair}
 use Rattle.md_seam.specs.Places.{past_byte, past_text, same_place}
-use Rattle.md_seam.specs.Spelled.{IsQuiet, Role, byte_at, role, spelled}
+use Rattle.md_seam.specs.Spelled.{Holds, IsQuiet, Role, Shape, byte_at, role, spelled}
+use Rattle.md_seam.specs.State.{Container, InFootnote, InItem, InQuote}
 use Rattle.md_seam.proofs.SpelledLemmas.{Quiet, Roles, roles-append}
 use Rattle.markdown_blocks.specs.Between.{is_between}
+use Rattle.markdown_blocks.specs.Change.{Change, container_name, ends_of}
+use Rattle.markdown_blocks.specs.Fronted.{contained, rest_from}
 use Rattle.markdown_blocks.specs.Outlined.{IsOutlined, are_shallow, has_plain_name, is_plain, is_told, tells_between}
-use Rattle.markdown_blocks.specs.Rows.{BlankRow, BreakRow, Group, HeadingRow, Lines, Row, RowKind, Single, TextRow, behind_row, ending_events, group_events, groups, groups_events, is_text, last_row, quote_ends, read_lines, read_text, read_title, row_line, row_title, single_events_by, tail_events}
+use Rattle.markdown_blocks.specs.Rows.{BlankRow, BreakRow, Group, HeadingRow, Lines, Row, RowKind, Single, TextRow, behind_row, ending_events, group_events, groups, groups_events, is_text, last_row, read_lines, read_text, read_title, row_line, row_title, single_events_by, tail_events}
+use Rattle.markdown_blocks.specs.Stands.{shape_of}
+use Rattle.markdown_blocks.proofs.ContainedLemmas.{contained-shapes}
 use Rattle.markdown_blocks.proofs.EachRow.{EachGroup, EachRow, OfGroup, groups-each, last-each}
-use Rattle.markdown_blocks.proofs.FrontLemmas.{ends-roles, fronts-roles}
+use Rattle.markdown_blocks.proofs.FrontFacts.{Begins, Behind, Fronts, Goes, IsFurther, IsOpening, IsPrefix}
 use Rattle.markdown_blocks.proofs.PartedRows.{clear, clear-between, rest-clear, rows-parted}
-use Rattle.markdown_blocks.proofs.RowFacts.{AreRows, IsInside, IsLine, depth_behind}
+use Rattle.markdown_blocks.proofs.RowFacts.{AreRows, IsInside, IsLine, behind_line}
 use Rattle.markdown_blocks.proofs.TitleNests.{blank-no_heading, break-no_heading, text_begin, text_end}
 
 -- whether a text begins or ends at such a point
@@ -77,14 +82,6 @@ plain-around : (bytes : List ℕ) (name : Name) (p q : Point) (inside : List Eve
 plain-around bytes name p q inside plain begin end h =
     plain-cons bytes (enter name p) (inside ++ exit name q ∷ []) plain begin (plain-append bytes inside (exit name q ∷ []) h (plain-cons bytes (exit name q) [] plain end (plain-nil bytes)))
 
--- the ends of quotes, and an ending
-plain-tail : (bytes : List ℕ) (name : Name) (row : Row) → Untold (role name) → ArePlain bytes (tail_events name row)
-plain-tail bytes name row h = plain-untold bytes (tail_events name row) (roles-append Untold (quote_ends row.leaves row.end) (ending_events name row) (ends-roles Untold row.leaves row.end (refl, refl)) (go row.after))
-  where
-    go : (o : Option Point) → Roles Untold (elim o [ None ↦ [] | Some q ↦ pair name row.end q ])
-    go None = tt
-    go (Some q) = (h, (h, tt))
-
 -- what the plain layer gives
 chunk-plain : (bytes : List ℕ) (chunk : Chunk) → ArePlain bytes (plain_chunk bytes chunk)
 chunk-plain bytes chunk = plain-append bytes _ _ (line (same_place chunk.first (line_end bytes chunk))) (ending (same_place (line_end bytes chunk) chunk.after))
@@ -96,6 +93,79 @@ chunk-plain bytes chunk = plain-append bytes _ _ (line (same_place chunk.first (
     ending : (b : Bool) → ArePlain bytes (cond b [] (pair n.LineEnding (line_end bytes chunk) chunk.after))
     ending true = record { names = refl; texts = refl }
     ending false = record { names = refl; texts = refl }
+
+-- Containers.
+
+-- containers of the kinds that an outline shows
+abbrev AllShown : List Shape → Type 0
+AllShown [] = Unit {0}
+AllShown (shape ∷ shapes) = (is_plain (Holds shape) ≡ true) × AllShown shapes
+
+abbrev AreShown : List Container → Type 0
+AreShown cs = AllShown (map shape_of cs)
+
+shown-append : (cs ds : List Container) → AreShown cs → AreShown ds → AreShown (cs ++ ds)
+shown-append [] ds h k = k
+shown-append (c ∷ cs) ds h k = (h.0, shown-append cs ds h.1 k)
+
+shown-parts : (cs ds : List Container) → AreShown (cs ++ ds) → AreShown cs × AreShown ds
+shown-parts [] ds h = (tt, h)
+shown-parts (c ∷ cs) ds h = let parts = shown-parts cs ds h.1 in ((h.0, parts.0), parts.1)
+
+-- the events of such a container have a plain name
+name-untold : (c : Container) → is_plain (Holds (shape_of c)) ≡ true → Untold (role (container_name c))
+name-untold InQuote h = (refl, refl)
+name-untold (InItem digits marker width starts_blank) h = (h, refl)
+name-untold (InFootnote label) h = (h, refl)
+
+ends-untold : (cs : List Container) (p : Point) → AreShown cs → Roles Untold (ends_of cs p)
+ends-untold [] p h = tt
+ends-untold (c ∷ cs) p h = roles-append Untold (ends_of cs p) (exit (container_name c) p ∷ []) (ends-untold cs p h.1) (name-untold c h.0, tt)
+
+-- the ends of containers, and an ending
+plain-tail : (bytes : List ℕ) (name : Name) (row : Row) → Untold (role name) → AreShown row.leaves → ArePlain bytes (tail_events name row)
+plain-tail bytes name row h shown = plain-untold bytes (tail_events name row) (roles-append Untold (ends_of row.leaves row.end) (ending_events name row) (ends-untold row.leaves row.end shown) (go row.after))
+  where
+    go : (o : Option Point) → Roles Untold (elim o [ None ↦ [] | Some q ↦ pair name row.end q ])
+    go None = tt
+    go (Some q) = (h, (h, tt))
+
+-- what stands in front of the content of a container, of one that goes on or opens
+plain-prefix : (bytes : List ℕ) (p q : Point) (es : List Event) → IsPrefix bytes p q es → ArePlain bytes es
+plain-prefix bytes p q es is = subst (ArePlain bytes) (sym is.events) (go (same_place p is.marker) (same_place is.behind q))
+  where
+    go : (x y : Bool) →
+        ArePlain bytes (cond x [] (pair n.SpaceOrTab p is.marker) ++ enter n.BlockQuotePrefix is.marker ∷ enter n.BlockQuoteMarker is.marker ∷ exit n.BlockQuoteMarker is.behind ∷ cond y [] (pair n.SpaceOrTab is.behind q) ++ exit n.BlockQuotePrefix q ∷ [])
+    go true true = record { names = refl; texts = refl }
+    go true false = record { names = refl; texts = refl }
+    go false true = record { names = refl; texts = refl }
+    go false false = record { names = refl; texts = refl }
+
+plain-further : (bytes : List ℕ) (c : Container) (p q : Point) (es : List Event) → IsFurther bytes c p q es → ArePlain bytes es
+plain-further bytes InQuote p q es is = plain-prefix bytes p q es is
+plain-further bytes c p q es is = absurd is
+
+plain-opening : (bytes : List ℕ) (c : Container) (p q : Point) (es : List Event) → IsOpening bytes c p q es → ArePlain bytes es
+plain-opening bytes InQuote p q es is = plain-prefix bytes p q es is
+plain-opening bytes c p q es is = absurd is
+
+-- where a container opens, an outline shows it: there are only quotes yet
+opening-shown : (bytes : List ℕ) (c : Container) (p q : Point) (es : List Event) → IsOpening bytes c p q es → is_plain (Holds (shape_of c)) ≡ true
+opening-shown bytes InQuote p q es is = refl
+opening-shown bytes c p q es is = absurd is
+
+fronts-shown : (bytes : List ℕ) (opens : List Container) (p q : Point) (front : List Event) → Fronts bytes opens p q front → AreShown opens
+fronts-shown bytes _ p _ _ (Behind _) = tt
+fronts-shown bytes opens p r _ (Goes c _ _ q _ es fs is more) = fronts-shown bytes opens q r fs more
+fronts-shown bytes _ p r _ (Begins c opens _ q _ es fs is more) = (opening-shown bytes c p q es is, fronts-shown bytes opens q r fs more)
+
+-- what stands in front of a line
+plain-front : (bytes : List ℕ) (opens : List Container) (p q : Point) (front : List Event) → Fronts bytes opens p q front → ArePlain bytes front
+plain-front bytes _ p _ _ (Behind _) = plain-nil bytes
+plain-front bytes opens p r _ (Goes c _ _ q _ es fs is more) = plain-append bytes es fs (plain-further bytes c p q es is) (plain-front bytes opens q r fs more)
+plain-front bytes _ p r _ (Begins c opens _ q _ es fs is more) =
+    let begin : Untold (role (container_name c)) = name-untold c (opening-shown bytes c p q es is) in
+    plain-append bytes (enter (container_name c) p ∷ []) (es ++ fs) (plain-untold bytes (enter (container_name c) p ∷ []) (begin, tt)) (plain-append bytes es fs (plain-opening bytes c p q es is) (plain-front bytes opens q r fs more))
 
 -- Headings.
 
@@ -152,13 +222,14 @@ plain-title bytes line p h =
 -- a row without names of other blocks, whose ends are clear
 record IsPlainRow (bytes : List ℕ) (row : Row) : Type 0 where
   front : ArePlain bytes row.front
+  leaves : AreShown row.leaves
   inside : row.kind ≢ HeadingRow → IsInside row
   first : clear bytes row.first ≡ true
   end : clear bytes row.end ≡ true
 
 -- what stands in front of a line, a block, and what follows it
-plain-line : (bytes : List ℕ) (name : Name) (front inside : List Event) (row : Row) → Untold (role name) → ArePlain bytes front → ArePlain bytes inside → ArePlain bytes (front ++ inside ++ tail_events name row)
-plain-line bytes name front inside row u h k = plain-append bytes (front ++ inside) (tail_events name row) (plain-append bytes front inside h k) (plain-tail bytes name row u)
+plain-line : (bytes : List ℕ) (name : Name) (front inside : List Event) (row : Row) → Untold (role name) → AreShown row.leaves → ArePlain bytes front → ArePlain bytes inside → ArePlain bytes (front ++ inside ++ tail_events name row)
+plain-line bytes name front inside row u leaves h k = plain-append bytes (front ++ inside) (tail_events name row) (plain-append bytes front inside h k) (plain-tail bytes name row u leaves)
 
 plain-row : (bytes : List ℕ) (row : Row) → IsPlainRow bytes row → ArePlain bytes (single_events_by bytes row.kind row)
 plain-row bytes row h = go row.kind refl
@@ -167,15 +238,15 @@ plain-row bytes row h = go row.kind refl
     quiet other = let inside : IsInside row = h.inside other in plain-quiet bytes row.inside inside.quiet
 
     go : (kind : RowKind) → row.kind ≡ kind → ArePlain bytes (single_events_by bytes kind row)
-    go BlankRow e = plain-line bytes n.BlankLineEnding row.front row.inside row (refl, refl) h.front (quiet (blank-no_heading row.kind e))
+    go BlankRow e = plain-line bytes n.BlankLineEnding row.front row.inside row (refl, refl) h.leaves h.front (quiet (blank-no_heading row.kind e))
     go HeadingRow e =
         let inside : List Event = read_title bytes (row_title bytes row) in
-        plain-line bytes n.LineEnding row.front (around n.HeadingAtx row.first row.end inside) row (refl, refl) h.front
+        plain-line bytes n.LineEnding row.front (around n.HeadingAtx row.first row.end inside) row (refl, refl) h.leaves h.front
         (plain-around bytes n.HeadingAtx row.first row.end inside refl refl refl (plain-title bytes (row_line bytes row) row.first h.first))
     go BreakRow e =
-        plain-line bytes n.LineEnding row.front (around n.ThematicBreak row.first row.end row.inside) row (refl, refl) h.front
+        plain-line bytes n.LineEnding row.front (around n.ThematicBreak row.first row.end row.inside) row (refl, refl) h.leaves h.front
         (plain-around bytes n.ThematicBreak row.first row.end row.inside refl refl refl (quiet (break-no_heading row.kind e)))
-    go TextRow e = plain-line bytes n.LineEnding row.front _ row (refl, refl) h.front (plain-cons bytes _ (exit n.Content row.end ∷ []) refl refl (plain-cons bytes (exit n.Content row.end) [] refl refl (plain-nil bytes)))
+    go TextRow e = plain-line bytes n.LineEnding row.front _ row (refl, refl) h.leaves h.front (plain-cons bytes _ (exit n.Content row.end ∷ []) refl refl (plain-cons bytes (exit n.Content row.end) [] refl refl (plain-nil bytes)))
 
 -- the text of a paragraph
 plain-lines : (bytes : List ℕ) (row : Row) (rows : List Row) → EachRow (IsPlainRow bytes) rows → ArePlain bytes (read_lines bytes row rows)
@@ -191,27 +262,49 @@ plain-group bytes (Lines row rows) h =
     let is : IsPlainRow bytes row = h.0 in
     let last_is : IsPlainRow bytes last = last-each (IsPlainRow bytes) row rows h.0 h.1 in
     let inside : List Event = read_lines bytes row rows in
-    plain-line bytes n.LineEnding row.front (around n.Paragraph row.first last.end inside) last (refl, refl) is.front (plain-around bytes n.Paragraph row.first last.end inside refl is.first last_is.end (plain-lines bytes row rows h.1))
+    plain-line bytes n.LineEnding row.front (around n.Paragraph row.first last.end inside) last (refl, refl) last_is.leaves is.front (plain-around bytes n.Paragraph row.first last.end inside refl is.first last_is.end (plain-lines bytes row rows h.1))
 
 plain-all : (bytes : List ℕ) (gs : List Group) → EachGroup (IsPlainRow bytes) gs → ArePlain bytes (groups_events bytes gs)
 plain-all bytes [] h = plain-nil bytes
 plain-all bytes (group ∷ gs) h = plain-append bytes (group_events bytes group) (groups_events bytes gs) (plain-group bytes group h.0) (plain-all bytes gs h.1)
 
--- the rows of a text are such rows
+-- The rows of a text are such rows.
 
-line-plain : (options : ParseOptions) (bytes : List ℕ) (depth : ℕ) (going : Bool) (p : Point) (line : List ℕ) (row : Row) → IsLine options bytes depth going p line row → IsPlainRow bytes row
-line-plain options bytes depth going p line row at = record {
-  front = plain-untold bytes row.front (fronts-roles Untold bytes row.opens p row.first row.front (refl, refl) (refl, refl) (refl, refl) at.front);
+-- of the containers that a line finds open, an outline shows those that end before it, and those that are open behind it
+line-shown : (options : ParseOptions) (bytes : List ℕ) (open_before : List Container) (going : Bool) (p : Point) (line : List ℕ) (row : Row) → IsLine options bytes open_before going p line row → AreShown open_before →
+    AreShown row.change.closes × AreShown (behind_line options open_before going p line)
+line-shown options bytes open_before going p line row at h =
+    let c : Change = (contained options open_before going (rest_from p line)).change in
+    let parts : AreShown c.stays × AreShown c.closes = shown-parts c.stays c.closes (subst AllShown (sym (contained-shapes options open_before going (rest_from p line))) h) in
+    let opens : AreShown c.opens = subst (λ (x : Change). AreShown x.opens) at.change (fronts-shown bytes row.change.opens p row.first row.front at.front) in
+    (subst (λ (x : Change). AreShown x.closes) (sym at.change) parts.1, shown-append c.stays c.opens parts.0 opens)
+
+-- the first line
+first-line : (options : ParseOptions) (bytes : List ℕ) (open_before : List Container) (going : Bool) (p : Point) (line : List ℕ) (lines : List (List ℕ)) (row : Row) (rows : List Row) → AreRows options bytes open_before going p (line ∷ lines) (row ∷ rows) →
+    IsLine options bytes open_before going p line row
+first-line options bytes open_before going p line [] row [] h = h.0
+first-line options bytes open_before going p line (next ∷ lines) row (below ∷ rows) h = h.0
+first-line options bytes open_before going p line lines row rows h = absurd h
+
+line-plain : (options : ParseOptions) (bytes : List ℕ) (open_before : List Container) (going : Bool) (p : Point) (line : List ℕ) (row : Row) → IsLine options bytes open_before going p line row → AreShown row.leaves → IsPlainRow bytes row
+line-plain options bytes open_before going p line row at leaves = record {
+  front = plain-front bytes row.change.opens p row.first row.front at.front;
+  leaves = leaves;
   inside = at.is.inside;
-  first = rest-clear options bytes depth going p line row at;
+  first = rest-clear options bytes open_before going p line row at;
   end = ap (λ (v : ℕ). (v == 0) || is_between bytes (byte_at row.end)) at.is.end_whole;
 }
 
-plain-rows : (options : ParseOptions) (bytes : List ℕ) (depth : ℕ) (going : Bool) (p : Point) (lines : List (List ℕ)) (rows : List Row) → AreRows options bytes depth going p lines rows → EachRow (IsPlainRow bytes) rows
-plain-rows options bytes depth going p (line ∷ []) (row ∷ []) h = (line-plain options bytes depth going p line row h.0, tt)
-plain-rows options bytes depth going p (line ∷ next ∷ lines) (row ∷ below ∷ rows) h =
-    (line-plain options bytes depth going p line row h.0, plain-rows options bytes (depth_behind options depth going p line) (is_text row.kind) h.2 (next ∷ lines) (below ∷ rows) h.5)
-plain-rows options bytes depth going p lines rows h = absurd h
+plain-rows : (options : ParseOptions) (bytes : List ℕ) (open_before : List Container) (going : Bool) (p : Point) (lines : List (List ℕ)) (rows : List Row) → AreRows options bytes open_before going p lines rows → AreShown open_before → EachRow (IsPlainRow bytes) rows
+plain-rows options bytes open_before going p (line ∷ []) (row ∷ []) h shown =
+    let here = line-shown options bytes open_before going p line row h.0 shown in
+    (line-plain options bytes open_before going p line row h.0 (subst AreShown (sym h.1) here.1), tt)
+plain-rows options bytes open_before going p (line ∷ next ∷ lines) (row ∷ below ∷ rows) h shown =
+    let behind : List Container = behind_line options open_before going p line in
+    let here = line-shown options bytes open_before going p line row h.0 shown in
+    let there = line-shown options bytes behind (is_text row.kind) h.2 next below (first-line options bytes behind (is_text row.kind) h.2 next lines below rows h.5) here.1 in
+    (line-plain options bytes open_before going p line row h.0 (subst AreShown (sym h.1) there.0), plain-rows options bytes behind (is_text row.kind) h.2 (next ∷ lines) (below ∷ rows) h.5 here.1)
+plain-rows options bytes open_before going p lines rows h shown = absurd h
 
 -- a text that begins and ends clear, and between characters, does so also behind a tab that is cut
 tells-clear : (bytes : List ℕ) (told : Bool) (p : Point) → (not told || clear bytes p) ≡ true → is_between bytes p.index ≡ true → (not told || is_between bytes (byte_at p)) ≡ true
@@ -226,17 +319,17 @@ all-tell bytes (e ∷ events) h k =
     and_from (tells_between bytes e) (list_all (tells_between bytes) events) (tells-clear bytes (is_told (role e.name)) e.point clears.0 betweens.0) (all-tell bytes events clears.1 betweens.1)
 
 -- the events of a text are outlined, if they nest and stand between its characters, and no heading is too deep
-pub groups-outlined : (options : ParseOptions) (bytes : List ℕ) (p : Point) (lines : List (List ℕ)) (rows : List Row) → AreRows options bytes 0 false p lines rows → IsUtf8 bytes →
+pub groups-outlined : (options : ParseOptions) (bytes : List ℕ) (p : Point) (lines : List (List ℕ)) (rows : List Row) → AreRows options bytes [] false p lines rows → IsUtf8 bytes →
     Balanced (groups_events bytes (groups rows)) → list_all (λ (e : Event). is_between bytes e.point.index) (groups_events bytes (groups rows)) ≡ true → are_shallow (spelled (groups_events bytes (groups rows)) bytes) ≡ true →
     IsOutlined (groups_events bytes (groups rows)) bytes
 groups-outlined options bytes p lines rows are utf8 balanced between depths =
-    let plain : ArePlain bytes (groups_events bytes (groups rows)) = plain-all bytes (groups rows) (groups-each (IsPlainRow bytes) rows (plain-rows options bytes 0 false p lines rows are)) in
+    let plain : ArePlain bytes (groups_events bytes (groups rows)) = plain-all bytes (groups rows) (groups-each (IsPlainRow bytes) rows (plain-rows options bytes [] false p lines rows are tt)) in
     record {
       balanced = balanced;
       names = plain.names;
       text = utf8;
       between = between;
       texts = all-tell bytes (groups_events bytes (groups rows)) plain.texts between;
-      parted = rows-parted options bytes 0 false p lines rows are;
+      parted = rows-parted options bytes [] false p lines rows are;
       depths = depths;
     }
