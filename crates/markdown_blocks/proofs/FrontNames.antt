@@ -125,7 +125,7 @@ pub prefixes-content : (xs ys : List Event) → ArePrefixes xs → content_behin
 prefixes-content [] ys h = refl
 prefixes-content (e ∷ xs) ys h = ap (λ (x : Bool). cond x (content_behind (xs ++ ys)) (is_enter e.kind && is_content e.name)) h.0 ∙ prefixes-content xs ys h.2
 
--- and not over the begin or the end of a container
+-- and not over the begin or the end of a container, whose name is not that of a prefix
 pub container-prefix : (c : Container) → is_prefix (container_name c) ≡ false
 container-prefix InQuote = refl
 container-prefix (InItem digits marker width starts_blank) = refl
