@@ -1,5 +1,6 @@
--- What holds of the events in front of a line: they are prefixes and begins of quotes, and nothing of it is read later.
-use Rattle.std.proofs.Common.{◌≡◌, ℕ, ◌≤◌, Bool, true, false, cond, ◌&&◌, List, [], ◌∷◌, ◌++◌, refl, ap, sym, ◌∙◌, subst, append_assoc, arith}
+-- What holds of the events in front of a line: they are prefixes and begins of containers, and nothing of it is read later. So it is
+-- with the ends of containers.
+use Rattle.std.proofs.Common.{◌≡◌, ℕ, Bool, true, false, cond, ◌&&◌, List, [], ◌∷◌, ◌++◌, refl, ap, sym, ◌∙◌, subst, append_assoc}
 use Rattle.std.specs.Prelude.{None}
 use Rattle.md_engine.specs.declared.event.Event.{Event}
 use Rattle.md_engine.specs.declared.event.Name.{Name}
@@ -10,14 +11,16 @@ use Rattle.md_leaves.specs.HeadingText.{is_heading}
 use Rattle.md_seam.specs.Inline.{pair_unless_empty}
 use Rattle.md_seam.specs.Nested.{enter, exit, pair, is_enter}
 use Rattle.md_seam.specs.Places.{same_place}
+use Rattle.md_seam.specs.State.{Container, InFootnote, InItem, InQuote}
 use Rattle.md_seam.specs.Substituted.{is_prefix}
+use Rattle.markdown_blocks.specs.Change.{container_name, ends_of, is_none}
 use Rattle.markdown_blocks.specs.Rows.{Row}
-use Rattle.markdown_blocks.proofs.FrontFacts.{Fronts, IsPrefix}
+use Rattle.markdown_blocks.proofs.FrontFacts.{Fronts, IsFurther, IsOpening, IsPrefix}
 use Rattle.markdown_blocks.proofs.FrontFacts.Fronts.{Begins, Behind, Goes}
 
--- what stands in front of a line are prefixes and begins of quotes
+-- what stands in front of a line are prefixes and begins of containers
 abbrev pub HasFront : List ℕ → Row → Type 0
-HasFront bytes row = (p : Point) × Fronts bytes row.opens p row.first row.front
+HasFront bytes row = (p : Point) × Fronts bytes row.change.opens p row.first row.front
 
 -- What they are.
 
@@ -46,15 +49,21 @@ prefix-are bytes p q es is =
     (prefixes-append (indent ++ marker) (exit n.BlockQuotePrefix q ∷ [])
     (prefixes-append indent marker (pair-prefixes p is.marker) (refl, refl, (refl, refl, (refl, refl, pair-prefixes is.behind q)))) (refl, refl, tt))
 
--- where no quote begins there are prefixes alone
-pub fronts-prefixes : (bytes : List ℕ) (opens : ℕ) (p q : Point) (es : List Event) → opens ≡ 0 → Fronts bytes opens p q es → ArePrefixes es
-fronts-prefixes bytes opens p q es none (Behind r) = tt
-fronts-prefixes bytes opens p q es none (Goes k a b c xs ys prefix rest) = prefixes-append xs ys (prefix-are bytes a b xs prefix) (fronts-prefixes bytes k b c ys none rest)
-fronts-prefixes bytes opens p q es none (Begins k a b c xs ys prefix rest) = absurd (omega arith)
+pub further-are : (bytes : List ℕ) (c : Container) (p q : Point) (es : List Event) → IsFurther bytes c p q es → ArePrefixes es
+further-are bytes InQuote p q es is = prefix-are bytes p q es is
+further-are bytes c p q es is = absurd is
 
--- events with names of prefixes or of quotes, none of which begins a chunk
+-- where no container begins there are prefixes alone
+pub fronts-prefixes : (bytes : List ℕ) (opens : List Container) (p q : Point) (es : List Event) → opens ≡ [] → Fronts bytes opens p q es → ArePrefixes es
+fronts-prefixes bytes opens p q es none (Behind r) = tt
+fronts-prefixes bytes opens p q es none (Goes c same first mid last xs ys is more) = prefixes-append xs ys (further-are bytes c first mid xs is) (fronts-prefixes bytes same mid last ys none more)
+fronts-prefixes bytes opens p q es none (Begins c below first mid last xs ys is more) = cc
+
+-- events with names of prefixes or of containers, none of which begins a chunk
 abbrev pub is_front : Name → Bool
 is_front n.BlockQuote = true
+is_front n.ListItem = true
+is_front n.GfmFootnoteDefinition = true
 is_front name = is_prefix name
 
 abbrev pub AreFront : List Event → Type 0
@@ -67,16 +76,38 @@ front-append (e ∷ xs) ys h k = (h.0, h.1, front-append xs ys h.2 k)
 
 front-name : (name : Name) → is_prefix name ≡ true → is_front name ≡ true
 front-name n.BlockQuote h = refl
+front-name n.ListItem h = refl
+front-name n.GfmFootnoteDefinition h = refl
 front-name _ h = h
 
 pub prefixes-front : (es : List Event) → ArePrefixes es → AreFront es
 prefixes-front [] h = tt
 prefixes-front (e ∷ es) h = (front-name e.name h.0, h.1, prefixes-front es h.2)
 
-pub fronts-are : (bytes : List ℕ) (opens : ℕ) (p q : Point) (es : List Event) → Fronts bytes opens p q es → AreFront es
+pub opening-are : (bytes : List ℕ) (c : Container) (p q : Point) (es : List Event) → IsOpening bytes c p q es → AreFront es
+opening-are bytes InQuote p q es is = prefixes-front es (prefix-are bytes p q es is)
+opening-are bytes c p q es is = absurd is
+
+container-front : (c : Container) → is_front (container_name c) ≡ true
+container-front InQuote = refl
+container-front (InItem digits marker width starts_blank) = refl
+container-front (InFootnote label) = refl
+
+pub fronts-are : (bytes : List ℕ) (opens : List Container) (p q : Point) (es : List Event) → Fronts bytes opens p q es → AreFront es
 fronts-are bytes opens p q es (Behind r) = tt
-fronts-are bytes opens p q es (Goes k a b c xs ys prefix rest) = front-append xs ys (prefixes-front xs (prefix-are bytes a b xs prefix)) (fronts-are bytes k b c ys rest)
-fronts-are bytes opens p q es (Begins k a b c xs ys prefix rest) = (refl, refl, front-append xs ys (prefixes-front xs (prefix-are bytes a b xs prefix)) (fronts-are bytes k b c ys rest))
+fronts-are bytes opens p q es (Goes c same first mid last xs ys is more) = front-append xs ys (prefixes-front xs (further-are bytes c first mid xs is)) (fronts-are bytes same mid last ys more)
+fronts-are bytes opens p q es (Begins c below first mid last xs ys is more) = (container-front c, refl, front-append xs ys (opening-are bytes c first mid xs is) (fronts-are bytes below mid last ys more))
+
+-- so are the ends of containers
+pub ends-are : (cs : List Container) (p : Point) → AreFront (ends_of cs p)
+ends-are [] p = tt
+ends-are (c ∷ cs) p = front-append (ends_of cs p) (exit (container_name c) p ∷ []) (ends-are cs p) (container-front c, refl, tt)
+
+-- the first of some ends is that of a container
+pub ends-first : (P : List Event → Type 0) (c : Container) (cs : List Container) (p : Point) (es : List Event) → ((d : Container) (fs : List Event) → P (exit (container_name d) p ∷ fs)) → P (ends_of (c ∷ cs) p ++ es)
+ends-first P c [] p es h = h c es
+ends-first P c (d ∷ cs) p es h =
+    subst P (sym (append_assoc (ends_of (d ∷ cs) p) (exit (container_name c) p ∷ []) es)) (ends-first P d cs p (exit (container_name c) p ∷ es) h)
 
 -- none of them is content or a heading
 pub front-content : (name : Name) → is_front name ≡ true → is_content name ≡ false
@@ -94,9 +125,22 @@ pub prefixes-content : (xs ys : List Event) → ArePrefixes xs → content_behin
 prefixes-content [] ys h = refl
 prefixes-content (e ∷ xs) ys h = ap (λ (x : Bool). cond x (content_behind (xs ++ ys)) (is_enter e.kind && is_content e.name)) h.0 ∙ prefixes-content xs ys h.2
 
--- and not over the begin of a quote
-pub fronts-stop : (bytes : List ℕ) (opens : ℕ) (p q : Point) (es : List Event) → (ys : List Event) → 1 ≤ opens → Fronts bytes opens p q es → content_behind (es ++ ys) ≡ false
-fronts-stop bytes opens p q es ys some (Behind r) = absurd (omega arith)
-fronts-stop bytes opens p q es ys some (Goes k a b c xs fs prefix rest) =
-    ap content_behind (append_assoc xs fs ys) ∙ prefixes-content xs (fs ++ ys) (prefix-are bytes a b xs prefix) ∙ fronts-stop bytes k b c fs ys some rest
-fronts-stop bytes opens p q es ys some (Begins k a b c xs fs prefix rest) = refl
+-- and not over the begin or the end of a container, whose name is not that of a prefix
+pub container-prefix : (c : Container) → is_prefix (container_name c) ≡ false
+container-prefix InQuote = refl
+container-prefix (InItem digits marker width starts_blank) = refl
+container-prefix (InFootnote label) = refl
+
+begin-stops : (c : Container) (p : Point) (ys : List Event) → content_behind (enter (container_name c) p ∷ ys) ≡ false
+begin-stops InQuote p ys = refl
+begin-stops (InItem digits marker width starts_blank) p ys = refl
+begin-stops (InFootnote label) p ys = refl
+
+pub end-stops : (c : Container) (p : Point) (ys : List Event) → content_behind (exit (container_name c) p ∷ ys) ≡ false
+end-stops c p ys = ap (λ (x : Bool). cond x (content_behind ys) false) (container-prefix c)
+
+pub fronts-stop : (bytes : List ℕ) (opens : List Container) (p q : Point) (es : List Event) → (ys : List Event) → is_none opens ≡ false → Fronts bytes opens p q es → content_behind (es ++ ys) ≡ false
+fronts-stop bytes opens p q es ys some (Behind r) = cc
+fronts-stop bytes opens p q es ys some (Goes c same first mid last xs fs is more) =
+    ap content_behind (append_assoc xs fs ys) ∙ prefixes-content xs (fs ++ ys) (further-are bytes c first mid xs is) ∙ fronts-stop bytes same mid last fs ys some more
+fronts-stop bytes opens p q es ys some (Begins c below first mid last xs fs is more) = begin-stops c first ((xs ++ fs) ++ ys)

@@ -1,5 +1,6 @@
--- Nothing of what stands in front of a line is read later, and no text part begins or ends there; so it is with the ends of quotes.
-use Rattle.std.proofs.Common.{ℕ, zero, suc, Bool, true, false, cond, List, [], ◌∷◌, ◌++◌, refl, sym, subst}
+-- Nothing of what stands in front of a line is read later, and no text part begins or ends there; so it is with the ends of containers.
+use Rattle.std.proofs.Common.{◌≡◌, ℕ, Bool, true, false, cond, List, [], ◌∷◌, ◌++◌, refl, sym, subst}
+use Rattle.std.specs.Prelude.{None}
 use Rattle.md_engine.specs.declared.event.Event.{Event}
 use Rattle.md_engine.specs.declared.event.Name.{Name}
 use Rattle.md_engine.specs.declared.event.Name.TheVariants as n
@@ -7,8 +8,10 @@ use Rattle.md_engine.specs.declared.event.Point.{Point}
 use Rattle.md_seam.specs.Inline.{pair_unless_empty}
 use Rattle.md_seam.specs.Nested.{enter, exit, pair}
 use Rattle.md_seam.specs.Places.{same_place}
-use Rattle.markdown_blocks.specs.Rows.{quote_ends}
-use Rattle.markdown_blocks.proofs.FrontFacts.{Behind, Begins, Fronts, Goes, IsPrefix}
+use Rattle.md_seam.specs.State.{Container, InFootnote, InItem, InQuote}
+use Rattle.md_seam.specs.Tiles.{part_kind}
+use Rattle.markdown_blocks.specs.Change.{container_name, ends_of}
+use Rattle.markdown_blocks.proofs.FrontFacts.{Behind, Begins, Fronts, Goes, IsFurther, IsOpening, IsPrefix}
 use Rattle.markdown_blocks.proofs.PartFacts.{NoParts, no_links-append, no_parts-append}
 use Rattle.markdown_blocks.proofs.TitleFacts.{NoLinks}
 
@@ -29,14 +32,22 @@ prefix-unlinked bytes p q es is =
     (no_links-append (indent ++ marker) (exit n.BlockQuotePrefix q ∷ [])
     (no_links-append indent marker (unless_empty-unlinked n.SpaceOrTab p is.marker) (refl, (refl, (refl, unless_empty-unlinked n.SpaceOrTab is.behind q)))) (refl, tt))
 
-pub fronts-unlinked : (bytes : List ℕ) (opens : ℕ) (p q : Point) (es : List Event) → Fronts bytes opens p q es → NoLinks es
-fronts-unlinked bytes opens p q es (Behind at) = tt
-fronts-unlinked bytes opens first last es (Goes same p q r xs ys is more) = no_links-append xs ys (prefix-unlinked bytes p q xs is) (fronts-unlinked bytes same q r ys more)
-fronts-unlinked bytes opens first last es (Begins before p q r xs ys is more) = (refl, no_links-append xs ys (prefix-unlinked bytes p q xs is) (fronts-unlinked bytes before q r ys more))
+further-unlinked : (bytes : List ℕ) (c : Container) (p q : Point) (es : List Event) → IsFurther bytes c p q es → NoLinks es
+further-unlinked bytes InQuote p q es is = prefix-unlinked bytes p q es is
+further-unlinked bytes c p q es is = absurd is
 
-pub ends-unlinked : (size : ℕ) (p : Point) → NoLinks (quote_ends size p)
-ends-unlinked zero p = tt
-ends-unlinked (suc size) p = (refl, ends-unlinked size p)
+opening-unlinked : (bytes : List ℕ) (c : Container) (p q : Point) (es : List Event) → IsOpening bytes c p q es → NoLinks es
+opening-unlinked bytes InQuote p q es is = prefix-unlinked bytes p q es is
+opening-unlinked bytes c p q es is = absurd is
+
+pub fronts-unlinked : (bytes : List ℕ) (opens : List Container) (p q : Point) (es : List Event) → Fronts bytes opens p q es → NoLinks es
+fronts-unlinked bytes opens p q es (Behind at) = tt
+fronts-unlinked bytes opens first last es (Goes c same p q r xs ys is more) = no_links-append xs ys (further-unlinked bytes c p q xs is) (fronts-unlinked bytes same q r ys more)
+fronts-unlinked bytes opens first last es (Begins c below p q r xs ys is more) = (refl, no_links-append xs ys (opening-unlinked bytes c p q xs is) (fronts-unlinked bytes below q r ys more))
+
+pub ends-unlinked : (cs : List Container) (p : Point) → NoLinks (ends_of cs p)
+ends-unlinked [] p = tt
+ends-unlinked (c ∷ cs) p = no_links-append (ends_of cs p) (exit (container_name c) p ∷ []) (ends-unlinked cs p) (refl, tt)
 
 -- None of them begins or ends a text part.
 
@@ -55,11 +66,26 @@ prefix-no_parts bytes p q es is =
     (no_parts-append (indent ++ marker) (exit n.BlockQuotePrefix q ∷ [])
     (no_parts-append indent marker (unless_empty-no_parts p is.marker) (refl, (refl, (refl, unless_empty-no_parts is.behind q)))) (refl, tt))
 
-pub fronts-no_parts : (bytes : List ℕ) (opens : ℕ) (p q : Point) (es : List Event) → Fronts bytes opens p q es → NoParts es
-fronts-no_parts bytes opens p q es (Behind at) = tt
-fronts-no_parts bytes opens first last es (Goes same p q r xs ys is more) = no_parts-append xs ys (prefix-no_parts bytes p q xs is) (fronts-no_parts bytes same q r ys more)
-fronts-no_parts bytes opens first last es (Begins before p q r xs ys is more) = (refl, no_parts-append xs ys (prefix-no_parts bytes p q xs is) (fronts-no_parts bytes before q r ys more))
+further-no_parts : (bytes : List ℕ) (c : Container) (p q : Point) (es : List Event) → IsFurther bytes c p q es → NoParts es
+further-no_parts bytes InQuote p q es is = prefix-no_parts bytes p q es is
+further-no_parts bytes c p q es is = absurd is
 
-pub ends-no_parts : (size : ℕ) (p : Point) → NoParts (quote_ends size p)
-ends-no_parts zero p = tt
-ends-no_parts (suc size) p = (refl, ends-no_parts size p)
+opening-no_parts : (bytes : List ℕ) (c : Container) (p q : Point) (es : List Event) → IsOpening bytes c p q es → NoParts es
+opening-no_parts bytes InQuote p q es is = prefix-no_parts bytes p q es is
+opening-no_parts bytes c p q es is = absurd is
+
+-- a container is no text part
+container-no_part : (c : Container) → part_kind (container_name c) ≡ None
+container-no_part InQuote = refl
+container-no_part (InItem digits marker width starts_blank) = refl
+container-no_part (InFootnote label) = refl
+
+pub fronts-no_parts : (bytes : List ℕ) (opens : List Container) (p q : Point) (es : List Event) → Fronts bytes opens p q es → NoParts es
+fronts-no_parts bytes opens p q es (Behind at) = tt
+fronts-no_parts bytes opens first last es (Goes c same p q r xs ys is more) = no_parts-append xs ys (further-no_parts bytes c p q xs is) (fronts-no_parts bytes same q r ys more)
+fronts-no_parts bytes opens first last es (Begins c below p q r xs ys is more) =
+    (container-no_part c, no_parts-append xs ys (opening-no_parts bytes c p q xs is) (fronts-no_parts bytes below q r ys more))
+
+pub ends-no_parts : (cs : List Container) (p : Point) → NoParts (ends_of cs p)
+ends-no_parts [] p = tt
+ends-no_parts (c ∷ cs) p = no_parts-append (ends_of cs p) (exit (container_name c) p ∷ []) (ends-no_parts cs p) (container-no_part c, tt)

@@ -5,7 +5,8 @@ use Rattle.std.proofs.lemmas.Bool.Decides.{nat_tests}
 use Rattle.md_engine.specs.declared.event.Event.{Event}
 use Rattle.md_engine.specs.declared.event.Point.{Point}
 use Rattle.md_seam.specs.Places.{at_or_before}
-use Rattle.markdown_blocks.proofs.FrontFacts.{Behind, Begins, Fronts, Goes, IsPrefix}
+use Rattle.md_seam.specs.State.{Container, InQuote}
+use Rattle.markdown_blocks.proofs.FrontFacts.{Behind, Begins, Fronts, Goes, IsFurther, IsOpening, IsPrefix}
 
 order-grows : (p q : Point) → IsTrue (at_or_before p q) → p.index ≤ q.index
 order-grows p q h = grind (arith, nat_tests)
@@ -16,14 +17,30 @@ prefix-grows bytes p q es is =
     let behind = order-grows is.behind q is.column in
     omega (arith, is.past)
 
+pub further-grows : (bytes : List ℕ) (c : Container) (p q : Point) (es : List Event) → IsFurther bytes c p q es → p.index ≤ q.index
+further-grows bytes InQuote p q es is = prefix-grows bytes p q es is
+further-grows bytes c p q es is = absurd is
+
+pub opening-grows : (bytes : List ℕ) (c : Container) (p q : Point) (es : List Event) → IsOpening bytes c p q es → p.index ≤ q.index
+opening-grows bytes InQuote p q es is = prefix-grows bytes p q es is
+opening-grows bytes c p q es is = absurd is
+
 -- a point does not come behind where the front ends
-pub fronts-grow : (bytes : List ℕ) (opens : ℕ) (p q : Point) (es : List Event) → Fronts bytes opens p q es → p.index ≤ q.index
+pub fronts-grow : (bytes : List ℕ) (opens : List Container) (p q : Point) (es : List Event) → Fronts bytes opens p q es → p.index ≤ q.index
 fronts-grow bytes opens p q es (Behind at) = omega arith
-fronts-grow bytes opens p q es (Goes same first mid last xs ys is more) = let one = prefix-grows bytes first mid xs is in let further = fronts-grow bytes same mid last ys more in omega arith
-fronts-grow bytes opens p q es (Begins before first mid last xs ys is more) = let one = prefix-grows bytes first mid xs is in let further = fronts-grow bytes before mid last ys more in omega arith
+fronts-grow bytes opens p q es (Goes c same first mid last xs ys is more) = let one = further-grows bytes c first mid xs is in let further = fronts-grow bytes same mid last ys more in omega arith
+fronts-grow bytes opens p q es (Begins c below first mid last xs ys is more) = let one = opening-grows bytes c first mid xs is in let further = fronts-grow bytes below mid last ys more in omega arith
 
 -- it is all on one line
-pub fronts-line : (bytes : List ℕ) (opens : ℕ) (p q : Point) (es : List Event) → Fronts bytes opens p q es → q.line ≡ p.line
+further-line : (bytes : List ℕ) (c : Container) (p q : Point) (es : List Event) → IsFurther bytes c p q es → q.line ≡ p.line
+further-line bytes InQuote p q es is = is.line
+further-line bytes c p q es is = absurd is
+
+opening-line : (bytes : List ℕ) (c : Container) (p q : Point) (es : List Event) → IsOpening bytes c p q es → q.line ≡ p.line
+opening-line bytes InQuote p q es is = is.line
+opening-line bytes c p q es is = absurd is
+
+pub fronts-line : (bytes : List ℕ) (opens : List Container) (p q : Point) (es : List Event) → Fronts bytes opens p q es → q.line ≡ p.line
 fronts-line bytes opens p q es (Behind at) = refl
-fronts-line bytes opens p q es (Goes same first mid last xs ys is more) = fronts-line bytes same mid last ys more ∙ is.line
-fronts-line bytes opens p q es (Begins before first mid last xs ys is more) = fronts-line bytes before mid last ys more ∙ is.line
+fronts-line bytes opens p q es (Goes c same first mid last xs ys is more) = fronts-line bytes same mid last ys more ∙ further-line bytes c first mid xs is
+fronts-line bytes opens p q es (Begins c below first mid last xs ys is more) = fronts-line bytes below mid last ys more ∙ opening-line bytes c first mid xs is

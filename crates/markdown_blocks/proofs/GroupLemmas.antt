@@ -1,5 +1,5 @@
 -- The events of the lines of a text, joined and read, are those of its blocks.
-use Rattle.std.proofs.Common.{◌≡◌, ◌≢◌, ℕ, zero, suc, ◌+◌, ◌-◌, ◌<◌, ◌≤◌, Bool, true, false, cond, ◌&&◌, List, [], ◌∷◌, ◌++◌, length, take, drop, slice_range, refl, ap, sym, ◌∙◌, subst, append_assoc, append-nil, drop-drop, arith}
+use Rattle.std.proofs.Common.{◌≡◌, ◌≢◌, ℕ, ◌+◌, ◌-◌, ◌<◌, ◌≤◌, Bool, true, false, cond, ◌&&◌, List, [], ◌∷◌, ◌++◌, length, take, drop, slice_range, refl, ap, sym, ◌∙◌, subst, append_assoc, append-nil, drop-drop, arith}
 use Rattle.std.specs.Prelude.{◌==◌, not, IsTrue, Option, Some, None}
 use Rattle.std.specs.List.{list_all}
 use Rattle.std.proofs.lemmas.Bool.{and_from, eq-eqb, and_right}
@@ -28,23 +28,26 @@ use Rattle.md_seam.specs.Lines.{is_ending, without_ending}
 use Rattle.md_seam.specs.Nested.{around, enter, enter_link, exit, pair, is_enter}
 use Rattle.md_seam.specs.Places.{past_byte, past_text, same_place}
 use Rattle.md_seam.specs.Spelled.{role}
+use Rattle.md_seam.specs.State.{Container}
 use Rattle.md_seam.specs.Substituted.{Readings, Substituted, belongs, chunks_behind}
 use Rattle.md_seam.specs.Texts.{split_lines}
 use Rattle.md_seam.proofs.InlineLemmas.{past-index}
 use Rattle.md_seam.proofs.SpelledLemmas.{Quiet, Roles}
 use Rattle.md_seam.proofs.TextsLemmas.{Ending, EndsBefore, LineFeed, NoEnding, Return, Both, ending_bytes, split-line, split-next, no_ending-drop}
+use Rattle.markdown_blocks.specs.Change.{container_name, ends_of}
+use Rattle.markdown_blocks.specs.Change as change
 use Rattle.markdown_blocks.specs.FlowReads.{NoHeading, NoText}
-use Rattle.markdown_blocks.specs.Rows.{BlankRow, BreakRow, Group, HeadingRow, Lines, Row, RowKind, Single, TextRow, behind_row, chunks_of, ending_events, goes_on, group_events, groups, groups_events, is_text, last_row, line_kind, onto_groups, paragraph_events, quote_ends, read_lines, read_text, read_title, row_events, row_events_by, row_title, rows_events, single_events_by, tail_events}
-use Rattle.markdown_blocks.specs.Fronted.{quoted, rest_from, rest_line}
+use Rattle.markdown_blocks.specs.Rows.{BlankRow, BreakRow, Group, HeadingRow, Lines, Row, RowKind, Single, TextRow, behind_row, chunks_of, ending_events, goes_on, group_events, groups, groups_events, is_text, last_row, line_kind, onto_groups, paragraph_events, read_lines, read_text, read_title, row_events, row_events_by, row_title, rows_events, single_events_by, tail_events}
+use Rattle.markdown_blocks.specs.Fronted.{contained, rest_from, rest_line}
 use Rattle.markdown_blocks.specs.Unread.{joined_groups, linked, linked_lines, titled_group, titled_groups, titled_row_by, unread_group, unread_groups, unread_paragraph}
 use Rattle.md_seam.proofs.FeedLines.{ending-some, past_text-whole, slice-inside}
 pub use Rattle.markdown_blocks.proofs.FrontNames.{HasFront}
-use Rattle.markdown_blocks.proofs.FrontNames.{AreFront, ArePrefixes, front-heading, fronts-are, fronts-prefixes, prefixes-front}
+use Rattle.markdown_blocks.proofs.FrontNames.{AreFront, ArePrefixes, container-prefix, ends-are, ends-first, front-heading, fronts-are, fronts-prefixes, prefixes-front}
 use Rattle.markdown_blocks.proofs.FrontPlaces.{fronts-grow}
 use Rattle.markdown_blocks.proofs.JoinedLemmas.{EachEnds, EachFront, EachNoContent, HasNoContent, behind-is, ending-is, events-no_content, has_front-no_content, joined-rows, no_content-unwanted, tail-no_content}
 use Rattle.markdown_blocks.proofs.LineKinds.{heading-kind, no_ending-parts}
 use Rattle.markdown_blocks.proofs.FrontFacts.{Fronts}
-use Rattle.markdown_blocks.proofs.RowFacts.{AreRows, IsEnding, IsLine, IsRow, depth_behind, line-text}
+use Rattle.markdown_blocks.proofs.RowFacts.{AreRows, IsEnding, IsLine, IsRow, behind_line, line-text}
 use Rattle.markdown_blocks.proofs.SubstitutedLemmas.{AllBelong, Becomes, CutAt, EachPrefixed, NextBelongs, Rest, Unwanted, becomes-append, becomes-around, becomes-same, behind-exit, line_after, lines-becomes, no_links-unwanted, part-becomes, passes, places}
 use Rattle.markdown_blocks.proofs.TitleFacts.{back-unlinked, front-unlinked, heading-resolved}
 
@@ -55,7 +58,7 @@ abbrev pub IsParagraph : ParseOptions → List ℕ → Row → List Row → Type
 IsParagraph options bytes row [] = (line : List ℕ) × (is : IsRow options bytes line row) × (row.kind ≡ TextRow)
 IsParagraph options bytes row (next ∷ rows) =
     (line : List ℕ) × (is : IsRow options bytes line row) × (text : row.kind ≡ TextRow)
-    × (q : Point) × (after : row.after ≡ Some q) × (ending : IsEnding bytes row.end q) × (front : Fronts bytes 0 q next.first next.front) × IsParagraph options bytes next rows
+    × (q : Point) × (after : row.after ≡ Some q) × (ending : IsEnding bytes row.end q) × (front : Fronts bytes [] q next.first next.front) × IsParagraph options bytes next rows
 
 -- a line has an ending if more follows
 abbrev pub EndsBeforeGroups : Row → List Group → Type 0
@@ -79,10 +82,10 @@ AreGroups options bytes (Lines row rows ∷ gs) = IsParagraph options bytes row 
 -- the first line of groups stands behind this point
 abbrev FrontAt : List ℕ → Point → List Group → Type 0
 FrontAt bytes p [] = Unit {0}
-FrontAt bytes p (Single row ∷ gs) = Fronts bytes row.opens p row.first row.front
-FrontAt bytes p (Lines row rows ∷ gs) = Fronts bytes row.opens p row.first row.front
+FrontAt bytes p (Single row ∷ gs) = Fronts bytes row.change.opens p row.first row.front
+FrontAt bytes p (Lines row rows ∷ gs) = Fronts bytes row.change.opens p row.first row.front
 
-onto-front : (bytes : List ℕ) (p : Point) (row : Row) (kind : RowKind) (gs : List Group) → Fronts bytes row.opens p row.first row.front → FrontAt bytes p (onto_groups row kind gs)
+onto-front : (bytes : List ℕ) (p : Point) (row : Row) (kind : RowKind) (gs : List Group) → Fronts bytes row.change.opens p row.first row.front → FrontAt bytes p (onto_groups row kind gs)
 onto-front bytes p row BlankRow gs h = h
 onto-front bytes p row HeadingRow gs h = h
 onto-front bytes p row BreakRow gs h = h
@@ -97,7 +100,7 @@ onto-front bytes p row TextRow (Lines first rows ∷ gs) h = go (goes_on row fir
 -- a line, with what stands in front of it
 record IsBegun (options : ParseOptions) (bytes line : List ℕ) (p : Point) (row : Row) : Type 0 where
   is : IsRow options bytes line row
-  front : Fronts bytes row.opens p row.first row.front
+  front : Fronts bytes row.change.opens p row.first row.front
   quiet : HasNoContent row
 
 alone-is : (options : ParseOptions) (bytes line : List ℕ) (p : Point) (row : Row) → IsBegun options bytes line p row → row.kind ≢ TextRow → IsSingle options bytes row
@@ -111,14 +114,12 @@ onto-are options bytes line p row q gs is after ending first are HeadingRow e = 
 onto-are options bytes line p row q gs is after ending first are BreakRow e = (alone-is options bytes line p row is (λ k. cc), are)
 onto-are options bytes line p row q [] is after ending first are TextRow e = ((line, is.is, e), tt, (p, is.front), tt)
 onto-are options bytes line p row q (Single below ∷ gs) is after ending first are TextRow e = ((line, is.is, e), (q, after), (p, is.front), are)
-onto-are options bytes line p row q (Lines below rows ∷ gs) is after ending first are TextRow e = go (row.leaves == 0) (below.opens == 0) refl
+onto-are options bytes line p row q (Lines below rows ∷ gs) is after ending first are TextRow e = go (change.is_none row.leaves) below.change.opens refl
   where
-    go : (x y : Bool) → (below.opens == 0) ≡ y → AreGroups options bytes (cond (x && y) (Lines row (below ∷ rows) ∷ gs) (Lines row [] ∷ Lines below rows ∷ gs))
-    go true true k =
-        let none : below.opens ≡ 0 = grind (arith, nat_tests) in
-        ((line, is.is, e, q, after, ending, subst (λ (n : ℕ). Fronts bytes n q below.first below.front) none first, are.0), are.1, (p, is.front), are.3)
-    go true false k = ((line, is.is, e), (q, after), (p, is.front), are)
-    go false y k = ((line, is.is, e), (q, after), (p, is.front), are)
+    go : (x : Bool) (opens : List Container) → below.change.opens ≡ opens → AreGroups options bytes (cond (x && change.is_none opens) (Lines row (below ∷ rows) ∷ gs) (Lines row [] ∷ Lines below rows ∷ gs))
+    go true [] none = ((line, is.is, e, q, after, ending, subst (λ (l : List Container). Fronts bytes l q below.first below.front) none first, are.0), are.1, (p, is.front), are.3)
+    go true (c ∷ opens) k = ((line, is.is, e), (q, after), (p, is.front), are)
+    go false opens k = ((line, is.is, e), (q, after), (p, is.front), are)
 
 last-are : (options : ParseOptions) (bytes line : List ℕ) (p : Point) (row : Row) → IsBegun options bytes line p row → (kind : RowKind) → row.kind ≡ kind → AreGroups options bytes (onto_groups row kind [])
 last-are options bytes line p row is BlankRow e = (alone-is options bytes line p row is (λ k. cc), tt)
@@ -126,50 +127,50 @@ last-are options bytes line p row is HeadingRow e = (alone-is options bytes line
 last-are options bytes line p row is BreakRow e = (alone-is options bytes line p row is (λ k. cc), tt)
 last-are options bytes line p row is TextRow e = ((line, is.is, e), tt, (p, is.front), tt)
 
-line-begun : (options : ParseOptions) (bytes : List ℕ) (depth : ℕ) (going : Bool) (p : Point) (line : List ℕ) (row : Row) → IsLine options bytes depth going p line row → HasNoContent row → IsBegun options bytes (rest_line (quoted options depth going (rest_from p line)).rest) p row
-line-begun options bytes depth going p line row is quiet = record { is = is.is; front = is.front; quiet = quiet }
+line-begun : (options : ParseOptions) (bytes : List ℕ) (open_before : List Container) (going : Bool) (p : Point) (line : List ℕ) (row : Row) → IsLine options bytes open_before going p line row → HasNoContent row → IsBegun options bytes (rest_line (contained options open_before going (rest_from p line)).rest) p row
+line-begun options bytes open_before going p line row is quiet = record { is = is.is; front = is.front; quiet = quiet }
 
 -- what stands in front of the first line
-pub first-front : (options : ParseOptions) (bytes : List ℕ) (depth : ℕ) (going : Bool) (p : Point) (lines : List (List ℕ)) (row : Row) (rows : List Row) → AreRows options bytes depth going p lines (row ∷ rows) → Fronts bytes row.opens p row.first row.front
-first-front options bytes depth going p [] row rows h = absurd h
-first-front options bytes depth going p (line ∷ []) row [] h = h.0.front
-first-front options bytes depth going p (line ∷ []) row (below ∷ rows) h = absurd h
-first-front options bytes depth going p (line ∷ next ∷ lines) row [] h = absurd h
-first-front options bytes depth going p (line ∷ next ∷ lines) row (below ∷ rows) h = h.0.front
+pub first-front : (options : ParseOptions) (bytes : List ℕ) (open_before : List Container) (going : Bool) (p : Point) (lines : List (List ℕ)) (row : Row) (rows : List Row) → AreRows options bytes open_before going p lines (row ∷ rows) → Fronts bytes row.change.opens p row.first row.front
+first-front options bytes open_before going p [] row rows h = absurd h
+first-front options bytes open_before going p (line ∷ []) row [] h = h.0.front
+first-front options bytes open_before going p (line ∷ []) row (below ∷ rows) h = absurd h
+first-front options bytes open_before going p (line ∷ next ∷ lines) row [] h = absurd h
+first-front options bytes open_before going p (line ∷ next ∷ lines) row (below ∷ rows) h = h.0.front
 
 -- The groups of the lines of a text are paragraphs, and lines that are no text.
-pub groups-are : (options : ParseOptions) (bytes : List ℕ) (depth : ℕ) (going : Bool) (p : Point) (lines : List (List ℕ)) (rows : List Row) → AreRows options bytes depth going p lines rows → EachNoContent rows → AreGroups options bytes (groups rows)
-groups-are options bytes depth going p [] rows h k = absurd h
-groups-are options bytes depth going p (line ∷ []) [] h k = absurd h
-groups-are options bytes depth going p (line ∷ next ∷ lines) [] h k = absurd h
-groups-are options bytes depth going p (line ∷ []) (row ∷ []) h k = last-are options bytes (rest_line (quoted options depth going (rest_from p line)).rest) p row (line-begun options bytes depth going p line row h.0 k.0) row.kind refl
-groups-are options bytes depth going p (line ∷ []) (row ∷ below ∷ rows) h k = absurd h
-groups-are options bytes depth going p (line ∷ next ∷ lines) (row ∷ []) h k = absurd h
-groups-are options bytes depth going p (line ∷ next ∷ lines) (row ∷ below ∷ rows) h k =
-    let depth_next = depth_behind options depth going p line in
+pub groups-are : (options : ParseOptions) (bytes : List ℕ) (open_before : List Container) (going : Bool) (p : Point) (lines : List (List ℕ)) (rows : List Row) → AreRows options bytes open_before going p lines rows → EachNoContent rows → AreGroups options bytes (groups rows)
+groups-are options bytes open_before going p [] rows h k = absurd h
+groups-are options bytes open_before going p (line ∷ []) [] h k = absurd h
+groups-are options bytes open_before going p (line ∷ next ∷ lines) [] h k = absurd h
+groups-are options bytes open_before going p (line ∷ []) (row ∷ []) h k = last-are options bytes (rest_line (contained options open_before going (rest_from p line)).rest) p row (line-begun options bytes open_before going p line row h.0 k.0) row.kind refl
+groups-are options bytes open_before going p (line ∷ []) (row ∷ below ∷ rows) h k = absurd h
+groups-are options bytes open_before going p (line ∷ next ∷ lines) (row ∷ []) h k = absurd h
+groups-are options bytes open_before going p (line ∷ next ∷ lines) (row ∷ below ∷ rows) h k =
+    let open_next = behind_line options open_before going p line in
     let going_next = is_text row.kind in
-    onto-are options bytes (rest_line (quoted options depth going (rest_from p line)).rest) p row h.2 (groups (below ∷ rows)) (line-begun options bytes depth going p line row h.0 k.0) h.3 h.4
-    (onto-front bytes h.2 below below.kind (groups rows) (first-front options bytes depth_next going_next h.2 (next ∷ lines) below rows h.5))
-    (groups-are options bytes depth_next going_next h.2 (next ∷ lines) (below ∷ rows) h.5 k.1) row.kind refl
+    onto-are options bytes (rest_line (contained options open_before going (rest_from p line)).rest) p row h.2 (groups (below ∷ rows)) (line-begun options bytes open_before going p line row h.0 k.0) h.3 h.4
+    (onto-front bytes h.2 below below.kind (groups rows) (first-front options bytes open_next going_next h.2 (next ∷ lines) below rows h.5))
+    (groups-are options bytes open_next going_next h.2 (next ∷ lines) (below ∷ rows) h.5 k.1) row.kind refl
 
 -- each line of a text but the last has an ending
-pub rows-end : (options : ParseOptions) (bytes : List ℕ) (depth : ℕ) (going : Bool) (p : Point) (lines : List (List ℕ)) (rows : List Row) → AreRows options bytes depth going p lines rows → EachEnds rows
-rows-end options bytes depth going p lines [] h = tt
-rows-end options bytes depth going p lines (row ∷ []) h = tt
-rows-end options bytes depth going p [] (row ∷ below ∷ rows) h = absurd h
-rows-end options bytes depth going p (line ∷ []) (row ∷ below ∷ rows) h = absurd h
-rows-end options bytes depth going p (line ∷ next ∷ lines) (row ∷ below ∷ rows) h =
-    (h.2, h.3, rows-end options bytes (depth_behind options depth going p line) (is_text row.kind) h.2 (next ∷ lines) (below ∷ rows) h.5)
+pub rows-end : (options : ParseOptions) (bytes : List ℕ) (open_before : List Container) (going : Bool) (p : Point) (lines : List (List ℕ)) (rows : List Row) → AreRows options bytes open_before going p lines rows → EachEnds rows
+rows-end options bytes open_before going p lines [] h = tt
+rows-end options bytes open_before going p lines (row ∷ []) h = tt
+rows-end options bytes open_before going p [] (row ∷ below ∷ rows) h = absurd h
+rows-end options bytes open_before going p (line ∷ []) (row ∷ below ∷ rows) h = absurd h
+rows-end options bytes open_before going p (line ∷ next ∷ lines) (row ∷ below ∷ rows) h =
+    (h.2, h.3, rows-end options bytes (behind_line options open_before going p line) (is_text row.kind) h.2 (next ∷ lines) (below ∷ rows) h.5)
 
--- in front of each line of a text stand prefixes and begins of quotes
-pub rows-front : (options : ParseOptions) (bytes : List ℕ) (depth : ℕ) (going : Bool) (p : Point) (lines : List (List ℕ)) (rows : List Row) → AreRows options bytes depth going p lines rows → EachFront bytes rows
-rows-front options bytes depth going p lines [] h = tt
-rows-front options bytes depth going p [] (row ∷ rows) h = absurd h
-rows-front options bytes depth going p (line ∷ []) (row ∷ []) h = ((p, h.0.front), tt)
-rows-front options bytes depth going p (line ∷ next ∷ lines) (row ∷ []) h = absurd h
-rows-front options bytes depth going p (line ∷ []) (row ∷ below ∷ rows) h = absurd h
-rows-front options bytes depth going p (line ∷ next ∷ lines) (row ∷ below ∷ rows) h =
-    ((p, h.0.front), rows-front options bytes (depth_behind options depth going p line) (is_text row.kind) h.2 (next ∷ lines) (below ∷ rows) h.5)
+-- in front of each line of a text stand prefixes and begins of containers
+pub rows-front : (options : ParseOptions) (bytes : List ℕ) (open_before : List Container) (going : Bool) (p : Point) (lines : List (List ℕ)) (rows : List Row) → AreRows options bytes open_before going p lines rows → EachFront bytes rows
+rows-front options bytes open_before going p lines [] h = tt
+rows-front options bytes open_before going p [] (row ∷ rows) h = absurd h
+rows-front options bytes open_before going p (line ∷ []) (row ∷ []) h = ((p, h.0.front), tt)
+rows-front options bytes open_before going p (line ∷ next ∷ lines) (row ∷ []) h = absurd h
+rows-front options bytes open_before going p (line ∷ []) (row ∷ below ∷ rows) h = absurd h
+rows-front options bytes open_before going p (line ∷ next ∷ lines) (row ∷ below ∷ rows) h =
+    ((p, h.0.front), rows-front options bytes (behind_line options open_before going p line) (is_text row.kind) h.2 (next ∷ lines) (below ∷ rows) h.5)
 
 -- Where the lines stand.
 
@@ -241,9 +242,11 @@ behind-lines wants row gs h = tail row.leaves
         go (Some q) = refl
     ending (group ∷ gs) h = ap (λ (l : List Event). chunks_behind wants (l ++ joined_groups (group ∷ gs))) (ending-is n.LineEnding row h.0 h.1)
 
-    tail : (many : ℕ) → chunks_behind wants ((quote_ends many row.end ++ ending_events n.LineEnding row) ++ joined_groups gs) ≡ []
-    tail zero = ending gs h
-    tail (suc many) = behind-exit wants n.BlockQuote row.end ((quote_ends many row.end ++ ending_events n.LineEnding row) ++ joined_groups gs) refl
+    tail : (leaves : List Container) → chunks_behind wants ((ends_of leaves row.end ++ ending_events n.LineEnding row) ++ joined_groups gs) ≡ []
+    tail [] = ending gs h
+    tail (c ∷ leaves) =
+        ap (chunks_behind wants) (append_assoc (ends_of (c ∷ leaves) row.end) (ending_events n.LineEnding row) (joined_groups gs))
+        ∙ ends-first (λ (l : List Event). chunks_behind wants l ≡ []) c leaves row.end (ending_events n.LineEnding row ++ joined_groups gs) (λ d es. behind-exit wants (container_name d) row.end es (container-prefix d))
 
 -- what stands around the parts of a line is not read later
 tail-unwanted : (wants : Content → Bool) (row : Row) → Unwanted wants (tail_events n.LineEnding row)
@@ -259,7 +262,7 @@ single-unwanted options bytes wants row is w = no_content-unwanted wants (row_ev
 -- in front of the further lines of a paragraph stand prefixes alone
 pub paragraph-fronts : (options : ParseOptions) (bytes : List ℕ) (row : Row) (rows : List Row) → IsParagraph options bytes row rows → EachPrefixed rows
 paragraph-fronts options bytes row [] h = tt
-paragraph-fronts options bytes row (next ∷ rows) h = (fronts-prefixes bytes 0 h.3 next.first next.front refl h.6, paragraph-fronts options bytes next rows h.7)
+paragraph-fronts options bytes row (next ∷ rows) h = (fronts-prefixes bytes [] h.3 next.first next.front refl h.6, paragraph-fronts options bytes next rows h.7)
 
 -- Where the lines of a paragraph stand.
 
@@ -277,7 +280,7 @@ pub are-apart : (options : ParseOptions) (bytes : List ℕ) (row next : Row) (ro
 are-apart options bytes row next rows h =
     let behind : (behind_row row).index ≡ h.3.index = ap (λ (p : Point). p.index) (behind-is row h.3 h.4) in
     let some = ending-some h.5.ending in
-    let grows = fronts-grow bytes 0 h.3 next.first next.front h.6 in
+    let grows = fronts-grow bytes [] h.3 next.first next.front h.6 in
     record { line = line-grows options bytes h.0 row h.1 h.2; ending = omega (arith, h.5.size); front = omega arith }
 
 first-grows : (options : ParseOptions) (bytes : List ℕ) (row : Row) (rows : List Row) → IsParagraph options bytes row rows → row.first.index < (line_after row rows).index
@@ -381,12 +384,12 @@ groups-content options bytes wants reads w other unique (Lines row rows ∷ gs) 
     group-joins row.front given tail (unread_groups gs) out begun.0 rest.0 two.0 begun.1 rest.2 two.1 (groups-content options bytes wants reads w other unique gs are.3 rest.1 two.0 two.2)
 
 -- The events of the lines of a text, joined, and their content read: paragraphs whose text is not read yet.
-pub content-read : (options : ParseOptions) (bytes : List ℕ) (depth : ℕ) (going : Bool) (p : Point) (lines : List (List ℕ)) (rows : List Row) → AreRows options bytes depth going p lines rows → EachNoContent rows →
+pub content-read : (options : ParseOptions) (bytes : List ℕ) (open_before : List Container) (going : Bool) (p : Point) (lines : List (List ℕ)) (rows : List Row) → AreRows options bytes open_before going p lines rows → EachNoContent rows →
     (wants : Content → Bool) (reads : Readings) → wants content.Content ≡ true → wants content.Text ≡ false → ReadsContent options bytes reads →
     (unread : List Event) → Substituted wants reads [] 0 (joined (rows_events rows)) unread → unread ≡ unread_groups (groups rows)
-content-read options bytes depth going p lines rows are quiet wants reads w other unique unread s =
-    groups-content options bytes wants reads w other unique (groups rows) (groups-are options bytes depth going p lines rows are quiet) [] unread
-    (subst (λ (l : List Event). Substituted wants reads [] 0 l unread) (joined-rows bytes rows (rows-front options bytes depth going p lines rows are) (rows-end options bytes depth going p lines rows are) quiet) s)
+content-read options bytes open_before going p lines rows are quiet wants reads w other unique unread s =
+    groups-content options bytes wants reads w other unique (groups rows) (groups-are options bytes open_before going p lines rows are quiet) [] unread
+    (subst (λ (l : List Event). Substituted wants reads [] 0 l unread) (joined-rows bytes rows (rows-front options bytes open_before going p lines rows are) (rows-end options bytes open_before going p lines rows are) quiet) s)
 
 -- Where no line is text there is no content.
 pub no-content : (rows : List Row) → NoText rows → rows_events rows ≡ unread_groups (groups rows)
@@ -441,15 +444,11 @@ ending-outside name row h = go row.after
     go None = tt
     go (Some q) = (h, (refl, tt))
 
-ends-outside : (many : ℕ) (p : Point) → AreOutside (quote_ends many p)
-ends-outside zero p = tt
-ends-outside (suc many) p = (refl, ends-outside many p)
-
 tail-outside : (name : Name) (row : Row) → is_heading name ≡ false → AreOutside (tail_events name row)
-tail-outside name row h = outside-append (quote_ends row.leaves row.end) (ending_events name row) (ends-outside row.leaves row.end) (ending-outside name row h)
+tail-outside name row h = outside-append (ends_of row.leaves row.end) (ending_events name row) (front-outside (ends_of row.leaves row.end) (ends-are row.leaves row.end)) (ending-outside name row h)
 
 has_front-outside : (bytes : List ℕ) (row : Row) → HasFront bytes row → AreOutside row.front
-has_front-outside bytes row h = front-outside row.front (fronts-are bytes row.opens h.0 row.first row.front h.1)
+has_front-outside bytes row h = front-outside row.front (fronts-are bytes row.change.opens h.0 row.first row.front h.1)
 
 around-outside : (name : Name) (p q : Point) (inside : List Event) → is_heading name ≡ false → AreOutside inside → AreOutside (around name p q inside)
 around-outside name p q inside other h = (other, outside-append inside (exit name q ∷ []) h (refl, tt))
@@ -495,9 +494,9 @@ groups-set options bytes (Lines row rows ∷ gs) are =
     ∙ ap (λ (l : List Event). unread_group (Lines row rows) ++ l) (groups-set options bytes gs are.3)
 
 -- The text of each heading is set.
-pub headings-set : (options : ParseOptions) (bytes : List ℕ) (depth : ℕ) (going : Bool) (p : Point) (lines : List (List ℕ)) (rows : List Row) → AreRows options bytes depth going p lines rows → EachNoContent rows →
+pub headings-set : (options : ParseOptions) (bytes : List ℕ) (open_before : List Container) (going : Bool) (p : Point) (lines : List (List ℕ)) (rows : List Row) → AreRows options bytes open_before going p lines rows → EachNoContent rows →
     headings_resolved (unread_groups (groups rows)) ≡ titled_groups bytes (groups rows)
-headings-set options bytes depth going p lines rows are quiet = groups-set options bytes (groups rows) (groups-are options bytes depth going p lines rows are quiet)
+headings-set options bytes open_before going p lines rows are quiet = groups-set options bytes (groups rows) (groups-are options bytes open_before going p lines rows are quiet)
 
 -- no group is a heading
 abbrev NoTitles : List Group → Type 0
@@ -740,12 +739,12 @@ groups-become options bytes wants reads w rt (Lines row rows ∷ gs) are =
     (lines-become options bytes row rows wants reads w rt are.0 are.2) (groups-become options bytes wants reads w rt gs are.3)
 
 -- The text of headings and paragraphs, read: the events of a text.
-pub text-read : (options : ParseOptions) (bytes : List ℕ) (depth : ℕ) (going : Bool) (p : Point) (lines : List (List ℕ)) (rows : List Row) → AreRows options bytes depth going p lines rows → EachNoContent rows →
+pub text-read : (options : ParseOptions) (bytes : List ℕ) (open_before : List Container) (going : Bool) (p : Point) (lines : List (List ℕ)) (rows : List Row) → AreRows options bytes open_before going p lines rows → EachNoContent rows →
     (wants : Content → Bool) (reads : Readings) → wants content.Text ≡ true → ReadsText bytes reads →
     (events : List Event) → Substituted wants reads [] 0 (titled_groups bytes (groups rows)) events → events ≡ groups_events bytes (groups rows)
-text-read options bytes depth going p lines rows are quiet wants reads w rt events s =
+text-read options bytes open_before going p lines rows are quiet wants reads w rt events s =
     let titled : List Event = titled_groups bytes (groups rows) in
     let rest : Rest wants reads (groups_events bytes (groups rows)) [] events =
-    groups-become options bytes wants reads w rt (groups rows) (groups-are options bytes depth going p lines rows are quiet) [] [] events
+    groups-become options bytes wants reads w rt (groups rows) (groups-are options bytes open_before going p lines rows are quiet) [] [] events
     (subst (λ (l : List Event). Substituted wants reads [] 0 l events) (sym (append-nil titled)) s) in
     rest.2 ∙ ap (λ (l : List Event). groups_events bytes (groups rows) ++ l) rest.3 ∙ append-nil (groups_events bytes (groups rows))

@@ -1,8 +1,7 @@
 -- Lines of text that follow one another, joined.
-use Rattle.std.proofs.Common.{◌≡◌, ℕ, zero, suc, Bool, true, false, cond, ◌&&◌, nat_eq, List, [], ◌∷◌, ◌++◌, refl, ap, sym, ◌∙◌, subst, append_assoc, arith}
-use Rattle.std.specs.Prelude.{◌==◌, Option, Some, None}
+use Rattle.std.proofs.Common.{◌≡◌, ℕ, zero, suc, Bool, true, false, cond, ◌&&◌, nat_eq, List, [], ◌∷◌, ◌++◌, refl, ap, sym, ◌∙◌, subst, append_assoc}
+use Rattle.std.specs.Prelude.{Option, Some, None}
 use Rattle.std.proofs.lemmas.Bool.{and_right}
-use Rattle.std.proofs.lemmas.Bool.Decides.{nat_tests}
 use Rattle.md_engine.specs.declared.configuration.ParseOptions.{ParseOptions}
 use Rattle.md_engine.specs.declared.event.Content.{Content}
 use Rattle.md_engine.specs.declared.event.Content.TheVariants as content
@@ -19,11 +18,13 @@ use Rattle.md_seam.specs.Ahead.{begins_white, from_ending, line_cells, line_end,
 use Rattle.md_seam.specs.Inline.{is_line_ending}
 use Rattle.md_seam.specs.Nested.{around, enter, enter_link, exit, pair, is_enter, is_exit}
 use Rattle.md_seam.specs.Spaces.{small_indent}
+use Rattle.md_seam.specs.State.{Container, InFootnote, InItem, InQuote}
 use Rattle.md_seam.specs.Substituted.{is_prefix, wanted}
-use Rattle.markdown_blocks.specs.Rows.{BlankRow, BreakRow, Group, HeadingRow, Held, Lines, Row, RowKind, Single, TextRow, behind_row, ending_events, ending_of, first_cell, groups, held_at, inside_of, is_text, last_row, leaf_events, onto_groups, onto_lines, quote_ends, row_events, row_events_by, row_kind, rows_at, rows_by, rows_events, tail_events}
+use Rattle.markdown_blocks.specs.Change.{container_name, ends_of, is_none, open_behind}
+use Rattle.markdown_blocks.specs.Rows.{BlankRow, BreakRow, Group, HeadingRow, Held, Lines, Row, RowKind, Single, TextRow, behind_row, ending_events, ending_of, first_cell, groups, held_at, inside_of, is_text, last_row, leaf_events, onto_groups, onto_lines, row_events, row_events_by, row_kind, rows_at, rows_by, rows_events, tail_events}
 use Rattle.markdown_blocks.specs.Rows as lines
 use Rattle.markdown_blocks.specs.Unread.{joined_groups, linked_lines}
-use Rattle.markdown_blocks.proofs.FrontNames.{AreFront, HasFront, front-content, fronts-are, fronts-prefixes, fronts-stop, prefixes-content}
+use Rattle.markdown_blocks.proofs.FrontNames.{AreFront, HasFront, end-stops, ends-are, ends-first, front-content, fronts-are, fronts-prefixes, fronts-stop, prefixes-content}
 use Rattle.markdown_blocks.proofs.SubstitutedLemmas.{Unwanted, no_link-unwanted}
 
 -- events none of which is content, or begins a chunk that the reader wants
@@ -119,16 +120,16 @@ inside-no_content wants options cells p BreakRow w =
 inside-no_content wants options cells p TextRow w = tt
 
 -- no content stands inside the lines that flow reads
-pub rows_at-no_content : (options : ParseOptions) (size depth : ℕ) (going : Bool) (cells : List Cell) (p : Point) → EachNoContent (rows_at options size depth going cells p)
-rows_at-no_content options zero depth going cells p = tt
-rows_at-no_content options (suc size) depth going cells p = by (rows_at-no_content options size) (held_at options depth going cells p)
+pub rows_at-no_content : (options : ParseOptions) (size : ℕ) (open_before : List Container) (going : Bool) (cells : List Cell) (p : Point) → EachNoContent (rows_at options size open_before going cells p)
+rows_at-no_content options zero open_before going cells p = tt
+rows_at-no_content options (suc size) open_before going cells p = by (rows_at-no_content options size) (held_at options open_before going cells p)
   where
-    by : ((depth : ℕ) (going : Bool) (cells : List Cell) (p : Point) → EachNoContent (rows_at options size depth going cells p)) → (h : Held) → EachNoContent (rows_by options h (rows_at options size))
+    by : ((open_before : List Container) (going : Bool) (cells : List Cell) (p : Point) → EachNoContent (rows_at options size open_before going cells p)) → (h : Held) → EachNoContent (rows_by options h (rows_at options size))
     by further h = (λ wants w. inside-no_content wants options h.cells h.point (row_kind options h.cells) w, go (from_ending h.cells))
       where
-        go : (rest : List Cell) → EachNoContent (elim rest [ [] ↦ [] | c ∷ cs ↦ rows_at options size h.depth (is_text (row_kind options h.cells)) cs c.after ])
+        go : (rest : List Cell) → EachNoContent (elim rest [ [] ↦ [] | c ∷ cs ↦ rows_at options size (open_behind h.change) (is_text (row_kind options h.cells)) cs c.after ])
         go [] = tt
-        go (c ∷ cs) = further h.depth (is_text (row_kind options h.cells)) cs c.after
+        go (c ∷ cs) = further (open_behind h.change) (is_text (row_kind options h.cells)) cs c.after
 
 -- Their events.
 
@@ -139,21 +140,20 @@ ending-no_content wants name row h = go row.after
     go None = tt
     go (Some q) = (refl, h, (refl, h, tt))
 
-pub ends-no_content : (wants : Content → Bool) (many : ℕ) (p : Point) → NoContent wants (quote_ends many p)
-ends-no_content wants zero p = tt
-ends-no_content wants (suc many) p = (refl, refl, ends-no_content wants many p)
-
--- what stands behind a line
-pub tail-no_content : (wants : Content → Bool) (name : Name) (row : Row) → is_content name ≡ false → NoContent wants (tail_events name row)
-tail-no_content wants name row h = no_content-append wants (quote_ends row.leaves row.end) (ending_events name row) (ends-no_content wants row.leaves row.end) (ending-no_content wants name row h)
-
--- and in front of it
+-- what stands in front of a line
 pub front-no_content : (wants : Content → Bool) (es : List Event) → AreFront es → NoContent wants es
 front-no_content wants [] h = tt
 front-no_content wants (e ∷ es) h = (no_link-unwanted wants e h.1, front-content e.name h.0, front-no_content wants es h.2)
 
 pub has_front-no_content : (wants : Content → Bool) (bytes : List ℕ) (row : Row) → HasFront bytes row → NoContent wants row.front
-has_front-no_content wants bytes row h = front-no_content wants row.front (fronts-are bytes row.opens h.0 row.first row.front h.1)
+has_front-no_content wants bytes row h = front-no_content wants row.front (fronts-are bytes row.change.opens h.0 row.first row.front h.1)
+
+pub ends-no_content : (wants : Content → Bool) (cs : List Container) (p : Point) → NoContent wants (ends_of cs p)
+ends-no_content wants cs p = front-no_content wants (ends_of cs p) (ends-are cs p)
+
+-- and behind it
+pub tail-no_content : (wants : Content → Bool) (name : Name) (row : Row) → is_content name ≡ false → NoContent wants (tail_events name row)
+tail-no_content wants name row h = no_content-append wants (ends_of row.leaves row.end) (ending_events name row) (ends-no_content wants row.leaves row.end) (ending-no_content wants name row h)
 
 -- what stands in a block on a line
 around-no_content : (wants : Content → Bool) (name : Name) (row : Row) → is_content name ≡ false → NoContent wants row.inside → NoContent wants (around name row.first row.end row.inside)
@@ -216,7 +216,7 @@ behind-is row q after = ap (λ (x : Option Point). elim x [ None ↦ row.end | S
 pub behind-none : (row : Row) → row.after ≡ None → behind_row row ≡ row.end
 behind-none row after = ap (λ (x : Option Point). elim x [ None ↦ row.end | Some q ↦ q ]) after
 
--- in front of each line stand prefixes and begins of quotes
+-- in front of each line stand prefixes and begins of containers
 abbrev pub EachFront : List ℕ → List Row → Type 0
 EachFront bytes [] = Unit {0}
 EachFront bytes (row ∷ rows) = HasFront bytes row × EachFront bytes rows
@@ -242,6 +242,14 @@ no_ending-stops : (e : Event) (es : List Event) → is_line_ending e.name ≡ fa
 no_ending-stops e [] h = refl
 no_ending-stops e (f ∷ es) h = ap (λ (x : Bool). x && content_behind es) h
 
+ends-stop : (c : Container) (cs : List Container) (p : Point) (es : List Event) → goes_on (ends_of (c ∷ cs) p ++ es) ≡ false
+ends-stop c cs p es = ends-first (λ (l : List Event). goes_on l ≡ false) c cs p es (λ d fs. no_ending-stops (exit (container_name d) p) fs (no_ending d))
+  where
+    no_ending : (d : Container) → is_line_ending (container_name d) ≡ false
+    no_ending InQuote = refl
+    no_ending (InItem digits marker width starts_blank) = refl
+    no_ending (InFootnote label) = refl
+
 -- a line of text that does not go on
 text-ends : (row : Row) (es : List Event) → goes_on (tail_events n.LineEnding row ++ es) ≡ false → joined ((text_events row ++ tail_events n.LineEnding row) ++ es) ≡ (text_events row ++ tail_events n.LineEnding row) ++ joined es
 text-ends row es h =
@@ -249,14 +257,17 @@ text-ends row es h =
     joined-one (enter_link n.Content row.first content_link) (exit n.Content row.end ∷ tail ++ es) refl
     ∙ ap (λ (l : List Event). enter_link n.Content row.first content_link ∷ l) (joined-keeps (exit n.Content row.end) (tail ++ es) h ∙ ap (λ (l : List Event). exit n.Content row.end ∷ l) (joined-passes tail es (tail-no_content nothing n.LineEnding row refl)))
 
--- where a quote ends behind a line, or no line of content follows, it does not go on
-tail-stops : (row : Row) (es : List Event) (q : Point) → row.after ≡ Some q → ((row.leaves == 0) && content_behind es) ≡ false → goes_on (tail_events n.LineEnding row ++ es) ≡ false
+-- where a container ends behind a line, or no line of content follows, it does not go on
+tail-stops : (row : Row) (es : List Event) (q : Point) → row.after ≡ Some q → (is_none row.leaves && content_behind es) ≡ false → goes_on (tail_events n.LineEnding row ++ es) ≡ false
 tail-stops row es q after h =
-    ap (λ (l : List Event). goes_on ((quote_ends row.leaves row.end ++ l) ++ es)) (ending-is n.LineEnding row q after) ∙ go row.leaves h
+    ap (λ (l : List Event). goes_on ((ends_of row.leaves row.end ++ l) ++ es)) (ending-is n.LineEnding row q after) ∙ go row.leaves h
   where
-    go : (many : ℕ) → ((many == 0) && content_behind es) ≡ false → goes_on ((quote_ends many row.end ++ pair n.LineEnding row.end q) ++ es) ≡ false
-    go zero h = h
-    go (suc many) h = no_ending-stops (exit n.BlockQuote row.end) ((quote_ends many row.end ++ pair n.LineEnding row.end q) ++ es) refl
+    ending : List Event
+    ending = pair n.LineEnding row.end q
+
+    go : (leaves : List Container) → (is_none leaves && content_behind es) ≡ false → goes_on ((ends_of leaves row.end ++ ending) ++ es) ≡ false
+    go [] h = h
+    go (c ∷ leaves) h = ap goes_on (append_assoc (ends_of (c ∷ leaves) row.end) ending es) ∙ ends-stop c leaves row.end (ending ++ es)
 
 -- what stands behind the front of a line
 abbrev behind_front : Row → List Event → List Event
@@ -292,9 +303,11 @@ other-behind bytes row rows ends front h kind e other =
         last (Some q) = refl
     ending (below ∷ rows) ends = ap (λ (l : List Event). content_behind (l ++ rows_events (below ∷ rows))) (ending-is n.BlankLineEnding row ends.0 ends.1)
 
-    tail : (many : ℕ) → content_behind ((quote_ends many row.end ++ ending_events n.BlankLineEnding row) ++ rows_events rows) ≡ false
-    tail zero = ending rows ends
-    tail (suc many) = refl
+    tail : (leaves : List Container) → content_behind ((ends_of leaves row.end ++ ending_events n.BlankLineEnding row) ++ rows_events rows) ≡ false
+    tail [] = ending rows ends
+    tail (c ∷ leaves) =
+        ap content_behind (append_assoc (ends_of (c ∷ leaves) row.end) (ending_events n.BlankLineEnding row) (rows_events rows))
+        ∙ ends-first (λ (l : List Event). content_behind l ≡ false) c leaves row.end (ending_events n.BlankLineEnding row ++ rows_events rows) (λ d fs. end-stops d row.end fs)
 
     go : (kind : RowKind) → (kind ≡ TextRow → ⊥) → content_behind ((leaf_events kind row ++ tail_events (ending_of kind) row) ++ rows_events rows) ≡ false
     go BlankRow other =
@@ -323,7 +336,7 @@ line-joins front below parts tail rest e f =
 text-lines : (bytes : List ℕ) (row below : Row) (more rows : List Row) (gs : List Group) (q : Point) → row.after ≡ Some q → HasFront bytes row → HasFront bytes below → below.kind ≡ TextRow →
     joined (rows_events (below ∷ rows)) ≡ joined_groups (Lines below more ∷ gs) →
     joined (row_events_by TextRow row ++ rows_events (below ∷ rows)) ≡ joined_groups (onto_lines row below more gs)
-text-lines bytes row below more rows gs q after front under text same = go (row.leaves == 0) refl (below.opens == 0) refl
+text-lines bytes row below more rows gs q after front under text same = go row.leaves refl below.change.opens refl
   where
     es : List Event
     es = rows_events (below ∷ rows)
@@ -331,32 +344,36 @@ text-lines bytes row below more rows gs q after front under text same = go (row.
     goes : Bool → List Group
     goes x = cond x (Lines row (below ∷ more) ∷ gs) (Lines row [] ∷ Lines below more ∷ gs)
 
-    apart : ((row.leaves == 0) && content_behind es) ≡ false → joined (row_events_by TextRow row ++ es) ≡ joined_groups (Lines row [] ∷ Lines below more ∷ gs)
+    apart : (is_none row.leaves && content_behind es) ≡ false → joined (row_events_by TextRow row ++ es) ≡ joined_groups (Lines row [] ∷ Lines below more ∷ gs)
     apart h = text-apart bytes row es front (tail-stops row es q after h) ∙ ap (λ (l : List Event). row_events_by TextRow row ++ l) same
 
-    behind : (below.opens == 0) ≡ false → content_behind es ≡ false
-    behind k = ap content_behind (events-front below (rows_events rows)) ∙ fronts-stop bytes below.opens under.0 below.first below.front (behind_front below (rows_events rows)) (grind (arith, nat_tests)) under.1
+    behind : is_none below.change.opens ≡ false → content_behind es ≡ false
+    behind k = ap content_behind (events-front below (rows_events rows)) ∙ fronts-stop bytes below.change.opens under.0 below.first below.front (behind_front below (rows_events rows)) k under.1
 
-    joins : row.leaves ≡ 0 → below.opens ≡ 0 → joined (row_events_by TextRow row ++ es) ≡ joined_groups (Lines row (below ∷ more) ∷ gs)
-    joins none same_quotes =
+    joins : row.leaves ≡ [] → below.change.opens ≡ [] → joined (row_events_by TextRow row ++ es) ≡ joined_groups (Lines row (below ∷ more) ∷ gs)
+    joins none opens_none =
         let begin = enter_link n.Content row.first content_link in
         let tail = tail_events n.LineEnding row in
         let goes_behind : content_behind es ≡ true =
         ap content_behind (events-front below (rows_events rows))
-        ∙ prefixes-content below.front (behind_front below (rows_events rows)) (fronts-prefixes bytes below.opens under.0 below.first below.front same_quotes under.1)
+        ∙ prefixes-content below.front (behind_front below (rows_events rows)) (fronts-prefixes bytes below.change.opens under.0 below.first below.front opens_none under.1)
         ∙ ap (λ (kind : RowKind). content_behind ((leaf_events kind below ++ tail_events (ending_of kind) below) ++ rows_events rows)) text in
         ap joined (ap (λ (l : List Event). l ++ es) (append_assoc row.front (text_events row) tail) ∙ append_assoc row.front (text_events row ++ tail) es)
         ∙ joined-passes row.front ((text_events row ++ tail) ++ es) (has_front-no_content nothing bytes row front)
-        ∙ ap (λ (l : List Event). row.front ++ joined ((text_events row ++ l) ++ es)) (ap (λ (k : ℕ). quote_ends k row.end ++ ending_events n.LineEnding row) none ∙ ending-is n.LineEnding row q after)
+        ∙ ap (λ (l : List Event). row.front ++ joined ((text_events row ++ l) ++ es)) (ap (λ (leaves : List Container). ends_of leaves row.end ++ ending_events n.LineEnding row) none ∙ ending-is n.LineEnding row q after)
         ∙ ap (λ (l : List Event). row.front ++ l) (text-goes_on row.first row.end q es goes_behind)
         ∙ ap (λ (l : List Event). row.front ++ (begin ∷ exit n.Content q ∷ l)) same
         ∙ ap (λ (p : Point). row.front ++ (begin ∷ exit n.Content p ∷ joined_groups (Lines below more ∷ gs))) (sym (behind-is row q after))
         ∙ line-joins row.front below.front (linked_lines n.Content content_link below more) (tail_events n.LineEnding (last_row below more)) (joined_groups gs) begin (exit n.Content (behind_row row))
 
-    go : (x : Bool) → (row.leaves == 0) ≡ x → (y : Bool) → (below.opens == 0) ≡ y → joined (row_events_by TextRow row ++ es) ≡ joined_groups (onto_lines row below more gs)
-    go true e true k = joins (grind (arith, nat_tests)) (grind (arith, nat_tests)) ∙ sym (ap (λ (x : Bool). joined_groups (goes x)) (ap (λ (x : Bool). x && (below.opens == 0)) e ∙ k))
-    go true e false k = apart (ap (λ (x : Bool). x && content_behind es) e ∙ behind k) ∙ sym (ap (λ (x : Bool). joined_groups (goes x)) (ap (λ (x : Bool). x && (below.opens == 0)) e ∙ k))
-    go false e y k = apart (ap (λ (x : Bool). x && content_behind es) e) ∙ sym (ap (λ (x : Bool). joined_groups (goes x)) (ap (λ (x : Bool). x && (below.opens == 0)) e))
+    chosen : (leaves : List Container) → row.leaves ≡ leaves → (opens : List Container) → below.change.opens ≡ opens → joined_groups (onto_lines row below more gs) ≡ joined_groups (goes (is_none leaves && is_none opens))
+    chosen leaves e opens k =
+        ap (λ (l : List Container). joined_groups (goes (is_none l && is_none below.change.opens))) e ∙ ap (λ (l : List Container). joined_groups (goes (is_none leaves && is_none l))) k
+
+    go : (leaves : List Container) → row.leaves ≡ leaves → (opens : List Container) → below.change.opens ≡ opens → joined (row_events_by TextRow row ++ es) ≡ joined_groups (onto_lines row below more gs)
+    go [] e [] k = joins e k ∙ sym (chosen [] e [] k)
+    go [] e (c ∷ opens) k = apart (ap (λ (l : List Container). is_none l && content_behind es) e ∙ behind (ap is_none k)) ∙ sym (chosen [] e (c ∷ opens) k)
+    go (c ∷ leaves) e opens k = apart (ap (λ (l : List Container). is_none l && content_behind es) e) ∙ sym (chosen (c ∷ leaves) e opens k)
 
 -- a line of text in front of others
 text-rows : (bytes : List ℕ) (row below : Row) (rows : List Row) (q : Point) → row.after ≡ Some q → EachFront bytes (row ∷ below ∷ rows) → EachEnds (below ∷ rows) → NoContent nothing below.inside → (kind : RowKind) → below.kind ≡ kind →
@@ -369,7 +386,7 @@ text-rows bytes row below rows q after fronts ends h kind e same = go kind e sam
 
     other : (kind : RowKind) → below.kind ≡ kind → (kind ≡ TextRow → ⊥) → joined es ≡ joined_groups (Single below ∷ groups rows) → joined (row_events_by TextRow row ++ es) ≡ joined_groups (Lines row [] ∷ Single below ∷ groups rows)
     other kind e apart same =
-        text-apart bytes row es fronts.0 (tail-stops row es q after (and_right (row.leaves == 0) (content_behind es) (other-behind bytes below rows ends fronts.1.0 h kind e apart)))
+        text-apart bytes row es fronts.0 (tail-stops row es q after (and_right (is_none row.leaves) (content_behind es) (other-behind bytes below rows ends fronts.1.0 h kind e apart)))
         ∙ ap (λ (l : List Event). row_events_by TextRow row ++ l) same
 
     go : (kind : RowKind) → below.kind ≡ kind → joined es ≡ joined_groups (onto_groups below kind (groups rows)) → joined (row_events_by TextRow row ++ es) ≡ joined_groups (onto_groups row TextRow (onto_groups below kind (groups rows)))
@@ -388,12 +405,14 @@ single-rows row rows h same = joined-passes (row_events row) (rows_events rows) 
 text-last : (bytes : List ℕ) (row : Row) → HasFront bytes row → joined (row_events_by TextRow row ++ []) ≡ joined_groups (Lines row [] ∷ [])
 text-last bytes row front = text-apart bytes row [] front (go row.leaves row.after)
   where
-    go : (many : ℕ) (after : Option Point) → goes_on ((quote_ends many row.end ++ elim after [ None ↦ [] | Some q ↦ pair n.LineEnding row.end q ]) ++ []) ≡ false
-    go zero None = refl
-    go zero (Some q) = refl
-    go (suc many) after = no_ending-stops (exit n.BlockQuote row.end) ((quote_ends many row.end ++ elim after [ None ↦ [] | Some q ↦ pair n.LineEnding row.end q ]) ++ []) refl
+    go : (leaves : List Container) (after : Option Point) → goes_on ((ends_of leaves row.end ++ elim after [ None ↦ [] | Some q ↦ pair n.LineEnding row.end q ]) ++ []) ≡ false
+    go [] None = refl
+    go [] (Some q) = refl
+    go (c ∷ leaves) after =
+        let ending : List Event = elim after [ None ↦ [] | Some q ↦ pair n.LineEnding row.end q ] in
+        ap goes_on (append_assoc (ends_of (c ∷ leaves) row.end) ending []) ∙ ends-stop c leaves row.end (ending ++ [])
 
--- Joined, the events of lines are those of their groups: lines of text that follow one another in the same quotes are joined.
+-- Joined, the events of lines are those of their groups: lines of text that follow one another in the same containers are joined.
 pub joined-rows : (bytes : List ℕ) (rows : List Row) → EachFront bytes rows → EachEnds rows → EachNoContent rows → joined (rows_events rows) ≡ joined_groups (groups rows)
 joined-rows bytes [] fronts ends h = refl
 joined-rows bytes (row ∷ []) fronts ends h = go row.kind refl

@@ -51,7 +51,7 @@ ends-grow options bytes row [] h = omega arith
 ends-grow options bytes row (next ∷ rows) h =
     let more = ends-grow options bytes next rows h.7 in
     let line = (first-row options bytes next rows h.7).1 in
-    let front = fronts-grow bytes 0 h.3 next.first next.front h.6 in
+    let front = fronts-grow bytes [] h.3 next.first next.front h.6 in
     omega (arith, h.5.size, line.size)
 
 last-within : (options : ParseOptions) (bytes : List ℕ) (row : Row) (rows : List Row) → IsParagraph options bytes row rows → (last_row row rows).end.index ≤ length bytes
@@ -180,7 +180,7 @@ past_text-line (b ∷ bs) p = past_text-line bs (past_byte b p)
 -- the next line is the one behind it
 next-line : (options : ParseOptions) (bytes : List ℕ) (row next : Row) (rows : List Row) → IsParagraph options bytes row (next ∷ rows) → next.first.line ≡ row.first.line + 1
 next-line options bytes row next rows h =
-    let front = fronts-line bytes 0 h.3 next.first next.front h.6 in
+    let front = fronts-line bytes [] h.3 next.first next.front h.6 in
     let end = ap (λ (p : Point). p.line) h.1.end ∙ past_text-line h.0 row.first in
     omega (arith, h.5.line)
 
@@ -205,8 +205,8 @@ lines-read options bytes x k row [] behind h r =
 lines-read options bytes x k row (next ∷ rows) behind h r =
     let grow = ends-grow options bytes next rows h.7 in
     let line = (first-row options bytes next rows h.7).1 in
-    let front = fronts-grow bytes 0 h.3 next.first next.front h.6 in
-    let same = fronts-line bytes 0 h.3 next.first next.front h.6 in
+    let front = fronts-grow bytes [] h.3 next.first next.front h.6 in
+    let same = fronts-line bytes [] h.3 next.first next.front h.6 in
     let some = ending-some h.5.ending in
     let number = next-line options bytes row next rows h in
     let within : row.end.index < x.limit = omega (arith, r.limit, h.5.size, line.size) in

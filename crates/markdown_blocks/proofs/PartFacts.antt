@@ -21,8 +21,10 @@ use Rattle.md_seam.specs.Nested.{exit, is_exit, pair}
 use Rattle.md_seam.specs.Places.{past_byte}
 use Rattle.md_seam.specs.Spaces.{small_indent}
 use Rattle.md_seam.specs.Spelled.{role}
+use Rattle.md_seam.specs.State.{Container}
 use Rattle.md_seam.specs.Tiles.{chunks, inside_part, is_part, part_end, part_kind}
 use Rattle.md_seam.proofs.SpelledLemmas.{Quiet, Roles}
+use Rattle.markdown_blocks.specs.Change.{open_behind}
 use Rattle.markdown_blocks.specs.Rows.{BlankRow, BreakRow, Group, HeadingRow, Held, Lines, Row, RowKind, Single, TextRow, first_cell, goes_on, groups, held_at, inside_of, is_text, onto_groups, row_kind, rows_at, rows_by}
 use Rattle.markdown_blocks.specs.Unread.{linked}
 use Rattle.markdown_blocks.proofs.TitleFacts.{NoLinks}
@@ -164,20 +166,20 @@ inside-unlinked options cells p BreakRow other =
 inside-unlinked options cells p TextRow other = tt
 
 -- so it is in the lines that flow reads
-rows_by-unlinked : (options : ParseOptions) (h : Held) (further : ℕ → Bool → List Cell → Point → List Row) → ((depth : ℕ) (going : Bool) (cells : List Cell) (p : Point) → EachUnlinked (further depth going cells p)) →
+rows_by-unlinked : (options : ParseOptions) (h : Held) (further : List Container → Bool → List Cell → Point → List Row) → ((open_before : List Container) (going : Bool) (cells : List Cell) (p : Point) → EachUnlinked (further open_before going cells p)) →
     EachUnlinked (rows_by options h further)
 rows_by-unlinked options h further each = (λ other. inside-unlinked options h.cells h.point (row_kind options h.cells) other, go (from_ending h.cells))
   where
     going : Bool
     going = is_text (row_kind options h.cells)
 
-    go : (rest : List Cell) → EachUnlinked (elim rest [ [] ↦ [] | c ∷ cs ↦ further h.depth going cs c.after ])
+    go : (rest : List Cell) → EachUnlinked (elim rest [ [] ↦ [] | c ∷ cs ↦ further (open_behind h.change) going cs c.after ])
     go [] = tt
-    go (c ∷ cs) = each h.depth going cs c.after
+    go (c ∷ cs) = each (open_behind h.change) going cs c.after
 
-pub rows_at-unlinked : (options : ParseOptions) (size depth : ℕ) (going : Bool) (cells : List Cell) (p : Point) → EachUnlinked (rows_at options size depth going cells p)
-rows_at-unlinked options zero depth going cells p = tt
-rows_at-unlinked options (suc size) depth going cells p = rows_by-unlinked options (held_at options depth going cells p) (rows_at options size) (rows_at-unlinked options size)
+pub rows_at-unlinked : (options : ParseOptions) (size : ℕ) (open_before : List Container) (going : Bool) (cells : List Cell) (p : Point) → EachUnlinked (rows_at options size open_before going cells p)
+rows_at-unlinked options zero open_before going cells p = tt
+rows_at-unlinked options (suc size) open_before going cells p = rows_by-unlinked options (held_at options open_before going cells p) (rows_at options size) (rows_at-unlinked options size)
 
 -- the same of the lines of groups that are no text
 abbrev pub AreUnlinked : List Group → Type 0
