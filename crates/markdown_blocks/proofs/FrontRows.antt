@@ -1,7 +1,8 @@
--- The prefixes of a line that flow reads are those of its bytes: which quotes go on and open, what stands in front of the line, and
--- what is left of it.
-use Rattle.std.proofs.Common.{◌≡◌, ℕ, zero, suc, ◌+◌, ◌-◌, ◌^◌, ◌<◌, ◌≤◌, Bool, true, false, cond, ◌&&◌, List, [], ◌∷◌, ◌++◌, length, drop, slice_range, Option, Some, None, refl, sym, ap, ap₂, ◌∙◌, subst, arith, append_assoc}
+-- The containers of a line that flow reads are those of its bytes: which go on and open, what stands in front of the line, and what is
+-- left of it.
+use Rattle.std.proofs.Common.{◌≡◌, ℕ, zero, suc, ◌+◌, ◌^◌, ◌<◌, ◌≤◌, Bool, true, false, cond, ◌&&◌, List, [], ◌∷◌, ◌++◌, length, drop, slice_range, Option, Some, None, refl, sym, ap, ap₂, ◌∙◌, subst, arith, append_assoc}
 use Rattle.std.specs.Prelude.{IsTrue, ◌==◌, slice_get}
+use Rattle.std.specs.Option.{option_or}
 use Rattle.std.proofs.lemmas.Bool.{eqb-true}
 use Rattle.std.proofs.lemmas.Bool.Decides.{nat_tests}
 use Rattle.std.proofs.lemmas.List.{length-append}
@@ -13,25 +14,28 @@ use Rattle.md_engine.specs.declared.event.Point.{Point}
 use Rattle.md_engine.specs.declared.tokenizer.Line.{Line}
 use Rattle.md_engine.specs.Meaning.{Cell}
 use Rattle.md_containers.specs.QuoteRule.{behind_end, behind_events, behind_rest, has_marker, marker_end, marker_events, marker_rest, prefix_end, prefix_events, prefix_rest, takes_prefix}
-use Rattle.md_containers.proofs.QuoteLines.{quote-no_ending}
+use Rattle.md_containers.proofs.QuoteLines.{quote-container, quote-no_ending}
 use Rattle.md_seam.specs.Ahead.{begins_white, white_end, white_rest}
-use Rattle.md_seam.specs.Containers.{Taken, opens_quote, quote_taken}
+use Rattle.md_seam.specs.Containers.{Taken, continues, opens, opens_footnote, opens_item, opens_quote, quote_taken}
 use Rattle.md_seam.specs.Inline.{pair_unless_empty}
 use Rattle.md_seam.specs.Lines.{begins_with}
 use Rattle.md_seam.specs.Nested.{enter, exit, pair}
 use Rattle.md_seam.specs.Places.{at_or_before, past_byte, past_text, same_place}
-use Rattle.md_seam.specs.Rest.{Rest, behind, behind_indent, indent, is_blank, is_white, lose, tab_columns, white_columns, without_column}
+use Rattle.md_seam.specs.Rest.{Rest, behind, behind_indent, indent, is_blank, is_white, lose, white_columns}
 use Rattle.md_seam.specs.Spaces.{small_indent}
-use Rattle.md_seam.specs.State.{InQuote}
+use Rattle.md_seam.specs.State.{Container, InQuote}
+use Rattle.md_seam.proofs.ContainerLemmas.{opens-leaves}
 use Rattle.md_seam.proofs.FeedLines.{Stops, behind_last, byte-one, cell, columns_more, next_column, past-next, slice-front, spread, tab_cells}
 use Rattle.md_seam.proofs.InlineLemmas.{same-refl}
 use Rattle.md_seam.proofs.NestedLemmas.{at_or_before-refl, at_or_before-trans}
 use Rattle.md_seam.proofs.PlainSteps.{range-none}
 use Rattle.md_seam.proofs.RestCells.{Bare, HasColumn, RestAt, bare, bare-cells, bare-same, cells_by, column-end, column-first, indent-length, indent-taken, past_cut, past_rest, rest_cells, white-end, white-length, without_first}
 use Rattle.md_seam.proofs.TextsLemmas.{NoEnding}
-use Rattle.markdown_blocks.specs.Fronted.{Prefixed, Quoted, no_prefix, one_more, quoted, quoted_behind, quoted_by, quotes_new, quotes_on, rest_line}
-use Rattle.markdown_blocks.specs.Rows.{Front, Held, RowKind, held_at, held_behind, held_by, in_front, is_lazy, line_kind, new_front, no_front, row_kind, went_front}
-use Rattle.markdown_blocks.proofs.FrontFacts.{Behind, Begins, Fronts, Goes, IsPrefix}
+use Rattle.markdown_blocks.specs.Change.{change_by, container_name, interrupts, open_behind, others_of}
+use Rattle.markdown_blocks.specs.Fronted.{Contained, Prefixed, contained, contained_behind, contained_by, contained_of, no_prefix, one_more, prefixes_new, prefixes_on, rest_line}
+use Rattle.markdown_blocks.specs.Parsed.{IsBuilt}
+use Rattle.markdown_blocks.specs.Rows.{Front, Held, Passed, goes_at, held_at, held_behind, held_by, in_front, is_lazy, line_kind, new_front, no_front, opens_at, quote_new, quote_on, row_kind, went_front}
+use Rattle.markdown_blocks.proofs.FrontFacts.{Behind, Begins, Fronts, Goes, IsFurther, IsOpening, IsPrefix}
 use Rattle.markdown_blocks.proofs.LineKinds.{no_limit}
 use Rattle.markdown_blocks.proofs.RestRows.{kind-rest}
 use Rattle.markdown_blocks.proofs.RowFacts.{slice-split}
@@ -283,7 +287,7 @@ marker-is line text past r stop p is e k = go r.spaces r.bytes is (bare r e)
         by true f = subst Marks (sym (eqb-true b 62 f)) marks at
         by false f = rw f (ap (λ (l : List Cell). has_marker (l ++ spread line bs (past_byte b p) ++ stop)) (byte-one line b p w) ∙ f)
 
--- The whole prefix, where indented code is off.
+-- The whole prefix of a quote, where indented code is off.
 
 record HasPrefix (options : ParseOptions) (line : Line) (text past : List ℕ) (end : Point) (stop cells : List Cell) (p : Point) (left : Rest) : Type 0 where
   takes : takes_prefix options cells ≡ true
@@ -353,11 +357,157 @@ prefix-agrees options line text past r stop p off is k short =
       shorter = let le = white-length room cells in let lt = m.shorter in omega arith;
     }
 
--- All prefixes of a line.
+-- The containers that flow reads; there are only quotes yet.
 
--- prefixes by the cells of a line and by its bytes
+abbrev pub IsRead : Container → Type 0
+IsRead InQuote = Unit {0}
+IsRead container = ⊥
+
+abbrev pub AreRead : List Container → Type 0
+AreRead [] = Unit {0}
+AreRead (c ∷ cs) = IsRead c × AreRead cs
+
+read-append : (cs ds : List Container) → AreRead cs → AreRead ds → AreRead (cs ++ ds)
+read-append [] ds h k = k
+read-append (c ∷ cs) ds h k = (h.0, read-append cs ds h.1 k)
+
+read-drop : (n : ℕ) (cs : List Container) → AreRead cs → AreRead (drop n cs)
+read-drop zero cs h = h
+read-drop (suc n) [] h = tt
+read-drop (suc n) (c ∷ cs) h = read-drop n cs h.1
+
+-- One container.
+
+-- what a container leaves of a line, by the cells of the line and by its bytes
+record HasPassed (line : Line) (text past : List ℕ) (end : Point) (stop cells : List Cell) (passed : Passed) (taken : Taken) : Type 0 where
+  container : passed.container ≡ taken.container
+  read : IsRead passed.container
+  fed : passed.cells ≡ rest_cells line taken.rest passed.point ++ stop
+  stands : RestAt text past taken.rest passed.point
+  ends : past_rest taken.rest passed.point ≡ end
+  no_ending : NoEnding taken.rest.bytes
+  shorter : length passed.cells ≤ length cells
+
+-- of one that goes on: this stands in front of its content
+record HasFurther (line : Line) (text past : List ℕ) (p end : Point) (stop cells : List Cell) (passed : Passed) (taken : Taken) : Type 0 where
+  passes : HasPassed line text past end stop cells passed taken
+  further : IsFurther text passed.container p passed.point passed.events
+
+-- of one that opens: this stands behind its begin; it takes a cell
+record HasOpening (line : Line) (text past : List ℕ) (p end : Point) (stop cells : List Cell) (passed : Passed) (taken : Taken) : Type 0 where
+  passes : HasPassed line text past end stop cells passed taken
+  inside : List Event
+  events : passed.events ≡ enter (container_name passed.container) p ∷ inside
+  opening : IsOpening text passed.container p passed.point inside
+  fewer : length passed.cells < length cells
+
+-- a container goes on, or opens, by the cells of a line where it does by its bytes
+abbrev Agree : (Passed → Taken → Type 0) → Option Passed → Option Taken → Type 0
+Agree Has None None = Unit {0}
+Agree Has (Some passed) (Some taken) = Has passed taken
+Agree Has passed taken = ⊥
+
+-- Quotes.
+
+-- what a quote leaves, whether its begin stands in front of its prefix or not
+quote-passes : (options : ParseOptions) (line : Line) (text past : List ℕ) (r : Rest) (end : Point) (stop cells : List Cell) (p : Point) (es : List Event) (t : Taken) → NoEnding r.bytes → quote_taken options r ≡ Some t → HasPrefix options line text past end stop cells p t.rest →
+    HasPassed line text past end stop cells (record { container = InQuote; events = es; cells = prefix_rest options cells; point = prefix_end options cells p }) t
+quote-passes options line text past r end stop cells p es t h e has = record {
+  container = sym (quote-container options r t e);
+  read = tt;
+  fed = has.fed;
+  stands = has.stands;
+  ends = has.ends;
+  no_ending = quote-no_ending options r t h e;
+  shorter = let lt = has.shorter in omega arith;
+}
+
+-- a quote goes on
+quote-goes : (options : ParseOptions) (line : Line) (text past : List ℕ) (r : Rest) (stop : List Cell) (p : Point) → options.constructs.code_indented ≡ false → RestAt text past r p → NoEnding r.bytes → Stops stop → length (rest_cells line r p ++ stop) < 2 ^ 63 →
+    Agree (HasFurther line text past p (past_rest r p) stop (rest_cells line r p ++ stop)) (goes_at options InQuote (rest_cells line r p ++ stop) p) (quote_taken options r)
+quote-goes options line text past r stop p off is h k short = go (quote_taken options r) refl (prefix-agrees options line text past r stop p off is k short)
+  where
+    cells : List Cell
+    cells = rest_cells line r p ++ stop
+
+    By : Bool → Option Taken → Type 0
+    By x taken = Agree (HasFurther line text past p (past_rest r p) stop cells) (cond x (Some (quote_on options cells p)) None) taken
+
+    go : (taken : Option Taken) → quote_taken options r ≡ taken → PrefixIs options line text past (past_rest r p) stop cells p taken → By (takes_prefix options cells) taken
+    go None e none = subst (λ (x : Bool). By x None) (sym none) tt
+    go (Some t) e has =
+        subst (λ (x : Bool). By x (Some t)) (sym has.takes)
+        (record { passes = quote-passes options line text past r (past_rest r p) stop cells p (prefix_events options cells p) t h e has; further = has.prefix })
+
+-- a quote opens, if quotes are on
+quote-opens : (options : ParseOptions) (interrupting : Bool) (line : Line) (text past : List ℕ) (r : Rest) (stop : List Cell) (p : Point) → options.constructs.code_indented ≡ false → RestAt text past r p → NoEnding r.bytes → Stops stop → length (rest_cells line r p ++ stop) < 2 ^ 63 →
+    Agree (HasOpening line text past p (past_rest r p) stop (rest_cells line r p ++ stop)) (opens_at options interrupting (rest_cells line r p ++ stop) p) (opens_quote options r)
+unfolding opens_quote
+quote-opens options interrupting line text past r stop p off is h k short = on options.constructs.block_quote
+  where
+    cells : List Cell
+    cells = rest_cells line r p ++ stop
+
+    By : Bool → Option Taken → Type 0
+    By x taken = Agree (HasOpening line text past p (past_rest r p) stop cells) (cond x (Some (quote_new options cells p)) None) taken
+
+    go : (taken : Option Taken) → quote_taken options r ≡ taken → PrefixIs options line text past (past_rest r p) stop cells p taken → By (takes_prefix options cells) taken
+    go None e none = subst (λ (x : Bool). By x None) (sym none) tt
+    go (Some t) e has =
+        subst (λ (x : Bool). By x (Some t)) (sym has.takes)
+        (record {
+          passes = quote-passes options line text past r (past_rest r p) stop cells p (enter n.BlockQuote p ∷ prefix_events options cells p) t h e has;
+          inside = prefix_events options cells p;
+          events = refl;
+          opening = has.prefix;
+          fewer = has.shorter;
+        })
+
+    on : (x : Bool) → By (x && takes_prefix options cells) (cond x (quote_taken options r) None)
+    on true = go (quote_taken options r) refl (prefix-agrees options line text past r stop p off is k short)
+    on false = tt
+
+-- No other container opens.
+
+item-off : (options : ParseOptions) (interrupting : Bool) (r : Rest) → options.constructs.list_item ≡ false → opens_item options interrupting r ≡ None
+unfolding opens_item
+item-off options interrupting r off = rw off refl
+
+footnote-off : (options : ParseOptions) (r : Rest) → options.constructs.gfm_footnote_definition ≡ false → opens_footnote options r ≡ None
+unfolding opens_footnote
+footnote-off options r off = rw off refl
+
+quote-alone : (options : ParseOptions) (interrupting : Bool) (r : Rest) → IsBuilt options → opens options interrupting r ≡ opens_quote options r
+quote-alone options interrupting r built =
+    ap (λ (o : Option Taken). option_or (opens_quote options r) (option_or o (opens_footnote options r))) (item-off options interrupting r built.list_item)
+    ∙ ap (λ (o : Option Taken). option_or (opens_quote options r) o) (footnote-off options r built.gfm_footnote_definition)
+    ∙ go (opens_quote options r)
+  where
+    go : (o : Option Taken) → option_or o None ≡ o
+    go None = refl
+    go (Some t) = refl
+
+-- All containers.
+
+-- an open container goes on by the cells where it does by the bytes
+goes-agrees : (options : ParseOptions) (line : Line) (text past : List ℕ) (c : Container) (r : Rest) (stop : List Cell) (p : Point) → IsBuilt options → IsRead c → RestAt text past r p → NoEnding r.bytes → Stops stop → length (rest_cells line r p ++ stop) < 2 ^ 63 →
+    Agree (HasFurther line text past p (past_rest r p) stop (rest_cells line r p ++ stop)) (goes_at options c (rest_cells line r p ++ stop) p) (continues options c r)
+goes-agrees options line text past InQuote r stop p built read is h k short = quote-goes options line text past r stop p built.code_indented is h k short
+goes-agrees options line text past c r stop p built read is h k short = absurd read
+
+-- a container opens by the cells where it does by the bytes
+opens-agrees : (options : ParseOptions) (interrupting : Bool) (line : Line) (text past : List ℕ) (r : Rest) (stop : List Cell) (p : Point) → IsBuilt options → RestAt text past r p → NoEnding r.bytes → Stops stop → length (rest_cells line r p ++ stop) < 2 ^ 63 →
+    Agree (HasOpening line text past p (past_rest r p) stop (rest_cells line r p ++ stop)) (opens_at options interrupting (rest_cells line r p ++ stop) p) (opens options interrupting r)
+opens-agrees options interrupting line text past r stop p built is h k short =
+    subst (Agree (HasOpening line text past p (past_rest r p) stop (rest_cells line r p ++ stop)) (opens_at options interrupting (rest_cells line r p ++ stop) p)) (sym (quote-alone options interrupting r built))
+    (quote-opens options interrupting line text past r stop p built.code_indented is h k short)
+
+-- What stands in front of a line.
+
+-- containers by the cells of a line and by its bytes
 record HasFront (line : Line) (text past : List ℕ) (end : Point) (stop cells : List Cell) (f : Front) (q : Prefixed) : Type 0 where
-  many : f.many ≡ q.many
+  containers : f.containers ≡ q.containers
+  read : AreRead f.containers
   fed : f.cells ≡ rest_cells line q.rest f.point ++ stop
   stands : RestAt text past q.rest f.point
   ends : past_rest q.rest f.point ≡ end
@@ -366,259 +516,200 @@ record HasFront (line : Line) (text past : List ℕ) (end : Point) (stop cells :
 
 front-none : (line : Line) (text past : List ℕ) (r : Rest) (stop : List Cell) (p : Point) → RestAt text past r p → NoEnding r.bytes →
     HasFront line text past (past_rest r p) stop (rest_cells line r p ++ stop) (no_front (rest_cells line r p ++ stop) p) (no_prefix r)
-front-none line text past r stop p is h = record { many = refl; fed = refl; stands = is; ends = refl; no_ending = h; shorter = omega arith }
+front-none line text past r stop p is h = record { containers = refl; read = tt; fed = refl; stands = is; ends = refl; no_ending = h; shorter = omega arith }
 
-front-more : (line : Line) (text past : List ℕ) (at end : Point) (stop inner cells : List Cell) (es : List Event) (f : Front) (q : Prefixed) → at ≡ end → length inner < length cells → HasFront line text past at stop inner f q → HasFront line text past end stop cells (in_front es f) (one_more q)
-front-more line text past at end stop inner cells es f q e lt is = record { many = ap suc is.many; fed = is.fed; stands = is.stands; ends = is.ends ∙ e; no_ending = is.no_ending; shorter = let le = is.shorter in omega arith }
+front-more : (line : Line) (text past : List ℕ) (end : Point) (stop cells : List Cell) (a : Passed) (t : Taken) (f : Front) (q : Prefixed) → HasPassed line text past end stop cells a t → HasFront line text past (past_rest t.rest a.point) stop a.cells f q →
+    HasFront line text past end stop cells (in_front a f) (one_more t.container q)
+front-more line text past end stop cells a t f q one is = record {
+  containers = ap₂ (λ (c : Container) (cs : List Container). c ∷ cs) one.container is.containers;
+  read = (one.read, is.read);
+  fed = is.fed;
+  stands = is.stands;
+  ends = is.ends ∙ one.ends;
+  no_ending = is.no_ending;
+  shorter = let le = is.shorter in let ge = one.shorter in omega arith;
+}
 
--- those of quotes that go on: more may stand behind them
+-- those that go on: more may stand behind them
 record HasWent (line : Line) (text past : List ℕ) (p end : Point) (stop cells : List Cell) (f : Front) (q : Prefixed) : Type 0 where
   front : HasFront line text past end stop cells f q
-  fronts : (opens : ℕ) (r : Point) (es : List Event) → Fronts text opens f.point r es → Fronts text opens p r (f.events ++ es)
+  fronts : (opens : List Container) (r : Point) (es : List Event) → Fronts text opens f.point r es → Fronts text opens p r (f.events ++ es)
 
-went-is : (options : ParseOptions) (line : Line) (text past : List ℕ) (depth : ℕ) (r : Rest) (stop : List Cell) (p : Point) → options.constructs.code_indented ≡ false → RestAt text past r p → NoEnding r.bytes → Stops stop → length (rest_cells line r p ++ stop) < 2 ^ 63 →
-    HasWent line text past p (past_rest r p) stop (rest_cells line r p ++ stop) (went_front options depth (rest_cells line r p ++ stop) p) (quotes_on options depth r)
-went-is options line text past zero r stop p off is h k short = record { front = front-none line text past r stop p is h; fronts = λ opens q es fs. fs }
-went-is options line text past (suc depth) r stop p off is h k short = go (quote_taken options r) refl (prefix-agrees options line text past r stop p off is k short) (λ (s : Rest) (u : Point) (at : RestAt text past s u) (none : NoEnding s.bytes) (few : length (rest_cells line s u ++ stop) < 2 ^ 63). went-is options line text past depth s stop u off at none k few)
+went-none : (line : Line) (text past : List ℕ) (r : Rest) (stop : List Cell) (p : Point) → RestAt text past r p → NoEnding r.bytes → HasWent line text past p (past_rest r p) stop (rest_cells line r p ++ stop) (no_front (rest_cells line r p ++ stop) p) (no_prefix r)
+went-none line text past r stop p is h = record { front = front-none line text past r stop p is h; fronts = λ opens q es fs. fs }
+
+went-more : (line : Line) (text past : List ℕ) (p end : Point) (stop cells : List Cell) (a : Passed) (t : Taken) (f : Front) (q : Prefixed) → HasFurther line text past p end stop cells a t →
+    HasWent line text past a.point (past_rest t.rest a.point) stop a.cells f q → HasWent line text past p end stop cells (in_front a f) (one_more t.container q)
+went-more line text past p end stop cells a t f q one is = record {
+  front = front-more line text past end stop cells a t f q one.passes is.front;
+  fronts = λ opens r es fs. subst (Fronts text opens p r) (sym (append_assoc a.events f.events es)) (Goes a.container opens p a.point r a.events (f.events ++ es) one.further (is.fronts opens r es fs));
+}
+
+went-is : (options : ParseOptions) (line : Line) (text past : List ℕ) (cs : List Container) (r : Rest) (stop : List Cell) (p : Point) → IsBuilt options → AreRead cs → RestAt text past r p → NoEnding r.bytes → Stops stop → length (rest_cells line r p ++ stop) < 2 ^ 63 →
+    HasWent line text past p (past_rest r p) stop (rest_cells line r p ++ stop) (went_front options cs (rest_cells line r p ++ stop) p) (prefixes_on options cs r)
+went-is options line text past [] r stop p built read is h k short = went-none line text past r stop p is h
+went-is options line text past (c ∷ cs) r stop p built read is h k short = go (goes_at options c cells p) (continues options c r) (goes-agrees options line text past c r stop p built read.0 is h k short)
+    (λ (s : Rest) (u : Point) (at : RestAt text past s u) (none : NoEnding s.bytes) (few : length (rest_cells line s u ++ stop) < 2 ^ 63). went-is options line text past cs s stop u built read.1 at none k few)
   where
     cells : List Cell
     cells = rest_cells line r p ++ stop
 
-    left : List Cell
-    left = prefix_rest options cells
-
-    q : Point
-    q = prefix_end options cells p
-
-    events : List Event
-    events = prefix_events options cells p
-
-    Went : Bool → Prefixed → Type 0
-    Went t = HasWent line text past p (past_rest r p) stop cells (cond t (in_front events (went_front options depth left q)) (no_front cells p))
-
-    -- the same of any rest, with one quote less
+    -- the same of any rest, with one container less
     Further : Type 0
     Further = (s : Rest) (u : Point) → RestAt text past s u → NoEnding s.bytes → length (rest_cells line s u ++ stop) < 2 ^ 63 →
-        HasWent line text past u (past_rest s u) stop (rest_cells line s u ++ stop) (went_front options depth (rest_cells line s u ++ stop) u) (quotes_on options depth s)
+        HasWent line text past u (past_rest s u) stop (rest_cells line s u ++ stop) (went_front options cs (rest_cells line s u ++ stop) u) (prefixes_on options cs s)
 
-    go : (taken : Option Taken) → quote_taken options r ≡ taken → PrefixIs options line text past (past_rest r p) stop cells p taken → Further →
-        Went (takes_prefix options cells) (elim taken [ None ↦ no_prefix r | Some t ↦ one_more (quotes_on options depth t.rest) ])
-    go None e has more = subst (λ (t : Bool). Went t (no_prefix r)) (sym has) (record { front = front-none line text past r stop p is h; fronts = λ opens q es fs. fs })
-    go (Some t) e has more =
-        let size = ap length has.fed in
-        let lt = has.shorter in
-        let further : HasWent line text past q (past_rest t.rest q) stop left (went_front options depth left q) (quotes_on options depth t.rest) =
-        subst (λ (l : List Cell). HasWent line text past q (past_rest t.rest q) stop l (went_front options depth l q) (quotes_on options depth t.rest)) (sym has.fed)
-        (more t.rest q has.stands (quote-no_ending options r t h e) (omega (arith, size, lt, short))) in
-        let f = went_front options depth left q in
-        subst (λ (b : Bool). Went b (one_more (quotes_on options depth t.rest))) (sym has.takes) (record {
-          front = front-more line text past (past_rest t.rest q) (past_rest r p) stop left cells events f (quotes_on options depth t.rest) has.ends lt further.front;
-          fronts = λ opens u es fs. subst (Fronts text opens p u) (sym (append_assoc events f.events es)) (Goes opens p q u events (f.events ++ es) has.prefix (further.fronts opens u es fs));
-        })
+    go : (passed : Option Passed) (taken : Option Taken) → Agree (HasFurther line text past p (past_rest r p) stop cells) passed taken → Further →
+        HasWent line text past p (past_rest r p) stop cells (elim passed [ None ↦ no_front cells p | Some a ↦ in_front a (went_front options cs a.cells a.point) ]) (elim taken [ None ↦ no_prefix r | Some t ↦ one_more t.container (prefixes_on options cs t.rest) ])
+    go None None has more = went-none line text past r stop p is h
+    go None (Some t) has more = absurd has
+    go (Some a) None has more = absurd has
+    go (Some a) (Some t) has more =
+        let one = has.passes in
+        let size = ap length one.fed in
+        let le = one.shorter in
+        went-more line text past p (past_rest r p) stop cells a t (went_front options cs a.cells a.point) (prefixes_on options cs t.rest) has
+        (subst (λ (l : List Cell). HasWent line text past a.point (past_rest t.rest a.point) stop l (went_front options cs l a.point) (prefixes_on options cs t.rest)) (sym one.fed) (more t.rest a.point one.stands one.no_ending (omega (arith, size, le, short))))
 
--- What a quote takes has fewer bytes.
-
-without-fewer : (column spaces : ℕ) (bytes : List ℕ) → length (without_column column spaces bytes).bytes ≤ length bytes
-without-fewer column (suc n) bytes = omega arith
-without-fewer column zero [] = omega arith
-without-fewer column zero (b ∷ bs) = go (b == 9) (b == 32)
-  where
-    go : (t s : Bool) → length (cond t (rest (column + 1) (tab_columns column - 1) bs) (cond s (rest (column + 1) 0 bs) (rest column 0 (b ∷ bs)))).bytes ≤ suc (length bs)
-    go true s = omega arith
-    go false true = omega arith
-    go false false = omega arith
-
-lose-fewer : (n : ℕ) (r : Rest) → length (lose n r).bytes ≤ length r.bytes
-lose-fewer zero r = omega arith
-lose-fewer (suc n) r = let a = lose-fewer n (without_first r) in let b = without-fewer r.column r.spaces r.bytes in omega arith
-
-marker-fewer : (r : Rest) (taken : Taken) → taken_at r ≡ Some taken → length taken.rest.bytes < length r.bytes
-marker-fewer r taken = go r.spaces r.bytes
-  where
-    go : (spaces : ℕ) (bytes : List ℕ) → taken_at (rest r.column spaces bytes) ≡ Some taken → length taken.rest.bytes < length bytes
-    go spaces [] e = cc
-    go spaces (b ∷ bs) e = by (b == 62) e
-      where
-        left : Taken
-        left = record { container = InQuote; rest = lose 1 (behind 1 (rest r.column spaces (b ∷ bs))) }
-
-        by : (t : Bool) → cond t (Some left) None ≡ Some taken → length taken.rest.bytes < suc (length bs)
-        by true e =
-            let same : left ≡ taken = cc in
-            let fewer = lose-fewer 1 (behind 1 (rest r.column spaces (b ∷ bs))) in
-            subst (λ (t : Taken). length t.rest.bytes < suc (length bs)) same (omega (arith, fewer))
-        by false e = cc
-
-taken-fewer : (options : ParseOptions) (r : Rest) (taken : Taken) → options.constructs.code_indented ≡ false → quote_taken options r ≡ Some taken → length taken.rest.bytes < length r.bytes
-taken-fewer options r taken off e =
-    let a = marker-fewer (behind_indent r) taken (sym (small options r off) ∙ e) in
-    let b = lose-fewer (indent r) r in
-    omega (arith, a, b)
-
--- those of quotes that open
+-- those that open
 record HasNew (line : Line) (text past : List ℕ) (p end : Point) (stop cells : List Cell) (f : Front) (q : Prefixed) : Type 0 where
   front : HasFront line text past end stop cells f q
-  fronts : Fronts text f.many p f.point f.events
+  fronts : Fronts text f.containers p f.point f.events
 
--- whether a quote opens, by the cells of a line and by its bytes
-abbrev OpensIs : ParseOptions → Line → (text past : List ℕ) → (r : Rest) → (stop cells : List Cell) → Point → Option Taken → Type 0
-OpensIs options line text past r stop cells p (Some t) = (opens : (options.constructs.block_quote && takes_prefix options cells) ≡ true) × (taken : quote_taken options r ≡ Some t) × HasPrefix options line text past (past_rest r p) stop cells p t.rest
-OpensIs options line text past r stop cells p None = (options.constructs.block_quote && takes_prefix options cells) ≡ false
+new-none : (line : Line) (text past : List ℕ) (r : Rest) (stop : List Cell) (p : Point) → RestAt text past r p → NoEnding r.bytes → HasNew line text past p (past_rest r p) stop (rest_cells line r p ++ stop) (no_front (rest_cells line r p ++ stop) p) (no_prefix r)
+new-none line text past r stop p is h = record { front = front-none line text past r stop p is h; fronts = Behind p }
 
-opens-is : (options : ParseOptions) (line : Line) (text past : List ℕ) (r : Rest) (stop : List Cell) (p : Point) → options.constructs.code_indented ≡ false → RestAt text past r p → Stops stop → length (rest_cells line r p ++ stop) < 2 ^ 63 →
-    OpensIs options line text past r stop (rest_cells line r p ++ stop) p (opens_quote options r)
-unfolding opens_quote
-opens-is options line text past r stop p off is k short = go options.constructs.block_quote refl
-  where
-    cells : List Cell
-    cells = rest_cells line r p ++ stop
+new-more : (line : Line) (text past : List ℕ) (p end : Point) (stop cells : List Cell) (a : Passed) (t : Taken) (f : Front) (q : Prefixed) → HasOpening line text past p end stop cells a t →
+    HasNew line text past a.point (past_rest t.rest a.point) stop a.cells f q → HasNew line text past p end stop cells (in_front a f) (one_more t.container q)
+new-more line text past p end stop cells a t f q one is = record {
+  front = front-more line text past end stop cells a t f q one.passes is.front;
+  fronts = subst (λ (es : List Event). Fronts text (a.container ∷ f.containers) p f.point (es ++ f.events)) (sym one.events) (Begins a.container f.containers p a.point f.point one.inside f.events one.opening is.fronts);
+}
 
-    on : (taken : Option Taken) → options.constructs.block_quote ≡ true → quote_taken options r ≡ taken → PrefixIs options line text past (past_rest r p) stop cells p taken → OpensIs options line text past r stop cells p taken
-    on None b e has = ap₂ (λ (x y : Bool). x && y) b has
-    on (Some t) b e has = (ap₂ (λ (x y : Bool). x && y) b has.takes, e, has)
+-- one more, if one opens
+abbrev new_by : ParseOptions → ℕ → List Cell → Point → Option Passed → Front
+new_by options size cells p passed = elim passed [ None ↦ no_front cells p | Some a ↦ in_front a (new_front options false size a.cells a.point) ]
 
-    go : (t : Bool) → options.constructs.block_quote ≡ t → OpensIs options line text past r stop cells p (cond t (quote_taken options r) None)
-    go true b = on (quote_taken options r) b refl (prefix-agrees options line text past r stop p off is k short)
-    go false b = ap (λ (x : Bool). x && takes_prefix options cells) b
-
--- none opens here
-new-none : (options : ParseOptions) (room size : ℕ) (r : Rest) (cells : List Cell) (p : Point) → (options.constructs.block_quote && takes_prefix options cells) ≡ false → opens_quote options r ≡ None → (new_front options room cells p ≡ no_front cells p) × (quotes_new options size r ≡ no_prefix r)
-new-none options room size r cells p t e = (front room, quotes size)
-  where
-    front : (room : ℕ) → new_front options room cells p ≡ no_front cells p
-    front zero = refl
-    front (suc room) = rw t refl
-
-    quotes : (size : ℕ) → quotes_new options size r ≡ no_prefix r
-    quotes zero = refl
-    quotes (suc size) = ap (λ (o : Option Taken). elim o [ None ↦ no_prefix r | Some t ↦ one_more (quotes_new options size t.rest) ]) e
-
-new-refused : (options : ParseOptions) (line : Line) (text past : List ℕ) (room size : ℕ) (r : Rest) (stop : List Cell) (p : Point) → RestAt text past r p → NoEnding r.bytes →
-    (options.constructs.block_quote && takes_prefix options (rest_cells line r p ++ stop)) ≡ false → opens_quote options r ≡ None →
-    HasNew line text past p (past_rest r p) stop (rest_cells line r p ++ stop) (new_front options room (rest_cells line r p ++ stop) p) (quotes_new options size r)
-new-refused options line text past room size r stop p is h t e =
-    let cells = rest_cells line r p ++ stop in
-    let none = new-none options room size r cells p t e in
-    subst (HasNew line text past p (past_rest r p) stop cells (new_front options room cells p)) (sym none.1)
-    (subst (λ (f : Front). HasNew line text past p (past_rest r p) stop cells f (no_prefix r)) (sym none.0)
-    (record { front = front-none line text past r stop p is h; fronts = Behind p }))
-
--- one opens, and more may behind it
-new-more : (options : ParseOptions) (line : Line) (text past : List ℕ) (room size : ℕ) (r left : Rest) (stop cells : List Cell) (p : Point) → HasPrefix options line text past (past_rest r p) stop cells p left →
-    HasNew line text past (prefix_end options cells p) (past_rest left (prefix_end options cells p)) stop (prefix_rest options cells) (new_front options room (prefix_rest options cells) (prefix_end options cells p)) (quotes_new options size left) →
-    HasNew line text past p (past_rest r p) stop cells (in_front (enter n.BlockQuote p ∷ prefix_events options cells p) (new_front options room (prefix_rest options cells) (prefix_end options cells p))) (one_more (quotes_new options size left))
-new-more options line text past room size r left stop cells p has further =
-    let f = new_front options room (prefix_rest options cells) (prefix_end options cells p) in
-    record {
-      front = front-more line text past (past_rest left (prefix_end options cells p)) (past_rest r p) stop (prefix_rest options cells) cells (enter n.BlockQuote p ∷ prefix_events options cells p) f (quotes_new options size left) has.ends has.shorter further.front;
-      fronts = Begins f.many p (prefix_end options cells p) f.point (prefix_events options cells p) f.events has.prefix further.fronts;
-    }
+abbrev prefixes_by : ParseOptions → ℕ → Rest → Option Taken → Prefixed
+prefixes_by options size r taken = elim taken [ None ↦ no_prefix r | Some t ↦ one_more t.container (prefixes_new options false size t.rest) ]
 
 -- with as much room as there is, and with more
-new-is : (options : ParseOptions) (line : Line) (text past : List ℕ) (room size : ℕ) (r : Rest) (stop : List Cell) (p : Point) → options.constructs.code_indented ≡ false → RestAt text past r p → NoEnding r.bytes → Stops stop → length (rest_cells line r p ++ stop) < 2 ^ 63 →
+new-is : (options : ParseOptions) (interrupting : Bool) (line : Line) (text past : List ℕ) (room size : ℕ) (r : Rest) (stop : List Cell) (p : Point) → IsBuilt options → RestAt text past r p → NoEnding r.bytes → Stops stop → length (rest_cells line r p ++ stop) < 2 ^ 63 →
     length (rest_cells line r p ++ stop) ≤ room → length r.bytes ≤ size →
-    HasNew line text past p (past_rest r p) stop (rest_cells line r p ++ stop) (new_front options room (rest_cells line r p ++ stop) p) (quotes_new options size r)
-new-is options line text past zero size r stop p off is h k short some few = go (opens_quote options r) refl (opens-is options line text past r stop p off is k short)
+    HasNew line text past p (past_rest r p) stop (rest_cells line r p ++ stop) (new_front options interrupting room (rest_cells line r p ++ stop) p) (prefixes_new options interrupting size r)
+new-is options interrupting line text past zero zero r stop p built is h k short some few = new-none line text past r stop p is h
+new-is options interrupting line text past zero (suc size) r stop p built is h k short some few =
+    go (opens_at options interrupting cells p) (opens options interrupting r) (opens-agrees options interrupting line text past r stop p built is h k short)
   where
     cells : List Cell
     cells = rest_cells line r p ++ stop
 
-    go : (taken : Option Taken) → opens_quote options r ≡ taken → OpensIs options line text past r stop cells p taken → HasNew line text past p (past_rest r p) stop cells (new_front options 0 cells p) (quotes_new options size r)
-    go None e t = new-refused options line text past 0 size r stop p is h t e
-    go (Some t) e has = let lt = has.2.shorter in absurd (omega arith)
-new-is options line text past (suc room) zero r stop p off is h k short some few = go (opens_quote options r) refl (opens-is options line text past r stop p off is k short)
+    go : (passed : Option Passed) (taken : Option Taken) → Agree (HasOpening line text past p (past_rest r p) stop cells) passed taken → HasNew line text past p (past_rest r p) stop cells (no_front cells p) (prefixes_by options size r taken)
+    go None None has = new-none line text past r stop p is h
+    go None (Some t) has = absurd has
+    go (Some a) None has = absurd has
+    go (Some a) (Some t) has = let lt = has.fewer in absurd (omega (arith, lt, some))
+new-is options interrupting line text past (suc room) zero r stop p built is h k short some few =
+    go (opens_at options interrupting cells p) (opens options interrupting r) refl (opens-agrees options interrupting line text past r stop p built is h k short)
   where
     cells : List Cell
     cells = rest_cells line r p ++ stop
 
-    go : (taken : Option Taken) → opens_quote options r ≡ taken → OpensIs options line text past r stop cells p taken → HasNew line text past p (past_rest r p) stop cells (new_front options (suc room) cells p) (quotes_new options 0 r)
-    go None e t = new-refused options line text past (suc room) 0 r stop p is h t e
-    go (Some t) e has = let lt = taken-fewer options r t off has.1 in absurd (omega (arith, lt, few))
-new-is options line text past (suc room) (suc size) r stop p off is h k short some few = go (opens_quote options r) refl (opens-is options line text past r stop p off is k short)
-    (λ (s : Rest) (u : Point) (at : RestAt text past s u) (none : NoEnding s.bytes) (fits : length (rest_cells line s u ++ stop) < 2 ^ 63) (le : length (rest_cells line s u ++ stop) ≤ room) (ge : length s.bytes ≤ size). new-is options line text past room size s stop u off at none k fits le ge)
+    go : (passed : Option Passed) (taken : Option Taken) → opens options interrupting r ≡ taken → Agree (HasOpening line text past p (past_rest r p) stop cells) passed taken → HasNew line text past p (past_rest r p) stop cells (new_by options room cells p passed) (no_prefix r)
+    go None None e has = new-none line text past r stop p is h
+    go None (Some t) e has = absurd has
+    go (Some a) None e has = absurd has
+    go (Some a) (Some t) e has = let lt = opens-leaves options interrupting r t e in absurd (omega (arith, lt, few))
+new-is options interrupting line text past (suc room) (suc size) r stop p built is h k short some few =
+    go (opens_at options interrupting cells p) (opens options interrupting r) refl (opens-agrees options interrupting line text past r stop p built is h k short)
+    (λ (s : Rest) (u : Point) (at : RestAt text past s u) (none : NoEnding s.bytes) (fits : length (rest_cells line s u ++ stop) < 2 ^ 63) (le : length (rest_cells line s u ++ stop) ≤ room) (ge : length s.bytes ≤ size).
+    new-is options false line text past room size s stop u built at none k fits le ge)
   where
     cells : List Cell
     cells = rest_cells line r p ++ stop
-
-    left : List Cell
-    left = prefix_rest options cells
-
-    q : Point
-    q = prefix_end options cells p
 
     -- the same of any rest that is shorter
     Further : Type 0
     Further = (s : Rest) (u : Point) → RestAt text past s u → NoEnding s.bytes → length (rest_cells line s u ++ stop) < 2 ^ 63 → length (rest_cells line s u ++ stop) ≤ room → length s.bytes ≤ size →
-        HasNew line text past u (past_rest s u) stop (rest_cells line s u ++ stop) (new_front options room (rest_cells line s u ++ stop) u) (quotes_new options size s)
+        HasNew line text past u (past_rest s u) stop (rest_cells line s u ++ stop) (new_front options false room (rest_cells line s u ++ stop) u) (prefixes_new options false size s)
 
-    go : (taken : Option Taken) → opens_quote options r ≡ taken → OpensIs options line text past r stop cells p taken → Further → HasNew line text past p (past_rest r p) stop cells (new_front options (suc room) cells p) (quotes_new options (suc size) r)
-    go None e t more = new-refused options line text past (suc room) (suc size) r stop p is h t e
-    go (Some t) e has more =
-        let prefix : HasPrefix options line text past (past_rest r p) stop cells p t.rest = has.2 in
-        let long = ap length prefix.fed in
-        let lt = prefix.shorter in
-        let fewer = taken-fewer options r t off has.1 in
-        let further : HasNew line text past q (past_rest t.rest q) stop left (new_front options room left q) (quotes_new options size t.rest) =
-        subst (λ (l : List Cell). HasNew line text past q (past_rest t.rest q) stop l (new_front options room l q) (quotes_new options size t.rest)) (sym prefix.fed)
-        (more t.rest q prefix.stands (quote-no_ending options r t h has.1) (omega (arith, long, lt, short)) (omega (arith, long, lt, some)) (omega (arith, fewer, few))) in
-        subst (λ (o : Option Taken). HasNew line text past p (past_rest r p) stop cells (new_front options (suc room) cells p) (elim o [ None ↦ no_prefix r | Some t ↦ one_more (quotes_new options size t.rest) ])) (sym e)
-        (subst (λ (x : Bool). HasNew line text past p (past_rest r p) stop cells (cond x (in_front (enter n.BlockQuote p ∷ prefix_events options cells p) (new_front options room left q)) (no_front cells p)) (one_more (quotes_new options size t.rest))) (sym has.0)
-        (new-more options line text past room size r t.rest stop cells p prefix further))
+    go : (passed : Option Passed) (taken : Option Taken) → opens options interrupting r ≡ taken → Agree (HasOpening line text past p (past_rest r p) stop cells) passed taken → Further →
+        HasNew line text past p (past_rest r p) stop cells (new_by options room cells p passed) (prefixes_by options size r taken)
+    go None None e has more = new-none line text past r stop p is h
+    go None (Some t) e has more = absurd has
+    go (Some a) None e has more = absurd has
+    go (Some a) (Some t) e has more =
+        let one = has.passes in
+        let long = ap length one.fed in
+        let lt = has.fewer in
+        let fewer = opens-leaves options interrupting r t e in
+        new-more line text past p (past_rest r p) stop cells a t (new_front options false room a.cells a.point) (prefixes_new options false size t.rest) has
+        (subst (λ (l : List Cell). HasNew line text past a.point (past_rest t.rest a.point) stop l (new_front options false room l a.point) (prefixes_new options false size t.rest)) (sym one.fed)
+        (more t.rest a.point one.stands one.no_ending (omega (arith, long, lt, short)) (omega (arith, long, lt, some)) (omega (arith, fewer, few))))
 
 -- The containers of a line.
 
--- by its cells and by its bytes
-pub record HasHeld (line : Line) (text past : List ℕ) (p end : Point) (stop cells : List Cell) (h : Held) (q : Quoted) : Type 0 where
-  pub closes : h.closes ≡ q.closes
-  pub opens : h.opens ≡ q.opens
-  pub depth : h.depth ≡ q.depth
-  pub fed : h.cells ≡ rest_cells line q.rest h.point ++ stop
-  pub stands : RestAt text past q.rest h.point
-  pub ends : past_rest q.rest h.point ≡ end
-  pub no_ending : NoEnding q.rest.bytes
-  pub front : Fronts text h.opens p h.point h.front
+-- by its cells and by its bytes; flow reads all that are open behind it
+pub record HasHeld (line : Line) (text past : List ℕ) (p end : Point) (stop cells : List Cell) (h : Held) (c : Contained) : Type 0 where
+  pub change : h.change ≡ c.change
+  pub read : AreRead (open_behind h.change)
+  pub fed : h.cells ≡ rest_cells line c.rest h.point ++ stop
+  pub stands : RestAt text past c.rest h.point
+  pub ends : past_rest c.rest h.point ≡ end
+  pub no_ending : NoEnding c.rest.bytes
+  pub front : Fronts text h.change.opens p h.point h.front
   pub shorter : length h.cells ≤ length cells
 
-held-by : (line : Line) (text past : List ℕ) (p end : Point) (stop cells : List Cell) (depth keep : ℕ) (went new : Front) (on more : Prefixed) → HasWent line text past p end stop cells went on →
-    HasNew line text past went.point (past_rest on.rest went.point) stop went.cells new more → HasHeld line text past p end stop cells (held_by depth keep went new) (quoted_by depth keep more)
-held-by line text past p end stop cells depth keep went new on more a b = record {
-  closes = refl;
-  opens = b.front.many;
-  depth = ap (λ (k : ℕ). keep + k) b.front.many;
+opens-by : (lazy : Bool) (went others opens : List Container) → (change_by lazy went others opens).opens ≡ opens
+opens-by true went others opens = refl
+opens-by false went others opens = refl
+
+read-behind : (lazy : Bool) (went others opens : List Container) → AreRead went → AreRead others → AreRead opens → AreRead (open_behind (change_by lazy went others opens))
+read-behind true went others opens a b c = read-append (went ++ others) opens (read-append went others a b) c
+read-behind false went others opens a b c = read-append went opens a c
+
+held-by : (line : Line) (text past : List ℕ) (p end : Point) (stop cells : List Cell) (cs : List Container) (lazy : Bool) (went new : Front) (on more : Prefixed) → AreRead cs → HasWent line text past p end stop cells went on →
+    HasNew line text past went.point (past_rest on.rest went.point) stop went.cells new more → HasHeld line text past p end stop cells (held_by cs lazy went new) (contained_by cs lazy on more)
+held-by line text past p end stop cells cs lazy went new on more read a b = record {
+  change = ap₂ (λ (w o : List Container). change_by lazy w (others_of cs w) o) a.front.containers b.front.containers;
+  read = read-behind lazy went.containers (others_of cs went.containers) new.containers a.front.read (read-drop (length went.containers) cs read) b.front.read;
   fed = b.front.fed;
   stands = b.front.stands;
   ends = b.front.ends ∙ a.front.ends;
   no_ending = b.front.no_ending;
-  front = a.fronts new.many new.point new.events b.fronts;
+  front = subst (λ (opens : List Container). Fronts text opens p new.point (went.events ++ new.events)) (sym (opens-by lazy went.containers (others_of cs went.containers) new.containers)) (a.fronts new.containers new.point new.events b.fronts);
   shorter = let le = a.front.shorter in let ge = b.front.shorter in omega arith;
 }
 
-held-behind : (options : ParseOptions) (line : Line) (text past : List ℕ) (p end : Point) (stop cells : List Cell) (depth : ℕ) (going : Bool) (went : Front) (on : Prefixed) → options.constructs.code_indented ≡ false → Stops stop → length cells < 2 ^ 63 →
-    HasWent line text past p end stop cells went on → HasHeld line text past p end stop cells (held_behind options depth going went) (quoted_behind options depth going on)
-held-behind options line text past p end stop cells depth going went on off k short is =
+held-behind : (options : ParseOptions) (line : Line) (text past : List ℕ) (p end : Point) (stop cells : List Cell) (cs : List Container) (going : Bool) (went : Front) (on : Prefixed) → IsBuilt options → AreRead cs → Stops stop → length cells < 2 ^ 63 →
+    HasWent line text past p end stop cells went on → HasHeld line text past p end stop cells (held_behind options cs going went) (contained_behind options cs going on)
+held-behind options line text past p end stop cells cs going went on built read k short is =
     let le = is.front.shorter in
     let size = ap length is.front.fed in
-    let new : Front = new_front options (length went.cells) went.cells went.point in
-    let more : Prefixed = quotes_new options (length on.rest.bytes) on.rest in
+    let off = built.code_indented in
+    let interrupting : Bool = interrupts going (others_of cs went.containers) in
+    let new : Front = new_front options interrupting (length went.cells) went.cells went.point in
+    let more : Prefixed = prefixes_new options interrupting (length on.rest.bytes) on.rest in
     let opened : HasNew line text past went.point (past_rest on.rest went.point) stop went.cells new more =
-    subst (λ (l : List Cell). HasNew line text past went.point (past_rest on.rest went.point) stop l (new_front options (length l) l went.point) more) (sym is.front.fed)
-    (new-is options line text past (length (rest_cells line on.rest went.point ++ stop)) (length on.rest.bytes) on.rest stop went.point off is.front.stands is.front.no_ending k (omega (arith, le, size, short)) (omega arith) (omega arith)) in
+    subst (λ (l : List Cell). HasNew line text past went.point (past_rest on.rest went.point) stop l (new_front options interrupting (length l) l went.point) more) (sym is.front.fed)
+    (new-is options interrupting line text past (length (rest_cells line on.rest went.point ++ stop)) (length on.rest.bytes) on.rest stop went.point built is.front.stands is.front.no_ending k (omega (arith, le, size, short)) (omega arith) (omega arith)) in
     let shorter = opened.front.shorter in
     let few = ap length opened.front.fed in
     let column = opened.front.stands.column in
     let kind : row_kind options new.cells ≡ line_kind options (rest_line more.rest) =
     ap (row_kind options) opened.front.fed
     ∙ kind-rest options line more.rest new.point stop off (omega (arith, le, shorter, few, short)) opened.front.no_ending k (omega (arith, column)) opened.front.stands.cut in
-    let same : cond (is_lazy going new.many (row_kind options new.cells)) depth went.many ≡ cond (is_lazy going more.many (line_kind options (rest_line more.rest))) depth on.many =
-    ap₂ (λ (m : ℕ) (r : RowKind). cond (is_lazy going m r) depth went.many) opened.front.many kind
-    ∙ ap (λ (m : ℕ). cond (is_lazy going more.many (line_kind options (rest_line more.rest))) depth m) is.front.many in
-    subst (λ (keep : ℕ). HasHeld line text past p end stop cells (held_behind options depth going went) (quoted_by depth keep more)) same
-    (held-by line text past p end stop cells depth (cond (is_lazy going new.many (row_kind options new.cells)) depth went.many) went new on more is opened)
+    let lazy : is_lazy going new.containers (row_kind options new.cells) ≡ is_lazy going more.containers (line_kind options (rest_line more.rest)) = ap₂ (is_lazy going) opened.front.containers kind in
+    let behind : contained_of options cs going on more ≡ contained_behind options cs going on =
+    ap (λ (w : List Container). contained_of options cs going on (prefixes_new options (interrupts going (others_of cs w)) (length on.rest.bytes) on.rest)) is.front.containers in
+    subst (HasHeld line text past p end stop cells (held_behind options cs going went)) behind
+    (subst (λ (x : Bool). HasHeld line text past p end stop cells (held_behind options cs going went) (contained_by cs x on more)) lazy
+    (held-by line text past p end stop cells cs (is_lazy going new.containers (row_kind options new.cells)) went new on more read is opened))
 
--- which quotes go on and open on a line, what stands in front of it, and what is left of it
-pub held-is : (options : ParseOptions) (line : Line) (text past : List ℕ) (depth : ℕ) (going : Bool) (r : Rest) (stop : List Cell) (p : Point) → options.constructs.code_indented ≡ false → RestAt text past r p → NoEnding r.bytes → Stops stop → length (rest_cells line r p ++ stop) < 2 ^ 63 →
-    HasHeld line text past p (past_rest r p) stop (rest_cells line r p ++ stop) (held_at options depth going (rest_cells line r p ++ stop) p) (quoted options depth going r)
-unfolding held_at quoted
-held-is options line text past depth going r stop p off is h k short =
-    held-behind options line text past p (past_rest r p) stop (rest_cells line r p ++ stop) depth going (went_front options depth (rest_cells line r p ++ stop) p) (quotes_on options depth r) off k short
-    (went-is options line text past depth r stop p off is h k short)
+-- which containers go on and open on a line, what stands in front of it, and what is left of it
+pub held-is : (options : ParseOptions) (line : Line) (text past : List ℕ) (cs : List Container) (going : Bool) (r : Rest) (stop : List Cell) (p : Point) → IsBuilt options → AreRead cs → RestAt text past r p → NoEnding r.bytes → Stops stop → length (rest_cells line r p ++ stop) < 2 ^ 63 →
+    HasHeld line text past p (past_rest r p) stop (rest_cells line r p ++ stop) (held_at options cs going (rest_cells line r p ++ stop) p) (contained options cs going r)
+unfolding held_at contained
+held-is options line text past cs going r stop p built read is h k short =
+    held-behind options line text past p (past_rest r p) stop (rest_cells line r p ++ stop) cs going (went_front options cs (rest_cells line r p ++ stop) p) (prefixes_on options cs r) built read k short
+    (went-is options line text past cs r stop p built read is h k short)

@@ -23,6 +23,7 @@ use Rattle.md_seam.specs.Nested.{Balanced, Forward, Matches, enter, exit, last_p
 use Rattle.md_seam.specs.Places.{at_or_before, past_byte, past_text, same_place}
 use Rattle.md_seam.specs.Rest.{Rest, is_blank, is_white, trim_start}
 use Rattle.md_seam.specs.Spaces.{small_indent}
+use Rattle.md_seam.specs.State.{Container}
 use Rattle.md_seam.specs.Texts.{split_lines}
 use Rattle.md_seam.proofs.FeedLines.{HasEnding, HasLine, Stops, before-byte, before-column, behind_last, begun-none, byte-end, byte_cells, cell, columns_more, drop-past, ending-feed, ending-some, feed-none, front-within, is-ending, line-feed, next_column, past_ending, past_text-column, slice-front, spread, spread-end, tab_cells}
 use Rattle.md_seam.proofs.AheadLemmas.{none-end, white-line_end}
@@ -31,15 +32,17 @@ use Rattle.md_seam.proofs.NestedLemmas.{at_or_before-refl, at_or_before-trans, b
 use Rattle.md_seam.proofs.RestCells.{RestAt, rest_cells}
 use Rattle.md_seam.proofs.SpelledLemmas.{Quiet, Roles, roles-append}
 use Rattle.md_seam.proofs.TextsLemmas.{Both, Ending, EndsBefore, LineFeed, NoEnding, Return, ending_bytes, split-line, split-next}
+use Rattle.markdown_blocks.specs.Change.{open_behind}
 use Rattle.markdown_blocks.specs.FlowReads.{text_cells, text_rows, text_setting}
-use Rattle.markdown_blocks.specs.Fronted.{Quoted, quoted, rest_from, rest_line}
+use Rattle.markdown_blocks.specs.Fronted.{Contained, contained, rest_from, rest_line}
+use Rattle.markdown_blocks.specs.Parsed.{IsBuilt}
 use Rattle.markdown_blocks.specs.Rows.{BlankRow, BreakRow, HeadingRow, Held, Row, RowKind, TextRow, after_ending, break_inside, closes_before, first_cell, held_at, inside_of, is_break, is_text, onto_rows, row_kind, row_of, rows_at, rows_by}
-use Rattle.markdown_blocks.proofs.FrontRows.{HasHeld, held-is}
+use Rattle.markdown_blocks.proofs.FrontRows.{AreRead, HasHeld, held-is}
 use Rattle.markdown_blocks.proofs.HeadingRuns.{heading-runs}
 use Rattle.markdown_blocks.proofs.LineKinds.{kind-spread, no_ending-trim, small-end, small-rest, spread-line, spread-line_end, white_front}
 use Rattle.markdown_blocks.proofs.PiecesLemmas.{Shut, Tiled, shut-exit, tiled-append, tiled-enter, tiled-none, tiled-pair}
 use Rattle.markdown_blocks.proofs.RestRows.{rest-ending, rest-length, rest-no_ending, rest-past, rest-row, rest-text, rest-whole, row_with}
-use Rattle.markdown_blocks.proofs.RowFacts.{AreRows, IsEnding, IsInside, IsLine, IsRow, depth_behind}
+use Rattle.markdown_blocks.proofs.RowFacts.{AreRows, IsEnding, IsInside, IsLine, IsRow, behind_line}
 use Rattle.markdown_blocks.proofs.TitleNests.{either, Spans, spans-append}
 
 -- Points go forward.
@@ -359,97 +362,99 @@ pub record HasLines (x : Setting) (p : Point) : Type 0 where
 -- A line, and what is left behind it.
 
 -- the rows of a text whose first line has these containers
-rows-last : (options : ParseOptions) (h : Held) (further : ℕ → Bool → List Cell → Point → List Row) → from_ending h.cells ≡ [] → rows_by options h further ≡ row_of options h [] ∷ []
-rows-last options h further e = ap (λ (l : List Cell). onto_rows options h (elim l [ [] ↦ [] | c ∷ cs ↦ further h.depth (is_text (row_kind options h.cells)) cs c.after ])) e
+rows-last : (options : ParseOptions) (h : Held) (further : List Container → Bool → List Cell → Point → List Row) → from_ending h.cells ≡ [] → rows_by options h further ≡ row_of options h [] ∷ []
+rows-last options h further e = ap (λ (l : List Cell). onto_rows options h (elim l [ [] ↦ [] | c ∷ cs ↦ further (open_behind h.change) (is_text (row_kind options h.cells)) cs c.after ])) e
 
-rows-next : (options : ParseOptions) (h : Held) (further : ℕ → Bool → List Cell → Point → List Row) (c : Cell) (cs : List Cell) → from_ending h.cells ≡ c ∷ cs → rows_by options h further ≡ onto_rows options h (further h.depth (is_text (row_kind options h.cells)) cs c.after)
-rows-next options h further c cs e = ap (λ (l : List Cell). onto_rows options h (elim l [ [] ↦ [] | c ∷ cs ↦ further h.depth (is_text (row_kind options h.cells)) cs c.after ])) e
+rows-next : (options : ParseOptions) (h : Held) (further : List Container → Bool → List Cell → Point → List Row) (c : Cell) (cs : List Cell) → from_ending h.cells ≡ c ∷ cs → rows_by options h further ≡ onto_rows options h (further (open_behind h.change) (is_text (row_kind options h.cells)) cs c.after)
+rows-next options h further c cs e = ap (λ (l : List Cell). onto_rows options h (elim l [ [] ↦ [] | c ∷ cs ↦ further (open_behind h.change) (is_text (row_kind options h.cells)) cs c.after ])) e
 
 -- a line with its containers
-record HasRow (options : ParseOptions) (bytes : List ℕ) (depth : ℕ) (going : Bool) (p : Point) (line : List ℕ) (stop : List Cell) (h : Held) : Type 0 where
-  is : (below : List Row) → IsLine options bytes depth going p line (row_of options h below)
-  depth_is : h.depth ≡ depth_behind options depth going p line
+record HasRow (options : ParseOptions) (bytes : List ℕ) (open_before : List Container) (going : Bool) (p : Point) (line : List ℕ) (stop : List Cell) (h : Held) : Type 0 where
+  is : (below : List Row) → IsLine options bytes open_before going p line (row_of options h below)
+  open_is : open_behind h.change ≡ behind_line options open_before going p line
+  read : AreRead (open_behind h.change)
   end : line_end h.cells h.point ≡ past_text line p
   stops : from_ending h.cells ≡ stop
 
-has-row : (options : ParseOptions) (bytes behind : List ℕ) (said : Line) (depth : ℕ) (going : Bool) (line : List ℕ) (p : Point) (stop : List Cell) → options.constructs.code_indented ≡ false → length (spread said line p ++ stop) < 2 ^ 63 →
-    NoEnding line → Stops stop → p.vs ≡ 0 → 1 ≤ p.column → drop p.index bytes ≡ line ++ behind → HasRow options bytes depth going p line stop (held_at options depth going (spread said line p ++ stop) p)
-has-row options bytes behind said depth going line p stop off short none k whole one text =
+has-row : (options : ParseOptions) (bytes behind : List ℕ) (said : Line) (open_before : List Container) (going : Bool) (line : List ℕ) (p : Point) (stop : List Cell) → IsBuilt options → AreRead open_before → length (spread said line p ++ stop) < 2 ^ 63 →
+    NoEnding line → Stops stop → p.vs ≡ 0 → 1 ≤ p.column → drop p.index bytes ≡ line ++ behind → HasRow options bytes open_before going p line stop (held_at options open_before going (spread said line p ++ stop) p)
+has-row options bytes behind said open_before going line p stop built read short none k whole one text =
     let r : Rest = rest_from p line in
-    let h : Held = held_at options depth going (spread said line p ++ stop) p in
-    let q : Quoted = quoted options depth going r in
+    let h : Held = held_at options open_before going (spread said line p ++ stop) p in
+    let c : Contained = contained options open_before going r in
     let at : RestAt bytes behind r p = record { column = omega arith; cut = whole; text_is = text } in
-    let held : HasHeld said bytes behind p (past_text line p) stop (spread said line p ++ stop) h q = held-is options said bytes behind depth going r stop p off at none k short in
+    let held : HasHeld said bytes behind p (past_text line p) stop (spread said line p ++ stop) h c = held-is options said bytes behind open_before going r stop p built read at none k short in
     let le = held.shorter in
     let few : length h.cells < 2 ^ 63 = omega (arith, le, short) in
-    let is : (below : List Row) → IsRow options bytes (rest_line q.rest) (row_of options h below) = λ below. held-row options bytes behind said q.rest stop h below off held.fed few held.stands held.no_ending k in
+    let is : (below : List Row) → IsRow options bytes (rest_line c.rest) (row_of options h below) = λ below. held-row options bytes behind said c.rest stop h below built.code_indented held.fed few held.stands held.no_ending k in
     let first : 1 ≤ h.point.column = let column = held.stands.column in omega (arith, column) in
     record {
-      is = λ below. record { is = is below; cut = held.stands.cut; front = held.front; opens = held.opens; closes = held.closes; whole = whole; column = one };
-      depth_is = held.depth;
-      end = (is []).end ∙ rest-past q.rest h.point first held.stands.cut ∙ held.ends;
-      stops = ap from_ending held.fed ∙ rest-ending said q.rest h.point stop first held.stands.cut held.no_ending k;
+      is = λ below. record { is = is below; cut = held.stands.cut; front = held.front; change = held.change; whole = whole; column = one };
+      open_is = ap open_behind held.change;
+      read = held.read;
+      end = (is []).end ∙ rest-past c.rest h.point first held.stands.cut ∙ held.ends;
+      stops = ap from_ending held.fed ∙ rest-ending said c.rest h.point stop first held.stands.cut held.no_ending k;
     }
 
 -- one line more
-rows-onto : (options : ParseOptions) (bytes line : List ℕ) (depth : ℕ) (going : Bool) (row : Row) (p q : Point) (lines : List (List ℕ)) (rows : List Row) → IsLine options bytes depth going p line row → row.leaves ≡ closes_before (depth_behind options depth going p line) rows →
-    row.after ≡ Some q → IsEnding bytes row.end q → AreRows options bytes (depth_behind options depth going p line) (is_text row.kind) q lines rows → AreRows options bytes depth going p (line ∷ lines) (row ∷ rows)
-rows-onto options bytes line depth going row p q [] [] is leaves after ending h = absurd h
-rows-onto options bytes line depth going row p q [] (below ∷ rows) is leaves after ending h = absurd h
-rows-onto options bytes line depth going row p q (next ∷ []) [] is leaves after ending h = absurd h
-rows-onto options bytes line depth going row p q (next ∷ further ∷ lines) [] is leaves after ending h = absurd h
-rows-onto options bytes line depth going row p q (next ∷ lines) (below ∷ rows) is leaves after ending h = (is, leaves, q, after, ending, h)
+rows-onto : (options : ParseOptions) (bytes line : List ℕ) (open_before : List Container) (going : Bool) (row : Row) (p q : Point) (lines : List (List ℕ)) (rows : List Row) → IsLine options bytes open_before going p line row → row.leaves ≡ closes_before (behind_line options open_before going p line) rows →
+    row.after ≡ Some q → IsEnding bytes row.end q → AreRows options bytes (behind_line options open_before going p line) (is_text row.kind) q lines rows → AreRows options bytes open_before going p (line ∷ lines) (row ∷ rows)
+rows-onto options bytes line open_before going row p q [] [] is leaves after ending h = absurd h
+rows-onto options bytes line open_before going row p q [] (below ∷ rows) is leaves after ending h = absurd h
+rows-onto options bytes line open_before going row p q (next ∷ []) [] is leaves after ending h = absurd h
+rows-onto options bytes line open_before going row p q (next ∷ further ∷ lines) [] is leaves after ending h = absurd h
+rows-onto options bytes line open_before going row p q (next ∷ lines) (below ∷ rows) is leaves after ending h = (is, leaves, q, after, ending, h)
 
 -- the last line
-last-rows : (options : ParseOptions) (n : ℕ) (bytes : List ℕ) (said : Line) (depth : ℕ) (going : Bool) (line : List ℕ) (p : Point) (cells : List Cell) → options.constructs.code_indented ≡ false → length cells < 2 ^ 63 →
+last-rows : (options : ParseOptions) (n : ℕ) (bytes : List ℕ) (said : Line) (open_before : List Container) (going : Bool) (line : List ℕ) (p : Point) (cells : List Cell) → IsBuilt options → AreRead open_before → length cells < 2 ^ 63 →
     NoEnding line → p.index ≤ length bytes → p.vs ≡ 0 → 1 ≤ p.column → drop p.index bytes ≡ line → cells ≡ spread said line p ++ [] →
-    AreRows options bytes depth going p (split_lines (drop p.index bytes)) (rows_at options (suc n) depth going cells p)
-last-rows options n bytes said depth going line p cells off short none index vs one text fed =
+    AreRows options bytes open_before going p (split_lines (drop p.index bytes)) (rows_at options (suc n) open_before going cells p)
+last-rows options n bytes said open_before going line p cells built read short none index vs one text fed =
     let whole = spread said line p ++ [] in
     let joined : drop p.index bytes ≡ line ++ [] = text ∙ sym (append-nil line) in
     let small : length whole < 2 ^ 63 = let same = ap length fed in omega arith in
-    let h : Held = held_at options depth going whole p in
-    let has : HasRow options bytes depth going p line [] h = has-row options bytes [] said depth going line p [] off small none tt vs one joined in
+    let h : Held = held_at options open_before going whole p in
+    let has : HasRow options bytes open_before going p line [] h = has-row options bytes [] said open_before going line p [] built read small none tt vs one joined in
     let size = front-within bytes p.index line [] joined index in
     let end = ap (λ (q : Point). q.index) has.end in
     let past = past-index line p in
     let all : (line_end h.cells h.point).index ≡ length bytes = omega (arith, end, past, size) in
-    let rows : AreRows options bytes depth going p (line ∷ []) (row_of options h [] ∷ []) = (has.is [], has.depth_is, ap after_ending has.stops, all) in
+    let rows : AreRows options bytes open_before going p (line ∷ []) (row_of options h [] ∷ []) = (has.is [], has.open_is, ap after_ending has.stops, all) in
     let split : split_lines (drop p.index bytes) ≡ line ∷ [] = ap split_lines text ∙ split-line line none in
-    subst (λ (cs : List Cell). AreRows options bytes depth going p (split_lines (drop p.index bytes)) (rows_at options (suc n) depth going cs p)) (sym fed)
-    (subst (λ (l : List Row). AreRows options bytes depth going p (split_lines (drop p.index bytes)) l) (sym (rows-last options h (rows_at options n) has.stops))
-    (subst (λ (l : List (List ℕ)). AreRows options bytes depth going p l (row_of options h [] ∷ [])) (sym split) rows))
+    subst (λ (cs : List Cell). AreRows options bytes open_before going p (split_lines (drop p.index bytes)) (rows_at options (suc n) open_before going cs p)) (sym fed)
+    (subst (λ (l : List Row). AreRows options bytes open_before going p (split_lines (drop p.index bytes)) l) (sym (rows-last options h (rows_at options n) has.stops))
+    (subst (λ (l : List (List ℕ)). AreRows options bytes open_before going p l (row_of options h [] ∷ [])) (sym split) rows))
 
 -- a line with its ending, before others
-next-rows : (options : ParseOptions) (n : ℕ) (bytes : List ℕ) (said : Line) (depth : ℕ) (going : Bool) (line : List ℕ) (ending : Ending) (rest : List ℕ) (p q : Point) (cells more : List Cell) → options.constructs.code_indented ≡ false → length cells < 2 ^ 63 →
+next-rows : (options : ParseOptions) (n : ℕ) (bytes : List ℕ) (said : Line) (open_before : List Container) (going : Bool) (line : List ℕ) (ending : Ending) (rest : List ℕ) (p q : Point) (cells more : List Cell) → IsBuilt options → AreRead open_before → length cells < 2 ^ 63 →
     NoEnding line → EndsBefore ending rest → p.vs ≡ 0 → 1 ≤ p.column → drop p.index bytes ≡ line ++ ending_bytes ending ++ rest → drop q.index bytes ≡ rest → IsEnding bytes (past_text line p) q →
-    cells ≡ spread said line p ++ cell 10 q said ∷ more → ((depth : ℕ) (going : Bool) → AreRows options bytes depth going q (split_lines (drop q.index bytes)) (rows_at options n depth going more q)) →
-    AreRows options bytes depth going p (split_lines (drop p.index bytes)) (rows_at options (suc n) depth going cells p)
-next-rows options n bytes said depth going line ending rest p q cells more off short none before vs one text left is_ending fed further =
+    cells ≡ spread said line p ++ cell 10 q said ∷ more → ((cs : List Container) (going : Bool) → AreRead cs → AreRows options bytes cs going q (split_lines (drop q.index bytes)) (rows_at options n cs going more q)) →
+    AreRows options bytes open_before going p (split_lines (drop p.index bytes)) (rows_at options (suc n) open_before going cells p)
+next-rows options n bytes said open_before going line ending rest p q cells more built read short none before vs one text left is_ending fed further =
     let stop = cell 10 q said ∷ more in
     let whole = spread said line p ++ stop in
     let small : length whole < 2 ^ 63 = let same = ap length fed in omega arith in
-    let h : Held = held_at options depth going whole p in
-    let has : HasRow options bytes depth going p line stop h = has-row options bytes (ending_bytes ending ++ rest) said depth going line p stop off small none refl vs one (text ∙ append_assoc line (ending_bytes ending) rest) in
-    let below : List Row = rows_at options n h.depth (is_text (row_kind options h.cells)) more q in
+    let h : Held = held_at options open_before going whole p in
+    let has : HasRow options bytes open_before going p line stop h = has-row options bytes (ending_bytes ending ++ rest) said open_before going line p stop built read small none refl vs one (text ∙ append_assoc line (ending_bytes ending) rest) in
+    let below : List Row = rows_at options n (open_behind h.change) (is_text (row_kind options h.cells)) more q in
     let row : Row = row_of options h below in
     let lines : List (List ℕ) = split_lines (drop q.index bytes) in
     let ends : IsEnding bytes (line_end h.cells h.point) q = subst (λ (r : Point). IsEnding bytes r q) (sym has.end) is_ending in
-    let those : AreRows options bytes (depth_behind options depth going p line) (is_text row.kind) q lines below =
-    subst (λ (d : ℕ). AreRows options bytes d (is_text row.kind) q lines below) has.depth_is (further h.depth (is_text row.kind)) in
-    let rows : AreRows options bytes depth going p (line ∷ lines) (row ∷ below) =
-    rows-onto options bytes line depth going row p q lines below (has.is below) (ap (λ (d : ℕ). closes_before d below) has.depth_is) (ap after_ending has.stops) ends those in
+    let those : AreRows options bytes (behind_line options open_before going p line) (is_text row.kind) q lines below =
+    subst (λ (cs : List Container). AreRows options bytes cs (is_text row.kind) q lines below) has.open_is (further (open_behind h.change) (is_text row.kind) has.read) in
+    let rows : AreRows options bytes open_before going p (line ∷ lines) (row ∷ below) =
+    rows-onto options bytes line open_before going row p q lines below (has.is below) (ap (λ (cs : List Container). closes_before cs below) has.open_is) (ap after_ending has.stops) ends those in
     let split : split_lines (drop p.index bytes) ≡ line ∷ lines =
     ap split_lines text ∙ split-next line ending rest none before ∙ ap (λ (l : List ℕ). line ∷ split_lines l) (sym left) in
-    subst (λ (cs : List Cell). AreRows options bytes depth going p (split_lines (drop p.index bytes)) (rows_at options (suc n) depth going cs p)) (sym fed)
-    (subst (λ (l : List Row). AreRows options bytes depth going p (split_lines (drop p.index bytes)) l) (sym (rows-next options h (rows_at options n) (cell 10 q said) more has.stops))
-    (subst (λ (l : List (List ℕ)). AreRows options bytes depth going p l (row ∷ below)) (sym split) rows))
+    subst (λ (cs : List Cell). AreRows options bytes open_before going p (split_lines (drop p.index bytes)) (rows_at options (suc n) open_before going cs p)) (sym fed)
+    (subst (λ (l : List Row). AreRows options bytes open_before going p (split_lines (drop p.index bytes)) l) (sym (rows-next options h (rows_at options n) (cell 10 q said) more has.stops))
+    (subst (λ (l : List (List ℕ)). AreRows options bytes open_before going p l (row ∷ below)) (sym split) rows))
 
 -- The rows from the start of a line on are the lines that are left of the text.
-pub rows-are : (options : ParseOptions) (n : ℕ) (x : Setting) (depth : ℕ) (going : Bool) (p : Point) → options.constructs.code_indented ≡ false → HasLines x p → length (text_feed x p) < n →
-    AreRows options x.bytes depth going p (split_lines (drop p.index x.bytes)) (rows_at options n depth going (text_feed x p) p)
-rows-are options zero x depth going p off h short = absurd (omega arith)
-rows-are options (suc n) x depth going p off h short = go (first_line (drop p.index x.bytes)) (λ (q : Point) (k : HasLines x q) (fewer : length (text_feed x q) < n) (d : ℕ) (g : Bool). rows-are options n x d g q off k fewer)
+pub rows-are : (options : ParseOptions) (n : ℕ) (x : Setting) (open_before : List Container) (going : Bool) (p : Point) → IsBuilt options → AreRead open_before → HasLines x p → length (text_feed x p) < n →
+    AreRows options x.bytes open_before going p (split_lines (drop p.index x.bytes)) (rows_at options n open_before going (text_feed x p) p)
+rows-are options zero x open_before going p built read h short = absurd (omega arith)
+rows-are options (suc n) x open_before going p built read h short = go (first_line (drop p.index x.bytes)) (λ (q : Point) (k : HasLines x q) (fewer : length (text_feed x q) < n) (cs : List Container) (g : Bool) (those : AreRead cs). rows-are options n x cs g q built those k fewer)
   where
     small : x.limit < 2 ^ 61
     small = let limit = h.limit in let size = h.small in omega arith
@@ -458,8 +463,8 @@ rows-are options (suc n) x depth going p off h short = go (first_line (drop p.in
     few = (text-follows x x.limit true small (omega arith) (λ e. refl)).short p
 
     go : NoEnding (drop p.index x.bytes) ⊎ HasNext (drop p.index x.bytes) →
-        ((q : Point) → HasLines x q → length (text_feed x q) < n → (d : ℕ) (g : Bool) → AreRows options x.bytes d g q (split_lines (drop q.index x.bytes)) (rows_at options n d g (text_feed x q) q)) →
-        AreRows options x.bytes depth going p (split_lines (drop p.index x.bytes)) (rows_at options (suc n) depth going (text_feed x p) p)
+        ((q : Point) → HasLines x q → length (text_feed x q) < n → (cs : List Container) (g : Bool) → AreRead cs → AreRows options x.bytes cs g q (split_lines (drop q.index x.bytes)) (rows_at options n cs g (text_feed x q) q)) →
+        AreRows options x.bytes open_before going p (split_lines (drop p.index x.bytes)) (rows_at options (suc n) open_before going (text_feed x p) p)
     go (inl none) more =
         let line = drop p.index x.bytes in
         let joined : drop p.index x.bytes ≡ line ++ [] = sym (append-nil line) in
@@ -467,7 +472,7 @@ rows-are options (suc n) x depth going p off h short = go (first_line (drop p.in
         let limit = h.limit in
         let index = past-index line p in
         let has : HasLine x line [] p = record { small = small; text = joined; no_ending = none; within = omega arith; whole = h.whole; column = h.column } in
-        last-rows options n x.bytes x.line depth going line p (text_feed x p) off few none h.index h.whole h.column refl
+        last-rows options n x.bytes x.line open_before going line p (text_feed x p) built read few none h.index h.whole h.column refl
         (line-feed x line [] p has ∙ ap (λ (l : List Cell). spread x.line line p ++ l) (feed-none x (past_text line p) small (omega arith)))
     go (inr h') more =
         let line = h'.line in
@@ -486,11 +491,11 @@ rows-are options (suc n) x depth going p off h short = go (first_line (drop p.in
         let fed : text_feed x p ≡ spread x.line line p ++ cell 10 q x.line ∷ text_feed x q = line-feed x line (ending_bytes h'.ending ++ h'.rest) p has ∙ ap (λ (l : List Cell). spread x.line line p ++ l) (ending-feed x h'.ending h'.rest end stop) in
         let long = ap length fed ∙ length-append (spread x.line line p) (cell 10 q x.line ∷ text_feed x q) in
         let lines : HasLines x q = record { small = h.small; limit = h.limit; skips = h.skips; index = omega arith; whole = refl; column = omega arith } in
-        next-rows options n x.bytes x.line depth going line h'.ending h'.rest p q (text_feed x p) (text_feed x q) off few h'.no_ending h'.before h.whole h.column h'.joined left
+        next-rows options n x.bytes x.line open_before going line h'.ending h'.rest p q (text_feed x p) (text_feed x q) built read few h'.no_ending h'.before h.whole h.column h'.joined left
         (is-ending x.bytes h'.ending h'.rest end behind h'.before) fed (more q lines (omega arith))
 
 -- So are those that a new tokenizer reads to the end of a text.
-pub fresh-rows : (options : ParseOptions) (bytes : List ℕ) (p : Point) → options.constructs.code_indented ≡ false → length bytes < 2 ^ 61 → p.index ≤ length bytes → p.vs ≡ 0 → 1 ≤ p.column →
-    AreRows options bytes 0 false p (split_lines (drop p.index bytes)) (text_rows options bytes p)
-fresh-rows options bytes p off small index whole column = rows-are options (suc (length (text_cells bytes options p))) (text_setting bytes options p) 0 false p off
+pub fresh-rows : (options : ParseOptions) (bytes : List ℕ) (p : Point) → IsBuilt options → length bytes < 2 ^ 61 → p.index ≤ length bytes → p.vs ≡ 0 → 1 ≤ p.column →
+    AreRows options bytes [] false p (split_lines (drop p.index bytes)) (text_rows options bytes p)
+fresh-rows options bytes p built small index whole column = rows-are options (suc (length (text_cells bytes options p))) (text_setting bytes options p) [] false p built tt
     (record { small = small; limit = refl; skips = refl; index = index; whole = whole; column = column }) (omega arith)
