@@ -1,4 +1,4 @@
--- The events of a text nest, where only quotes, headings and breaks are on.
+-- The events of a text nest, where only headings and breaks are on, in containers.
 use Rattle.std.proofs.Common.{◌≡◌, ◌≢◌, ℕ, suc, ◌+◌, Bool, true, false, cond, List, [], ◌∷◌, ◌++◌, length, refl, ap, sym, ◌∙◌, subst, append_assoc, append-nil, arith}
 use Rattle.std.specs.Prelude.{◌==◌, IsTrue, Option, Some, None}
 use Rattle.std.proofs.lemmas.Bool.{and_parts}
