@@ -1,24 +1,22 @@
--- What stands in front of a line goes forward, and opens as many quotes as begin in it.
-use Rattle.std.proofs.Common.{◌≡◌, ℕ, zero, suc, ◌+◌, ◌-◌, ◌≤◌, Bool, true, false, cond, List, [], ◌∷◌, ◌++◌, length, refl, ap, sym, ◌∙◌, subst, arith}
-use Rattle.std.specs.Prelude.{IsTrue, Option, Some, None}
+-- What stands in front of a line goes forward, and opens the containers that begin in it.
+use Rattle.std.proofs.Common.{◌≡◌, ℕ, suc, Bool, true, false, cond, List, [], ◌∷◌, ◌++◌, map, refl, ap, sym, ◌∙◌, subst, append_assoc, append-nil, arith}
+use Rattle.std.specs.Prelude.{IsTrue}
 use Rattle.std.proofs.lemmas.Bool.Decides.{nat_tests}
-use Rattle.md_engine.specs.declared.configuration.ParseOptions.{ParseOptions}
 use Rattle.md_engine.specs.declared.event.Event.{Event}
 use Rattle.md_engine.specs.declared.event.Name.{Name}
 use Rattle.md_engine.specs.declared.event.Name.TheVariants as n
 use Rattle.md_engine.specs.declared.event.Point.{Point}
-use Rattle.md_seam.specs.Containers.{Taken, quote_taken}
 use Rattle.md_seam.specs.Inline.{pair_unless_empty}
 use Rattle.md_seam.specs.Nested.{Balanced, Matches, enter, exit, last_point, open_after, pair}
 use Rattle.md_seam.specs.Places.{at_or_before, same_place}
-use Rattle.md_seam.specs.Rest.{Rest}
-use Rattle.md_seam.specs.Spelled.{Holds, IsQuiet, QuoteShape, Role}
+use Rattle.md_seam.specs.Spelled.{FootnoteShape, IsQuiet, ItemShape, ListShape, QuoteShape, Role, Shape, role}
 use Rattle.md_seam.specs.Spelled as spelled
+use Rattle.md_seam.specs.State.{Container, InFootnote, InItem, InQuote}
 use Rattle.md_seam.proofs.NestedLemmas.{at_or_before-refl, at_or_before-trans, balanced-append, balanced-matches, balanced-none, balanced-open, forward-last, matches-append, open_after-append}
 use Rattle.md_seam.proofs.SpelledLemmas.{Roles, roles-append}
-use Rattle.markdown_blocks.specs.Fronted.{Prefixed, no_prefix, one_more, quoted, quotes_new, quotes_on, rest_line}
-use Rattle.markdown_blocks.specs.Rows.{is_lazy, line_kind, quote_ends}
-use Rattle.markdown_blocks.proofs.FrontFacts.{Begins, Behind, Fronts, Goes, IsPrefix}
+use Rattle.markdown_blocks.specs.Change.{container_name, ends_of}
+use Rattle.markdown_blocks.specs.Stands.{shape_of}
+use Rattle.markdown_blocks.proofs.FrontFacts.{Begins, Behind, Fronts, Goes, IsFurther, IsOpening, IsPrefix}
 use Rattle.markdown_blocks.proofs.TitleNests.{Spans, spans-append}
 
 -- Prefixes.
@@ -62,28 +60,48 @@ prefix-spans bytes p q es is = subst (Spans p q) (sym is.events) (list-spans p i
 pub prefix-order : (bytes : List ℕ) (p q : Point) (es : List Event) → IsPrefix bytes p q es → IsTrue (at_or_before p q)
 prefix-order bytes p q es is = at_or_before-trans p is.marker q is.indent (at_or_before-trans is.marker is.behind q (further is.marker is.behind is.past) is.column)
 
+-- What stands in front of the content of a container.
+
+-- of one that goes on,
+further-balanced : (bytes : List ℕ) (c : Container) (p q : Point) (es : List Event) → IsFurther bytes c p q es → Balanced es
+further-balanced bytes InQuote p q es is = prefix-balanced bytes p q es is
+further-balanced bytes c p q es is = absurd is
+
+further-spans : (bytes : List ℕ) (c : Container) (p q : Point) (es : List Event) → IsFurther bytes c p q es → Spans p q es
+further-spans bytes InQuote p q es is = prefix-spans bytes p q es is
+further-spans bytes c p q es is = absurd is
+
+-- and of one that opens
+opening-balanced : (bytes : List ℕ) (c : Container) (p q : Point) (es : List Event) → IsOpening bytes c p q es → Balanced es
+opening-balanced bytes InQuote p q es is = prefix-balanced bytes p q es is
+opening-balanced bytes c p q es is = absurd is
+
+opening-spans : (bytes : List ℕ) (c : Container) (p q : Point) (es : List Event) → IsOpening bytes c p q es → Spans p q es
+opening-spans bytes InQuote p q es is = prefix-spans bytes p q es is
+opening-spans bytes c p q es is = absurd is
+
 -- Fronts.
 
 -- they go forward, from the begin of the line to its rest
-pub fronts-spans : (bytes : List ℕ) (opens : ℕ) (p q : Point) (front : List Event) → Fronts bytes opens p q front → Spans p q front
+pub fronts-spans : (bytes : List ℕ) (opens : List Container) (p q : Point) (front : List Event) → Fronts bytes opens p q front → Spans p q front
 fronts-spans bytes _ p _ _ (Behind _) = (tt, at_or_before-refl p)
-fronts-spans bytes opens p r _ (Goes _ _ q _ es fs is more) = spans-append p q r es fs (prefix-spans bytes p q es is) (fronts-spans bytes opens q r fs more)
-fronts-spans bytes _ p r _ (Begins opens _ q _ es fs is more) =
-    let spans : Spans p r (es ++ fs) = spans-append p q r es fs (prefix-spans bytes p q es is) (fronts-spans bytes opens q r fs more) in
+fronts-spans bytes opens p r _ (Goes c _ _ q _ es fs is more) = spans-append p q r es fs (further-spans bytes c p q es is) (fronts-spans bytes opens q r fs more)
+fronts-spans bytes _ p r _ (Begins c opens _ q _ es fs is more) =
+    let spans : Spans p r (es ++ fs) = spans-append p q r es fs (opening-spans bytes c p q es is) (fronts-spans bytes opens q r fs more) in
     ((at_or_before-refl p, spans.0), spans.1)
 
-pub fronts-order : (bytes : List ℕ) (opens : ℕ) (p q : Point) (front : List Event) → Fronts bytes opens p q front → IsTrue (at_or_before p q)
+pub fronts-order : (bytes : List ℕ) (opens : List Container) (p q : Point) (front : List Event) → Fronts bytes opens p q front → IsTrue (at_or_before p q)
 fronts-order bytes opens p q front is =
     let spans : Spans p q front = fronts-spans bytes opens p q front is in
     at_or_before-trans p (last_point p front) q (forward-last p front spans.0) spans.1
 
--- where no quote begins, they nest
-pub fronts-balanced : (bytes : List ℕ) (opens : ℕ) (p q : Point) (front : List Event) → Fronts bytes opens p q front → opens ≡ 0 → Balanced front
+-- where no container begins, they nest
+pub fronts-balanced : (bytes : List ℕ) (opens : List Container) (p q : Point) (front : List Event) → Fronts bytes opens p q front → opens ≡ [] → Balanced front
 fronts-balanced bytes _ p _ _ (Behind _) e = balanced-none
-fronts-balanced bytes opens p r _ (Goes _ _ q _ es fs is more) e = balanced-append es fs (prefix-balanced bytes p q es is) (fronts-balanced bytes opens q r fs more e)
-fronts-balanced bytes _ p r _ (Begins opens _ q _ es fs is more) e = cc
+fronts-balanced bytes opens p r _ (Goes c _ _ q _ es fs is more) e = balanced-append es fs (further-balanced bytes c p q es is) (fronts-balanced bytes opens q r fs more e)
+fronts-balanced bytes _ p r _ (Begins c opens _ q _ es fs is more) e = cc
 
--- What is read of what stands in front of a line is quiet, a prefix or a quote, and so are the ends of quotes.
+-- What is read of what stands in front of a line is quiet, a prefix or a container, and so are the ends of containers.
 
 list-roles : (P : Role → Type 0) (p marker behind q : Point) → P IsQuiet → P spelled.IsPrefix → Roles P (prefix_list p marker behind q)
 list-roles P p marker behind q quiet prefix = go (same_place p marker) (same_place behind q)
@@ -97,91 +115,93 @@ list-roles P p marker behind q quiet prefix = go (same_place p marker) (same_pla
 prefix-roles : (P : Role → Type 0) (bytes : List ℕ) (p q : Point) (es : List Event) → P IsQuiet → P spelled.IsPrefix → IsPrefix bytes p q es → Roles P es
 prefix-roles P bytes p q es quiet prefix is = subst (Roles P) (sym is.events) (list-roles P p is.marker is.behind q quiet prefix)
 
-pub fronts-roles : (P : Role → Type 0) (bytes : List ℕ) (opens : ℕ) (p q : Point) (front : List Event) → P IsQuiet → P spelled.IsPrefix → P (Holds QuoteShape) → Fronts bytes opens p q front → Roles P front
-fronts-roles P bytes _ p _ _ quiet prefix quote (Behind _) = tt
-fronts-roles P bytes opens p r _ quiet prefix quote (Goes _ _ q _ es fs is more) = roles-append P es fs (prefix-roles P bytes p q es quiet prefix is) (fronts-roles P bytes opens q r fs quiet prefix quote more)
-fronts-roles P bytes _ p r _ quiet prefix quote (Begins opens _ q _ es fs is more) =
-    (quote, roles-append P es fs (prefix-roles P bytes p q es quiet prefix is) (fronts-roles P bytes opens q r fs quiet prefix quote more))
+further-roles : (P : Role → Type 0) (bytes : List ℕ) (c : Container) (p q : Point) (es : List Event) → P IsQuiet → P spelled.IsPrefix → IsFurther bytes c p q es → Roles P es
+further-roles P bytes InQuote p q es quiet prefix is = prefix-roles P bytes p q es quiet prefix is
+further-roles P bytes c p q es quiet prefix is = absurd is
 
-pub ends-roles : (P : Role → Type 0) (many : ℕ) (p : Point) → P (Holds QuoteShape) → Roles P (quote_ends many p)
-ends-roles P zero p h = tt
-ends-roles P (suc many) p h = (h, ends-roles P many p h)
+opening-roles : (P : Role → Type 0) (bytes : List ℕ) (c : Container) (p q : Point) (es : List Event) → P IsQuiet → P spelled.IsPrefix → IsOpening bytes c p q es → Roles P es
+opening-roles P bytes InQuote p q es quiet prefix is = prefix-roles P bytes p q es quiet prefix is
+opening-roles P bytes c p q es quiet prefix is = absurd is
 
--- Open quotes.
+pub fronts-roles : (P : Role → Type 0) (bytes : List ℕ) (opens : List Container) (p q : Point) (front : List Event) → P IsQuiet → P spelled.IsPrefix → ((c : Container) → P (role (container_name c))) → Fronts bytes opens p q front → Roles P front
+fronts-roles P bytes _ p _ _ quiet prefix holds (Behind _) = tt
+fronts-roles P bytes opens p r _ quiet prefix holds (Goes c _ _ q _ es fs is more) =
+    roles-append P es fs (further-roles P bytes c p q es quiet prefix is) (fronts-roles P bytes opens q r fs quiet prefix holds more)
+fronts-roles P bytes _ p r _ quiet prefix holds (Begins c opens _ q _ es fs is more) =
+    (holds c, roles-append P es fs (opening-roles P bytes c p q es quiet prefix is) (fronts-roles P bytes opens q r fs quiet prefix holds more))
 
--- the names that are open where so many quotes are
-abbrev pub open_quotes : ℕ → List Name
-open_quotes zero = []
-open_quotes (suc size) = n.BlockQuote ∷ open_quotes size
+pub ends-roles : (P : Role → Type 0) (cs : List Container) (p : Point) → ((c : Container) → P (role (container_name c))) → Roles P (ends_of cs p)
+ends-roles P [] p holds = tt
+ends-roles P (c ∷ cs) p holds = roles-append P (ends_of cs p) (exit (container_name c) p ∷ []) (ends-roles P cs p holds) (holds c, tt)
 
--- events that lead from so many open quotes to so many
-pub record Turns (from to : ℕ) (es : List Event) : Type 0 where
-  pub matches : Matches (open_quotes from) es
-  pub opened : open_after (open_quotes from) es ≡ open_quotes to
+-- Open containers.
 
-pub turns-balanced : (size : ℕ) (es : List Event) → Balanced es → Turns size size es
-turns-balanced size es h = record { matches = balanced-matches (open_quotes size) es h; opened = balanced-open (open_quotes size) es h }
+-- the names that are open where these containers are, the innermost first
+abbrev pub open_names : List Container → List Name
+open_names [] = []
+open_names (c ∷ cs) = open_names cs ++ container_name c ∷ []
 
-pub turns-append : (a b c : ℕ) (xs ys : List Event) → Turns a b xs → Turns b c ys → Turns a c (xs ++ ys)
+pub names-append : (a b : List Container) → open_names (a ++ b) ≡ open_names b ++ open_names a
+names-append [] b = sym (append-nil (open_names b))
+names-append (c ∷ a) b = ap (λ (l : List Name). l ++ container_name c ∷ []) (names-append a b) ∙ append_assoc (open_names b) (open_names a) (container_name c ∷ [])
+
+-- the events of a container tell its name by its shape
+abbrev shape_name : Shape → Name
+shape_name QuoteShape = n.BlockQuote
+shape_name ListShape = n.ListUnordered
+shape_name (ItemShape marker digits) = n.ListItem
+shape_name (FootnoteShape label) = n.GfmFootnoteDefinition
+
+abbrev shape_names : List Shape → List Name
+shape_names [] = []
+shape_names (s ∷ ss) = shape_names ss ++ shape_name s ∷ []
+
+name-shape : (c : Container) → container_name c ≡ shape_name (shape_of c)
+name-shape InQuote = refl
+name-shape (InItem digits marker width starts_blank) = refl
+name-shape (InFootnote label) = refl
+
+names-shapes : (cs : List Container) → open_names cs ≡ shape_names (map shape_of cs)
+names-shapes [] = refl
+names-shapes (c ∷ cs) = ap (λ (l : List Name). l ++ container_name c ∷ []) (names-shapes cs) ∙ ap (λ (name : Name). shape_names (map shape_of cs) ++ name ∷ []) (name-shape c)
+
+-- containers of the same shapes have the same names
+pub shapes-names : (a b : List Container) → map shape_of a ≡ map shape_of b → open_names a ≡ open_names b
+shapes-names a b h = names-shapes a ∙ ap shape_names h ∙ sym (names-shapes b)
+
+-- events that lead from these open names to those
+pub record Turns (from to : List Name) (es : List Event) : Type 0 where
+  pub matches : Matches from es
+  pub opened : open_after from es ≡ to
+
+pub turns-balanced : (names : List Name) (es : List Event) → Balanced es → Turns names names es
+turns-balanced names es h = record { matches = balanced-matches names es h; opened = balanced-open names es h }
+
+pub turns-append : (a b c : List Name) (xs ys : List Event) → Turns a b xs → Turns b c ys → Turns a c (xs ++ ys)
 turns-append a b c xs ys h k = record {
-  matches = matches-append (open_quotes a) xs ys h.matches (subst (λ (l : List Name). Matches l ys) (sym h.opened) k.matches);
-  opened = open_after-append (open_quotes a) xs ys ∙ ap (λ (l : List Name). open_after l ys) h.opened ∙ k.opened;
+  matches = matches-append a xs ys h.matches (subst (λ (l : List Name). Matches l ys) (sym h.opened) k.matches);
+  opened = open_after-append a xs ys ∙ ap (λ (l : List Name). open_after l ys) h.opened ∙ k.opened;
 }
 
--- what stands in front of a line opens the quotes that begin in it
-pub fronts-turn : (bytes : List ℕ) (opens size : ℕ) (p q : Point) (front : List Event) → Fronts bytes opens p q front → Turns size (size + opens) front
-fronts-turn bytes _ size p _ _ (Behind _) = let none : size ≡ size + 0 = omega arith in subst (λ (m : ℕ). Turns size m []) none (turns-balanced size [] balanced-none)
-fronts-turn bytes opens size p r _ (Goes _ _ q _ es fs is more) =
-    turns-append size size (size + opens) es fs (turns-balanced size es (prefix-balanced bytes p q es is)) (fronts-turn bytes opens size q r fs more)
-fronts-turn bytes _ size p r _ (Begins opens _ q _ es fs is more) =
-    let one : suc size + opens ≡ size + suc opens = omega arith in
-    turns-append size (suc size) (size + suc opens) (enter n.BlockQuote p ∷ []) (es ++ fs) (record { matches = (tt, tt); opened = refl })
-    (subst (λ (m : ℕ). Turns (suc size) m (es ++ fs)) one
-    (turns-append (suc size) (suc size) (suc size + opens) es fs (turns-balanced (suc size) es (prefix-balanced bytes p q es is)) (fronts-turn bytes opens (suc size) q r fs more)))
+-- what stands in front of a line opens the containers that begin in it
+pub fronts-turn : (bytes : List ℕ) (opens : List Container) (names : List Name) (p q : Point) (front : List Event) → Fronts bytes opens p q front → Turns names (open_names opens ++ names) front
+fronts-turn bytes _ names p _ _ (Behind _) = turns-balanced names [] balanced-none
+fronts-turn bytes opens names p r _ (Goes c _ _ q _ es fs is more) =
+    turns-append names names (open_names opens ++ names) es fs (turns-balanced names es (further-balanced bytes c p q es is)) (fronts-turn bytes opens names q r fs more)
+fronts-turn bytes _ names p r _ (Begins c opens _ q _ es fs is more) =
+    let name : Name = container_name c in
+    subst (λ (l : List Name). Turns names l (enter name p ∷ es ++ fs)) (sym (append_assoc (open_names opens) (name ∷ []) names))
+    (turns-append names (name ∷ names) (open_names opens ++ name ∷ names) (enter name p ∷ []) (es ++ fs) (record { matches = (tt, tt); opened = refl })
+    (turns-append (name ∷ names) (name ∷ names) (open_names opens ++ name ∷ names) es fs (turns-balanced (name ∷ names) es (opening-balanced bytes c p q es is)) (fronts-turn bytes opens (name ∷ names) q r fs more)))
 
--- quotes end
-pub ends-turn : (many size : ℕ) (p : Point) → many ≤ size → Turns size (size - many) (quote_ends many p)
-ends-turn zero size p h = let all : size ≡ size - 0 = omega arith in subst (λ (m : ℕ). Turns size m []) all (turns-balanced size [] balanced-none)
-ends-turn (suc many) (suc size) p h =
-    let one : size - many ≡ suc size - suc many = omega arith in
-    turns-append (suc size) size (suc size - suc many) (exit n.BlockQuote p ∷ []) (quote_ends many p) (record { matches = (refl, tt); opened = refl })
-    (subst (λ (m : ℕ). Turns size m (quote_ends many p)) one (ends-turn many size p (omega (arith, h))))
-ends-turn (suc many) zero p h = absurd (omega (arith, h))
+-- containers end
+pub ends-turn : (cs : List Container) (names : List Name) (p : Point) → Turns (open_names cs ++ names) names (ends_of cs p)
+ends-turn [] names p = turns-balanced names [] balanced-none
+ends-turn (c ∷ cs) names p =
+    let name : Name = container_name c in
+    subst (λ (l : List Name). Turns l names (ends_of cs p ++ exit name p ∷ [])) (sym (append_assoc (open_names cs) (name ∷ []) names))
+    (turns-append (open_names cs ++ name ∷ names) (name ∷ names) names (ends_of cs p) (exit name p ∷ []) (ends-turn cs (name ∷ names) p) (record { matches = (refl, tt); opened = refl }))
 
-pub ends-spans : (many : ℕ) (p : Point) → Spans p p (quote_ends many p)
-ends-spans zero p = (tt, at_or_before-refl p)
-ends-spans (suc many) p = let more : Spans p p (quote_ends many p) = ends-spans many p in ((at_or_before-refl p, more.0), more.1)
-
--- Depths.
-
--- a prefix more, if there is one
-abbrev further_on : ParseOptions → ℕ → Rest → Option Taken → Prefixed
-further_on options depth r None = no_prefix r
-further_on options depth r (Some t) = one_more (quotes_on options depth t.rest)
-
--- at most so many quotes go on
-on-most : (options : ParseOptions) (depth : ℕ) (r : Rest) → (quotes_on options depth r).many ≤ depth
-on-most options zero r = omega arith
-on-most options (suc depth) r = go (λ s. on-most options depth s) (quote_taken options r)
-  where
-    go : ((s : Rest) → (quotes_on options depth s).many ≤ depth) → (o : Option Taken) → (further_on options depth r o).many ≤ suc depth
-    go more None = omega arith
-    go more (Some t) = let most : (quotes_on options depth t.rest).many ≤ depth = more t.rest in omega (arith, most)
-
--- no more quotes end than are open, and those that are left and that open are open behind the line
-pub quoted-depth : (options : ParseOptions) (depth : ℕ) (going : Bool) (r : Rest) → ((quoted options depth going r).closes ≤ depth) × ((quoted options depth going r).depth ≡ (depth - (quoted options depth going r).closes) + (quoted options depth going r).opens)
-unfolding quoted
-quoted-depth options depth going r = go (is_lazy going new.many (line_kind options (rest_line new.rest)))
-  where
-    went : Prefixed
-    went = quotes_on options depth r
-
-    new : Prefixed
-    new = quotes_new options (length went.rest.bytes) went.rest
-
-    by : (keep : ℕ) → keep ≤ depth → (depth - keep ≤ depth) × (keep + new.many ≡ (depth - (depth - keep)) + new.many)
-    by keep h = (omega arith, omega (arith, h))
-
-    go : (x : Bool) → (depth - cond x depth went.many ≤ depth) × (cond x depth went.many + new.many ≡ (depth - (depth - cond x depth went.many)) + new.many)
-    go true = by depth (omega arith)
-    go false = by went.many (on-most options depth r)
+pub ends-spans : (cs : List Container) (p : Point) → Spans p p (ends_of cs p)
+ends-spans [] p = (tt, at_or_before-refl p)
+ends-spans (c ∷ cs) p = spans-append p p p (ends_of cs p) (exit (container_name c) p ∷ []) (ends-spans cs p) ((at_or_before-refl p, tt), at_or_before-refl p)

@@ -1,7 +1,7 @@
--- The events of a text nest, where only quotes, headings and breaks are on.
-use Rattle.std.proofs.Common.{◌≡◌, ◌≢◌, ℕ, suc, ◌+◌, ◌-◌, ◌≤◌, Bool, true, false, cond, List, [], ◌∷◌, ◌++◌, length, refl, ap, sym, ◌∙◌, subst, append_assoc, append-nil, arith}
+-- The events of a text nest, where only headings and breaks are on, in containers.
+use Rattle.std.proofs.Common.{◌≡◌, ◌≢◌, ℕ, suc, ◌+◌, Bool, true, false, cond, List, [], ◌∷◌, ◌++◌, length, refl, ap, sym, ◌∙◌, subst, append_assoc, append-nil, arith}
 use Rattle.std.specs.Prelude.{◌==◌, IsTrue, Option, Some, None}
-use Rattle.std.proofs.lemmas.Bool.{and_parts, eqb-true}
+use Rattle.std.proofs.lemmas.Bool.{and_parts}
 use Rattle.std.proofs.lemmas.Bool.Decides.{nat_tests}
 use Rattle.md_engine.specs.declared.configuration.ParseOptions.{ParseOptions}
 use Rattle.md_engine.specs.declared.event.Event.{Event}
@@ -13,15 +13,18 @@ use Rattle.md_seam.specs.declared.inline.Chunk.{Chunk}
 use Rattle.md_seam.specs.Inline.{line_end, pair_unless_empty, plain_chunk}
 use Rattle.md_seam.specs.Nested.{Balanced, Forward, Matches, around, enter, exit, last_point, open_after, pair}
 use Rattle.md_seam.specs.Places.{at_or_before, past_text, same_place}
+use Rattle.md_seam.specs.State.{Container}
 use Rattle.md_seam.proofs.InlineLemmas.{balanced-pair, end-before, end-behind, before-text}
 use Rattle.md_seam.proofs.NestedLemmas.{at_or_before-refl, at_or_before-trans, balanced-append, balanced-around, balanced-none, balanced-open, forward-append, forward-from, forward-front, forward-rest, matches-append, matches-before, matches-rest, open_after-append, open_after-before}
 use Rattle.md_seam.proofs.TextsLemmas.{Both, Ending, LineFeed, Return, ending_bytes}
-use Rattle.markdown_blocks.specs.Fronted.{quoted, rest_from, rest_line}
-use Rattle.markdown_blocks.specs.Rows.{BlankRow, BreakRow, Group, HeadingRow, Lines, Row, RowKind, Single, TextRow, behind_row, closes_before, ending_events, goes_on, groups, groups_events, is_text, last_row, onto_groups, quote_ends, read_lines, read_text, row_line, row_title, single_events_by, tail_events}
+use Rattle.markdown_blocks.specs.Change.{Change, ends_of, is_none, open_behind}
+use Rattle.markdown_blocks.specs.Fronted.{contained, rest_from, rest_line}
+use Rattle.markdown_blocks.specs.Rows.{BlankRow, BreakRow, Group, HeadingRow, Lines, Row, RowKind, Single, TextRow, behind_row, closes_before, ending_events, goes_on, groups, groups_events, is_text, last_row, onto_groups, read_lines, read_text, row_line, row_title, single_events_by, tail_events}
+use Rattle.markdown_blocks.proofs.ContainedLemmas.{contained-shapes, none-nil}
 use Rattle.markdown_blocks.proofs.FrontFacts.{Fronts}
-use Rattle.markdown_blocks.proofs.FrontLemmas.{Turns, ends-spans, ends-turn, fronts-balanced, fronts-spans, fronts-turn, open_quotes, quoted-depth, turns-balanced}
+use Rattle.markdown_blocks.proofs.FrontLemmas.{Turns, ends-spans, ends-turn, fronts-balanced, fronts-spans, fronts-turn, names-append, open_names, shapes-names, turns-balanced}
 use Rattle.markdown_blocks.proofs.JoinedLemmas.{behind-is, behind-none}
-use Rattle.markdown_blocks.proofs.RowFacts.{AreRows, IsEnding, IsInside, IsLine, IsRow, depth_behind}
+use Rattle.markdown_blocks.proofs.RowFacts.{AreRows, IsEnding, IsInside, IsLine, IsRow, behind_line}
 use Rattle.markdown_blocks.proofs.TitleNests.{Spans, back-balanced, back-span, blank-no_heading, break-no_heading, front-balanced, front-span, spans-append, text-order, text_begin, text_end}
 
 -- Chunks.
@@ -86,13 +89,13 @@ title-nested line p text h =
 
 -- What stands on a line that begins at a point, and its ending: the points never go back.
 pub record Ordered (bytes : List ℕ) (p : Point) (row : Row) : Type 0 where
-  pub front : Fronts bytes row.opens p row.first row.front
+  pub front : Fronts bytes row.change.opens p row.first row.front
   pub inside : row.kind ≢ HeadingRow → IsInside row
   pub end : row.end ≡ past_text (row_line bytes row) row.first
   pub ends : IsTrue (at_or_before row.end (behind_row row))
 
 -- the line of a text that a row tells of
-ordered : (options : ParseOptions) (bytes line : List ℕ) (p : Point) (row : Row) → Fronts bytes row.opens p row.first row.front → IsRow options bytes line row → IsTrue (at_or_before row.end (behind_row row)) → Ordered bytes p row
+ordered : (options : ParseOptions) (bytes line : List ℕ) (p : Point) (row : Row) → Fronts bytes row.change.opens p row.first row.front → IsRow options bytes line row → IsTrue (at_or_before row.end (behind_row row)) → Ordered bytes p row
 ordered options bytes line p row front is ends = record { front = front; inside = is.inside; end = is.end ∙ ap (λ (l : List ℕ). past_text l row.first) (sym is.text); ends = ends }
 
 -- the ends of a line, and of the line with its ending
@@ -132,77 +135,80 @@ pub record Onward (p : Point) (events : List Event) : Type 0 where
   pub balanced : Balanced events
   pub forward : Forward p events
 
--- events that end so many open quotes, nest otherwise, and go forward from a point
-pub record Under (size : ℕ) (p : Point) (events : List Event) : Type 0 where
-  pub matches : Matches (open_quotes size) events
-  pub closed : open_after (open_quotes size) events ≡ []
+-- events that end what has these names, nest otherwise, and go forward from a point
+pub record Under (names : List Name) (p : Point) (events : List Event) : Type 0 where
+  pub matches : Matches names events
+  pub closed : open_after names events ≡ []
   pub forward : Forward p events
 
-pub under-none : (p : Point) (events : List Event) → Under 0 p events → Onward p events
+pub under-none : (p : Point) (events : List Event) → Under [] p events → Onward p events
 under-none p events h = record { balanced = record { matches = h.matches; closed = h.closed }; forward = h.forward }
 
--- events that begin or end quotes, in front of such
-pub under-turn : (from to : ℕ) (p q : Point) (xs events : List Event) → Turns from to xs → Spans p q xs → Under to q events → Under from p (xs ++ events)
+-- events that begin or end containers, in front of such
+pub under-turn : (from to : List Name) (p q : Point) (xs events : List Event) → Turns from to xs → Spans p q xs → Under to q events → Under from p (xs ++ events)
 under-turn from to p q xs events h spans on = record {
-  matches = matches-append (open_quotes from) xs events h.matches (subst (λ (l : List Name). Matches l events) (sym h.opened) on.matches);
-  closed = open_after-append (open_quotes from) xs events ∙ ap (λ (l : List Name). open_after l events) h.opened ∙ on.closed;
+  matches = matches-append from xs events h.matches (subst (λ (l : List Name). Matches l events) (sym h.opened) on.matches);
+  closed = open_after-append from xs events ∙ ap (λ (l : List Name). open_after l events) h.opened ∙ on.closed;
   forward = forward-append p xs events spans.0 (forward-from (last_point p xs) q events spans.1 on.forward);
 }
 
 -- nested events in front of such
-pub under-before : (size : ℕ) (p q : Point) (xs events : List Event) → Nested_in p q xs → Under size q events → Under size p (xs ++ events)
-under-before size p q xs events h on = under-turn size size p q xs events (turns-balanced size xs h.0) h.1 on
+pub under-before : (names : List Name) (p q : Point) (xs events : List Event) → Nested_in p q xs → Under names q events → Under names p (xs ++ events)
+under-before names p q xs events h on = under-turn names names p q xs events (turns-balanced names xs h.0) h.1 on
 
--- a line in front of such: what stands in front of it, a block, the ends of quotes, and its ending
-pub under-line : (bytes : List ℕ) (size : ℕ) (p : Point) (row : Row) (name : Name) (inside events : List Event) → Ordered bytes p row → row.leaves ≤ size + row.opens → Nested_in row.first row.end inside → Under (size + row.opens - row.leaves) (behind_row row) events →
-    Under size p ((row.front ++ inside ++ tail_events name row) ++ events)
-under-line bytes size p row name inside events o most h on =
-    let many : ℕ = size + row.opens in
-    let left : ℕ = many - row.leaves in
-    let ends : List Event = quote_ends row.leaves row.end in
+-- What a line leaves open: of these names, with those of the containers that open on it, all but those of the containers that end
+-- behind it.
+abbrev pub Keeps : List Name → Row → List Name → Type 0
+Keeps names row kept = open_names row.change.opens ++ names ≡ open_names row.leaves ++ kept
+
+-- a line in front of such: what stands in front of it, a block, the ends of containers, and its ending
+pub under-line : (bytes : List ℕ) (names kept : List Name) (p : Point) (row : Row) (name : Name) (inside events : List Event) → Ordered bytes p row → Keeps names row kept → Nested_in row.first row.end inside → Under kept (behind_row row) events → Under names p ((row.front ++ inside ++ tail_events name row) ++ events)
+under-line bytes names kept p row name inside events o keeps h on =
+    let all : List Name = open_names row.change.opens ++ names in
+    let ends : List Event = ends_of row.leaves row.end in
     let ending : List Event = ending_events name row in
     let apart : (row.front ++ inside ++ (ends ++ ending)) ++ events ≡ row.front ++ (inside ++ (ends ++ (ending ++ events))) = simp append_assoc in
-    subst (Under size p) (sym apart)
-    (under-turn size many p row.first row.front (inside ++ (ends ++ (ending ++ events))) (fronts-turn bytes row.opens size p row.first row.front o.front) (fronts-spans bytes row.opens p row.first row.front o.front)
-    (under-before many row.first row.end inside (ends ++ (ending ++ events)) h
-    (under-turn many left row.end row.end ends (ending ++ events) (ends-turn row.leaves many row.end most) (ends-spans row.leaves row.end)
-    (under-before left row.end (behind_row row) ending events (ending-nested name row o.ends) on))))
+    subst (Under names p) (sym apart)
+    (under-turn names all p row.first row.front (inside ++ (ends ++ (ending ++ events))) (fronts-turn bytes row.change.opens names p row.first row.front o.front) (fronts-spans bytes row.change.opens p row.first row.front o.front)
+    (under-before all row.first row.end inside (ends ++ (ending ++ events)) h
+    (under-turn all kept row.end row.end ends (ending ++ events) (subst (λ (l : List Name). Turns l kept ends) (sym keeps) (ends-turn row.leaves kept row.end)) (ends-spans row.leaves row.end)
+    (under-before kept row.end (behind_row row) ending events (ending-nested name row o.ends) on))))
 
 -- what stands in the place of a line, in front of what stands in those of the next ones of its paragraph
-pub under-next : (size : ℕ) (p q r end : Point) (front xs inside tail events : List Event) → Nested_in p q xs → Balanced front → Under size q ((front ++ around n.Paragraph r end inside ++ tail) ++ events) →
-    Under size p (around n.Paragraph p end (xs ++ front ++ inside) ++ (tail ++ events))
-under-next size p q r end front xs inside tail events h b on =
+pub under-next : (names : List Name) (p q r end : Point) (front xs inside tail events : List Event) → Nested_in p q xs → Balanced front → Under names q ((front ++ around n.Paragraph r end inside ++ tail) ++ events) →
+    Under names p (around n.Paragraph p end (xs ++ front ++ inside) ++ (tail ++ events))
+under-next names p q r end front xs inside tail events h b on =
     let old : List Event = inside ++ (exit n.Paragraph end ∷ (tail ++ events)) in
     let before : (front ++ around n.Paragraph r end inside ++ tail) ++ events ≡ front ++ enter n.Paragraph r ∷ old = simp append_assoc in
     let apart : around n.Paragraph p end (xs ++ front ++ inside) ++ (tail ++ events) ≡ enter n.Paragraph p ∷ xs ++ (front ++ old) = simp append_assoc in
-    let was : Under size q (front ++ enter n.Paragraph r ∷ old) = subst (Under size q) before on in
-    let rest : Matches (open_after (open_quotes size) front) (enter n.Paragraph r ∷ old) = matches-rest (open_quotes size) front (enter n.Paragraph r ∷ old) was.matches in
-    let here : Matches (open_quotes size) (enter n.Paragraph r ∷ old) = subst (λ (l : List Name). Matches l (enter n.Paragraph r ∷ old)) (balanced-open (open_quotes size) front b) rest in
+    let was : Under names q (front ++ enter n.Paragraph r ∷ old) = subst (Under names q) before on in
+    let rest : Matches (open_after names front) (enter n.Paragraph r ∷ old) = matches-rest names front (enter n.Paragraph r ∷ old) was.matches in
+    let here : Matches names (enter n.Paragraph r ∷ old) = subst (λ (l : List Name). Matches l (enter n.Paragraph r ∷ old)) (balanced-open names front b) rest in
     let both : Balanced (xs ++ front) = balanced-append xs front h.0 b in
-    let names : List Name = n.Paragraph ∷ open_quotes size in
+    let inner : List Name = n.Paragraph ∷ names in
     let joined : (xs ++ front) ++ old ≡ xs ++ (front ++ old) = append_assoc xs front old in
     let on_rest : Forward (last_point q front) (enter n.Paragraph r ∷ old) = forward-rest q front (enter n.Paragraph r ∷ old) was.forward in
     let onward : Forward q (front ++ old) = forward-append q front old (forward-front q front (enter n.Paragraph r ∷ old) was.forward) (forward-from (last_point q front) r old on_rest.0 on_rest.1) in
-    subst (Under size p) (sym apart) (record {
-      matches = (tt, subst (Matches names) joined (matches-before names (xs ++ front) old both here.1));
+    subst (Under names p) (sym apart) (record {
+      matches = (tt, subst (Matches inner) joined (matches-before inner (xs ++ front) old both here.1));
       closed =
-          ap (open_after names) (sym joined)
-          ∙ open_after-before names (xs ++ front) old both
-          ∙ sym (open_after-before (open_quotes size) front (enter n.Paragraph r ∷ old) b)
+          ap (open_after inner) (sym joined)
+          ∙ open_after-before inner (xs ++ front) old both
+          ∙ sym (open_after-before names front (enter n.Paragraph r ∷ old) b)
           ∙ was.closed;
       forward = (at_or_before-refl p, forward-append p xs (front ++ old) h.1.0 (forward-from (last_point p xs) q (front ++ old) h.1.1 onward));
     })
 
--- What holds of no groups where no quote is open, and line by line of groups, of how many quotes are open where they begin
--- (behind the ends of those that end before the line), and of the point where they begin.
-pub record ByLines (bytes : List ℕ) (P : ℕ → Point → List Group → Type 0) : Type 0 where
-  pub none : (p : Point) → P 0 p []
+-- What holds of no groups where nothing is open, and line by line of groups, of the names that are open where they begin (behind
+-- the ends of the containers that end before the line), and of the point where they begin.
+pub record ByLines (bytes : List ℕ) (P : List Name → Point → List Group → Type 0) : Type 0 where
+  pub none : (p : Point) → P [] p []
   -- a line that is no text
-  pub single : (size : ℕ) (p : Point) (row : Row) (gs : List Group) → Ordered bytes p row → row.leaves ≤ size + row.opens → row.kind ≢ TextRow → P (size + row.opens - row.leaves) (behind_row row) gs → P size p (Single row ∷ gs)
+  pub single : (names kept : List Name) (p : Point) (row : Row) (gs : List Group) → Ordered bytes p row → Keeps names row kept → row.kind ≢ TextRow → P kept (behind_row row) gs → P names p (Single row ∷ gs)
   -- a line of text that is a paragraph, and one in front of a paragraph
-  pub alone : (size : ℕ) (p : Point) (row : Row) (gs : List Group) → Ordered bytes p row → row.leaves ≤ size + row.opens → P (size + row.opens - row.leaves) (behind_row row) gs → P size p (Lines row [] ∷ gs)
-  pub next : (size : ℕ) (p : Point) (row below : Row) (rows : List Row) (gs : List Group) → Ordered bytes p row → Ordered bytes (behind_row row) below → row.leaves ≡ 0 → below.opens ≡ 0 → P (size + row.opens) (behind_row row) (Lines below rows ∷ gs) →
-      P size p (Lines row (below ∷ rows) ∷ gs)
+  pub alone : (names kept : List Name) (p : Point) (row : Row) (gs : List Group) → Ordered bytes p row → Keeps names row kept → P kept (behind_row row) gs → P names p (Lines row [] ∷ gs)
+  pub next : (names : List Name) (p : Point) (row below : Row) (rows : List Row) (gs : List Group) → Ordered bytes p row → Ordered bytes (behind_row row) below → row.leaves ≡ [] → below.change.opens ≡ [] →
+      P (open_names row.change.opens ++ names) (behind_row row) (Lines below rows ∷ gs) → P names p (Lines row (below ∷ rows) ∷ gs)
 
 -- the line with which groups begin stands at a point
 abbrev Begun : List ℕ → Point → List Group → Type 0
@@ -223,22 +229,22 @@ onto-begun bytes p row (Lines below rows ∷ gs) TextRow o = go (goes_on row bel
     go false = o
 
 -- a line in front of others
-onto-holds : (bytes : List ℕ) (P : ℕ → Point → List Group → Type 0) → ByLines bytes P → (size : ℕ) (p : Point) (row : Row) (gs : List Group) → Ordered bytes p row → row.leaves ≤ size + row.opens → Begun bytes (behind_row row) gs → P (size + row.opens - row.leaves) (behind_row row) gs →
-    (kind : RowKind) → row.kind ≡ kind → P size p (onto_groups row kind gs)
-onto-holds bytes P by size p row gs o most begun h BlankRow e = by.single size p row gs o most (λ k. cc) h
-onto-holds bytes P by size p row gs o most begun h HeadingRow e = by.single size p row gs o most (λ k. cc) h
-onto-holds bytes P by size p row gs o most begun h BreakRow e = by.single size p row gs o most (λ k. cc) h
-onto-holds bytes P by size p row [] o most begun h TextRow e = by.alone size p row [] o most h
-onto-holds bytes P by size p row (Single below ∷ gs) o most begun h TextRow e = by.alone size p row (Single below ∷ gs) o most h
-onto-holds bytes P by size p row (Lines below rows ∷ gs) o most begun h TextRow e = go (goes_on row below) refl
+onto-holds : (bytes : List ℕ) (P : List Name → Point → List Group → Type 0) → ByLines bytes P → (names kept : List Name) (p : Point) (row : Row) (gs : List Group) → Ordered bytes p row → Keeps names row kept → Begun bytes (behind_row row) gs → P kept (behind_row row) gs →
+    (kind : RowKind) → row.kind ≡ kind → P names p (onto_groups row kind gs)
+onto-holds bytes P by names kept p row gs o keeps begun h BlankRow e = by.single names kept p row gs o keeps (λ k. cc) h
+onto-holds bytes P by names kept p row gs o keeps begun h HeadingRow e = by.single names kept p row gs o keeps (λ k. cc) h
+onto-holds bytes P by names kept p row gs o keeps begun h BreakRow e = by.single names kept p row gs o keeps (λ k. cc) h
+onto-holds bytes P by names kept p row [] o keeps begun h TextRow e = by.alone names kept p row [] o keeps h
+onto-holds bytes P by names kept p row (Single below ∷ gs) o keeps begun h TextRow e = by.alone names kept p row (Single below ∷ gs) o keeps h
+onto-holds bytes P by names kept p row (Lines below rows ∷ gs) o keeps begun h TextRow e = go (goes_on row below) refl
   where
-    go : (x : Bool) → goes_on row below ≡ x → P size p (cond x (Lines row (below ∷ rows) ∷ gs) (Lines row [] ∷ Lines below rows ∷ gs))
-    go false k = by.alone size p row (Lines below rows ∷ gs) o most h
+    go : (x : Bool) → goes_on row below ≡ x → P names p (cond x (Lines row (below ∷ rows) ∷ gs) (Lines row [] ∷ Lines below rows ∷ gs))
+    go false k = by.alone names kept p row (Lines below rows ∷ gs) o keeps h
     go true k =
-        let parts = and_parts (row.leaves == 0) (below.opens == 0) k in
-        let leaves : row.leaves ≡ 0 = eqb-true row.leaves 0 parts.0 in
-        let same : size + row.opens - row.leaves ≡ size + row.opens = omega (arith, leaves) in
-        by.next size p row below rows gs o begun leaves (eqb-true below.opens 0 parts.1) (subst (λ (m : ℕ). P m (behind_row row) (Lines below rows ∷ gs)) same h)
+        let parts = and_parts (is_none row.leaves) (is_none below.change.opens) k in
+        let none : row.leaves ≡ [] = none-nil row.leaves parts.0 in
+        let same : kept ≡ open_names row.change.opens ++ names = sym (keeps ∙ ap (λ (cs : List Container). open_names cs ++ kept) none) in
+        by.next names p row below rows gs o begun none (none-nil below.change.opens parts.1) (subst (λ (l : List Name). P l (behind_row row) (Lines below rows ∷ gs)) same h)
 
 -- an ending has a byte at least
 pub ending-order : (bytes : List ℕ) (p q : Point) → IsEnding bytes p q → IsTrue (at_or_before p q)
@@ -252,56 +258,66 @@ ending-order bytes p q is = go is.ending is.size
     go Return e = further 0 e
     go Both e = further 1 e
 
--- What is known of the lines of a text from a point on, where so many quotes are open: no more end before the first line, and
--- it holds of their groups.
-pub record Hold (bytes : List ℕ) (P : ℕ → Point → List Group → Type 0) (depth : ℕ) (p : Point) (rows : List Row) : Type 0 where
-  pub within : closes_before depth rows ≤ depth
+-- What is known of the lines of a text from a point on, where these containers are open: some of them end before the first line, and
+-- where the others are left, it holds of the groups of the lines.
+pub record Hold (bytes : List ℕ) (P : List Name → Point → List Group → Type 0) (cs : List Container) (p : Point) (rows : List Row) : Type 0 where
+  pub names : List Name
+  pub left : open_names cs ≡ open_names (closes_before cs rows) ++ names
   pub begun : Begun bytes p (groups rows)
-  pub holds : P (depth - closes_before depth rows) p (groups rows)
+  pub holds : P names p (groups rows)
 
-line-holds : (options : ParseOptions) (bytes : List ℕ) (P : ℕ → Point → List Group → Type 0) → ByLines bytes P → (depth : ℕ) (going : Bool) (p : Point) (line : List ℕ) (row : Row) (gs : List Group) → IsLine options bytes depth going p line row → IsTrue (at_or_before row.end (behind_row row)) →
-    row.leaves ≤ depth_behind options depth going p line → Begun bytes (behind_row row) gs → P (depth_behind options depth going p line - row.leaves) (behind_row row) gs →
-    (row.closes ≤ depth) × (Begun bytes p (onto_groups row row.kind gs) × P (depth - row.closes) p (onto_groups row row.kind gs))
-line-holds options bytes P by depth going p line row gs is ends most begun h =
-    let o : Ordered bytes p row = ordered options bytes (rest_line (quoted options depth going (rest_from p line)).rest) p row is.front is.is ends in
-    let facts = quoted-depth options depth going (rest_from p line) in
-    let closes : row.closes ≤ depth = subst (λ (m : ℕ). m ≤ depth) (sym is.closes) facts.0 in
-    let behind : depth_behind options depth going p line ≡ depth - row.closes + row.opens =
-    facts.1 ∙ ap (λ (m : ℕ). depth - m + (quoted options depth going (rest_from p line)).opens) (sym is.closes) ∙ ap (λ (m : ℕ). depth - row.closes + m) (sym is.opens) in (
-      closes,
-      (
-        onto-begun bytes p row gs row.kind o,
-        onto-holds bytes P by (depth - row.closes) p row gs o (subst (λ (m : ℕ). row.leaves ≤ m) behind most) begun (subst (λ (m : ℕ). P (m - row.leaves) (behind_row row) gs) behind h) row.kind refl,
-      ),
-    )
+-- what was open before a line ends there or stays
+change-names : (options : ParseOptions) (bytes line : List ℕ) (cs : List Container) (going : Bool) (p : Point) (row : Row) → IsLine options bytes cs going p line row → open_names cs ≡ open_names row.change.closes ++ open_names row.change.stays
+change-names options bytes line cs going p row is =
+    subst (λ (change : Change). open_names cs ≡ open_names change.closes ++ open_names change.stays) (sym is.change)
+    (sym (shapes-names (change.stays ++ change.closes) cs (contained-shapes options cs going (rest_from p line))) ∙ names-append change.stays change.closes)
+  where
+    change : Change
+    change = (contained options cs going (rest_from p line)).change
+
+-- what is open behind a line, without what ends there, is what the line leaves
+change-keeps : (options : ParseOptions) (bytes line : List ℕ) (cs : List Container) (going : Bool) (p : Point) (row : Row) (kept : List Name) → IsLine options bytes cs going p line row → open_names (behind_line options cs going p line) ≡ open_names row.leaves ++ kept →
+    Keeps (open_names row.change.stays) row kept
+change-keeps options bytes line cs going p row kept is h = sym (names-append row.change.stays row.change.opens) ∙ ap (λ (change : Change). open_names (open_behind change)) is.change ∙ h
+
+line-holds : (options : ParseOptions) (bytes : List ℕ) (P : List Name → Point → List Group → Type 0) → ByLines bytes P → (cs : List Container) (going : Bool) (p : Point) (line : List ℕ) (row : Row) (rows : List Row) (kept : List Name) → IsLine options bytes cs going p line row →
+    IsTrue (at_or_before row.end (behind_row row)) → open_names (behind_line options cs going p line) ≡ open_names row.leaves ++ kept → Begun bytes (behind_row row) (groups rows) → P kept (behind_row row) (groups rows) → Hold bytes P cs p (row ∷ rows)
+line-holds options bytes P by cs going p line row rows kept is ends left begun h =
+    let o : Ordered bytes p row = ordered options bytes (rest_line (contained options cs going (rest_from p line)).rest) p row is.front is.is ends in
+    record {
+      names = open_names row.change.stays;
+      left = change-names options bytes line cs going p row is;
+      begun = onto-begun bytes p row (groups rows) row.kind o;
+      holds = onto-holds bytes P by (open_names row.change.stays) kept p row (groups rows) o (change-keeps options bytes line cs going p row kept is left) begun h row.kind refl;
+    }
 
 -- It holds of the groups of a text.
-pub lines-hold : (options : ParseOptions) (bytes : List ℕ) (P : ℕ → Point → List Group → Type 0) → ByLines bytes P → (depth : ℕ) (going : Bool) (p : Point) (lines : List (List ℕ)) (rows : List Row) → AreRows options bytes depth going p lines rows → Hold bytes P depth p rows
-lines-hold options bytes P by depth going p (line ∷ []) (row ∷ []) are =
-    let behind : ℕ = depth_behind options depth going p line in
+pub lines-hold : (options : ParseOptions) (bytes : List ℕ) (P : List Name → Point → List Group → Type 0) → ByLines bytes P → (cs : List Container) (going : Bool) (p : Point) (lines : List (List ℕ)) (rows : List Row) → AreRows options bytes cs going p lines rows → Hold bytes P cs p rows
+lines-hold options bytes P by cs going p (line ∷ []) (row ∷ []) are =
+    let behind : List Container = behind_line options cs going p line in
     let ends : IsTrue (at_or_before row.end (behind_row row)) = subst (λ (q : Point). IsTrue (at_or_before row.end q)) (sym (behind-none row are.2)) (at_or_before-refl row.end) in
-    let leaves : row.leaves ≡ behind = are.1 in
-    let none : 0 ≡ behind - row.leaves = omega (arith, leaves) in
-    let facts = line-holds options bytes P by depth going p line row [] are.0 ends (omega (arith, leaves)) tt (subst (λ (m : ℕ). P m (behind_row row) []) none (by.none (behind_row row))) in
-    record { within = facts.0; begun = facts.1.0; holds = facts.1.1 }
-lines-hold options bytes P by depth going p (line ∷ next ∷ lines) (row ∷ below ∷ rows) are =
-    let many : ℕ = depth_behind options depth going p line in
+    let left : open_names behind ≡ open_names row.leaves ++ [] = sym (append-nil (open_names row.leaves) ∙ ap open_names are.1) in
+    line-holds options bytes P by cs going p line row [] [] are.0 ends left tt (by.none (behind_row row))
+lines-hold options bytes P by cs going p (line ∷ next ∷ lines) (row ∷ below ∷ rows) are =
+    let many : List Container = behind_line options cs going p line in
     let behind : behind_row row ≡ are.2 = behind-is row are.2 are.3 in
     let ends : IsTrue (at_or_before row.end (behind_row row)) = subst (λ (q : Point). IsTrue (at_or_before row.end q)) (sym behind) (ending-order bytes row.end are.2 are.4) in
     let more : Hold bytes P many are.2 (below ∷ rows) = lines-hold options bytes P by many (is_text row.kind) are.2 (next ∷ lines) (below ∷ rows) are.5 in
-    let facts =
-    line-holds options bytes P by depth going p line row (groups (below ∷ rows)) are.0 ends (subst (λ (m : ℕ). m ≤ many) (sym are.1) more.within)
+    line-holds options bytes P by cs going p line row (below ∷ rows) more.names are.0 ends (more.left ∙ ap (λ (l : List Container). open_names l ++ more.names) (sym are.1))
     (subst (λ (q : Point). Begun bytes q (groups (below ∷ rows))) (sym behind) more.begun)
-    (subst (λ (q : Point). P (many - row.leaves) q (groups (below ∷ rows))) (sym behind) (subst (λ (m : ℕ). P (many - m) are.2 (groups (below ∷ rows))) (sym are.1) more.holds)) in
-    record { within = facts.0; begun = facts.1.0; holds = facts.1.1 }
-lines-hold options bytes P by depth going p lines rows are = absurd are
+    (subst (λ (q : Point). P more.names q (groups (below ∷ rows))) (sym behind) more.holds)
+lines-hold options bytes P by cs going p lines rows are = absurd are
+
+-- nothing is left of nothing
+none-left : (ended names : List Name) → [] ≡ ended ++ names → names ≡ []
+none-left [] names e = sym e
+none-left (name ∷ ended) names e = cc
 
 -- It holds of those of a whole text.
-pub rows-hold : (bytes : List ℕ) (P : ℕ → Point → List Group → Type 0) → ByLines bytes P → (options : ParseOptions) (p : Point) (lines : List (List ℕ)) (rows : List Row) → AreRows options bytes 0 false p lines rows → P 0 p (groups rows)
+pub rows-hold : (bytes : List ℕ) (P : List Name → Point → List Group → Type 0) → ByLines bytes P → (options : ParseOptions) (p : Point) (lines : List (List ℕ)) (rows : List Row) → AreRows options bytes [] false p lines rows → P [] p (groups rows)
 rows-hold bytes P by options p lines rows are =
-    let hold : Hold bytes P 0 p rows = lines-hold options bytes P by 0 false p lines rows are in
-    let none : 0 - closes_before 0 rows ≡ 0 = omega arith in
-    subst (λ (m : ℕ). P m p (groups rows)) none hold.holds
+    let hold : Hold bytes P [] p rows = lines-hold options bytes P by [] false p lines rows are in
+    subst (λ (l : List Name). P l p (groups rows)) (none-left (open_names (closes_before [] rows)) hold.names hold.left) hold.holds
 
 -- The events of a text.
 
@@ -309,38 +325,38 @@ rows-hold bytes P by options p lines rows are =
 abbrev pub Nests : List ℕ → Point → List Group → Type 0
 Nests bytes p gs = Onward p (groups_events bytes gs)
 
-abbrev NestsUnder : List ℕ → ℕ → Point → List Group → Type 0
-NestsUnder bytes size p gs = Under size p (groups_events bytes gs)
+abbrev NestsUnder : List ℕ → List Name → Point → List Group → Type 0
+NestsUnder bytes names p gs = Under names p (groups_events bytes gs)
 
-single-nested : (bytes : List ℕ) (size : ℕ) (p : Point) (row : Row) (events : List Event) → Ordered bytes p row → row.leaves ≤ size + row.opens → row.kind ≢ TextRow → Under (size + row.opens - row.leaves) (behind_row row) events → (kind : RowKind) → row.kind ≡ kind → Under size p (single_events_by bytes kind row ++ events)
-single-nested bytes size p row events o most other on BlankRow e = under-line bytes size p row n.BlankLineEnding row.inside events o most (blank-nested bytes p row o e) on
-single-nested bytes size p row events o most other on HeadingRow e =
+single-nested : (bytes : List ℕ) (names kept : List Name) (p : Point) (row : Row) (events : List Event) → Ordered bytes p row → Keeps names row kept → row.kind ≢ TextRow → Under kept (behind_row row) events → (kind : RowKind) → row.kind ≡ kind → Under names p (single_events_by bytes kind row ++ events)
+single-nested bytes names kept p row events o keeps other on BlankRow e = under-line bytes names kept p row n.BlankLineEnding row.inside events o keeps (blank-nested bytes p row o e) on
+single-nested bytes names kept p row events o keeps other on HeadingRow e =
     let inside : List Event = (row_title bytes row).front ++ read_text bytes (row_title bytes row).text ++ (row_title bytes row).back in
-    under-line bytes size p row n.LineEnding (around n.HeadingAtx row.first row.end inside) events o most (heading-nested bytes p row (read_text bytes (row_title bytes row).text) o (text-nested bytes (row_line bytes row) row.first)) on
-single-nested bytes size p row events o most other on BreakRow e = under-line bytes size p row n.LineEnding (around n.ThematicBreak row.first row.end row.inside) events o most (break-nested bytes p row o e) on
-single-nested bytes size p row events o most other on TextRow e = absurd (other e)
+    under-line bytes names kept p row n.LineEnding (around n.HeadingAtx row.first row.end inside) events o keeps (heading-nested bytes p row (read_text bytes (row_title bytes row).text) o (text-nested bytes (row_line bytes row) row.first)) on
+single-nested bytes names kept p row events o keeps other on BreakRow e = under-line bytes names kept p row n.LineEnding (around n.ThematicBreak row.first row.end row.inside) events o keeps (break-nested bytes p row o e) on
+single-nested bytes names kept p row events o keeps other on TextRow e = absurd (other e)
 
 nests-by_lines : (bytes : List ℕ) → ByLines bytes (NestsUnder bytes)
 nests-by_lines bytes = record {
   none = λ p. record { matches = tt; closed = refl; forward = tt };
-  single = λ size p row gs o most other on. single-nested bytes size p row (groups_events bytes gs) o most other on row.kind refl;
-  alone = λ size p row gs o most on.
+  single = λ names kept p row gs o keeps other on. single-nested bytes names kept p row (groups_events bytes gs) o keeps other on row.kind refl;
+  alone = λ names kept p row gs o keeps on.
       let chunk : Chunk = record { first = row.first; after = row.end } in
       let inside : List Event = plain_chunk bytes chunk in
-      under-line bytes size p row n.LineEnding (around n.Paragraph row.first row.end inside) (groups_events bytes gs) o most (around-nested n.Paragraph row.first row.end inside (chunk-nested bytes chunk (line-order bytes p row o))) on;
-  next = λ size p row below rows gs o under leaves opens on.
+      under-line bytes names kept p row n.LineEnding (around n.Paragraph row.first row.end inside) (groups_events bytes gs) o keeps (around-nested n.Paragraph row.first row.end inside (chunk-nested bytes chunk (line-order bytes p row o))) on;
+  next = λ names p row below rows gs o under leaves opens on.
       let chunk : Chunk = record { first = row.first; after = behind_row row } in
       let last : Row = last_row below rows in
       let tail : List Event = tail_events n.LineEnding last in
       let more : List Event = groups_events bytes gs in
       let whole : List Event = around n.Paragraph row.first last.end (plain_chunk bytes chunk ++ below.front ++ read_lines bytes below rows) in
       let apart : (row.front ++ whole ++ tail) ++ more ≡ row.front ++ (whole ++ (tail ++ more)) = simp append_assoc in
-      subst (Under size p) (sym apart)
-      (under-turn size (size + row.opens) p row.first row.front (whole ++ (tail ++ more)) (fronts-turn bytes row.opens size p row.first row.front o.front) (fronts-spans bytes row.opens p row.first row.front o.front)
-      (under-next (size + row.opens) row.first (behind_row row) below.first last.end below.front (plain_chunk bytes chunk) (read_lines bytes below rows) tail more
-      (chunk-nested bytes chunk (behind-order bytes p row o)) (fronts-balanced bytes below.opens (behind_row row) below.first below.front under.front opens) on));
+      subst (Under names p) (sym apart)
+      (under-turn names (open_names row.change.opens ++ names) p row.first row.front (whole ++ (tail ++ more)) (fronts-turn bytes row.change.opens names p row.first row.front o.front) (fronts-spans bytes row.change.opens p row.first row.front o.front)
+      (under-next (open_names row.change.opens ++ names) row.first (behind_row row) below.first last.end below.front (plain_chunk bytes chunk) (read_lines bytes below rows) tail more
+      (chunk-nested bytes chunk (behind-order bytes p row o)) (fronts-balanced bytes below.change.opens (behind_row row) below.first below.front under.front opens) on));
 }
 
 -- The groups of the lines of a text nest.
-pub rows-nest : (options : ParseOptions) (bytes : List ℕ) (p : Point) (lines : List (List ℕ)) (rows : List Row) → AreRows options bytes 0 false p lines rows → Nests bytes p (groups rows)
+pub rows-nest : (options : ParseOptions) (bytes : List ℕ) (p : Point) (lines : List (List ℕ)) (rows : List Row) → AreRows options bytes [] false p lines rows → Nests bytes p (groups rows)
 rows-nest options bytes p lines rows are = under-none p (groups_events bytes (groups rows)) (rows-hold bytes (NestsUnder bytes) (nests-by_lines bytes) options p lines rows are)

@@ -1,5 +1,5 @@
 -- The text parts of a text, before they are read, stand as its tiling asks: one chunk a line, and no chunk elsewhere.
-use Rattle.std.proofs.Common.{◌≡◌, ◌≢◌, ℕ, ◌+◌, ◌-◌, ◌≤◌, Bool, true, false, cond, not, ◌&&◌, List, [], ◌∷◌, ◌++◌, length, drop, take, refl, ap, sym, ◌∙◌, subst, append_assoc, append-nil, arith}
+use Rattle.std.proofs.Common.{◌≡◌, ◌≢◌, ℕ, ◌+◌, Bool, true, false, cond, not, ◌&&◌, List, [], ◌∷◌, ◌++◌, length, drop, take, refl, ap, sym, ◌∙◌, subst, append_assoc, append-nil, arith}
 use Rattle.std.specs.Prelude.{◌==◌, IsTrue, Option, Some, None}
 use Rattle.std.specs.List.{list_all}
 use Rattle.std.proofs.lemmas.Bool.{and_from, and_parts}
@@ -24,18 +24,20 @@ use Rattle.md_seam.specs.Inline.{Piece, are_lines, pieces}
 use Rattle.md_seam.specs.Nested.{Nested, around, enter, enter_link, exit, pair, is_exit}
 use Rattle.md_seam.specs.Places.{at_or_before, first_point, same_place}
 use Rattle.md_seam.specs.Preamble.{has_mark}
+use Rattle.md_seam.specs.State.{Container, InQuote}
 use Rattle.md_seam.specs.Tiles.{chunks, chunks_stand, inside_part, is_part, is_white_piece, part_end, part_kind, part_stands, parts_stand, stands_in_part}
 use Rattle.md_seam.proofs.NestedLemmas.{at_or_before-refl, balanced-none}
+use Rattle.markdown_blocks.specs.Change.{ends_of}
 use Rattle.markdown_blocks.specs.Document.{body_point, mark_end, mark_events}
-use Rattle.markdown_blocks.specs.Rows.{BlankRow, BreakRow, Group, HeadingRow, Lines, Row, RowKind, Single, TextRow, behind_row, chunks_of, ending_events, groups, last_row, quote_ends, row_line, row_title, tail_events}
+use Rattle.markdown_blocks.specs.Rows.{BlankRow, BreakRow, Group, HeadingRow, Lines, Row, RowKind, Single, TextRow, behind_row, chunks_of, ending_events, groups, last_row, row_line, row_title, tail_events}
 use Rattle.markdown_blocks.specs.Unread.{linked, linked_lines, titled_group, titled_groups, titled_row_by, unread_paragraph}
-use Rattle.markdown_blocks.proofs.FrontFacts.{Behind, Begins, Fronts, Goes, IsPrefix}
-use Rattle.markdown_blocks.proofs.FrontLemmas.{fronts-balanced, fronts-spans, fronts-turn}
+use Rattle.markdown_blocks.proofs.FrontFacts.{Behind, Begins, Fronts, Goes, IsFurther, IsPrefix}
+use Rattle.markdown_blocks.proofs.FrontLemmas.{fronts-balanced, fronts-spans, fronts-turn, open_names}
 use Rattle.markdown_blocks.proofs.FrontParts.{ends-no_parts, ends-unlinked, fronts-no_parts, fronts-unlinked}
 use Rattle.markdown_blocks.proofs.GroupLemmas.{AreGroups, HasFront, IsParagraph, IsSingle, groups-are, paragraph-lines, title-lines}
 use Rattle.markdown_blocks.proofs.JoinedLemmas.{EachNoContent}
 use Rattle.markdown_blocks.proofs.MarkLemmas.{mark-nested}
-use Rattle.markdown_blocks.proofs.NestedRows.{ByLines, Nested_in, Onward, Ordered, Under, around-nested, behind-order, blank-nested, break-nested, heading-nested, line-order, rows-hold, under-line, under-next, under-none, under-turn}
+use Rattle.markdown_blocks.proofs.NestedRows.{ByLines, Keeps, Nested_in, Onward, Ordered, Under, around-nested, behind-order, blank-nested, break-nested, heading-nested, line-order, rows-hold, under-line, under-next, under-none, under-turn}
 use Rattle.markdown_blocks.proofs.PartFacts.{AreUnlinked, EachUnlinked, IsUnlinked, NoParts, end-goes, groups-unlinked, linked-chunks, linked-no_parts, no_parts-append, part-inside, pieces-behind, quiet-no_parts, runs-no_parts}
 use Rattle.markdown_blocks.proofs.PiecesLemmas.{Ends, ends-append, pieces-ended}
 use Rattle.markdown_blocks.proofs.RowFacts.{AreRows, IsInside, IsRow}
@@ -124,11 +126,16 @@ prefix-inside bytes p q es is = subst (Inside bytes []) (sym is.events) (go (sam
     go false true = record { outside = (refl, (refl, (refl, (refl, (refl, (refl, tt)))))); ends = refl; white = rw is.white_before refl; has = refl; stand = λ ys. refl }
     go false false = record { outside = (refl, (refl, (refl, (refl, (refl, (refl, (refl, (refl, tt)))))))); ends = refl; white = rw (is.white_before, is.white_behind) refl; has = refl; stand = λ ys. refl }
 
--- those in front of a further line of a paragraph
-fronts-inside : (bytes : List ℕ) (opens : ℕ) (p q : Point) (es : List Event) → opens ≡ 0 → Fronts bytes opens p q es → Inside bytes [] es
+-- what stands in front of the content of a container that goes on
+further-inside : (bytes : List ℕ) (c : Container) (p q : Point) (es : List Event) → IsFurther bytes c p q es → Inside bytes [] es
+further-inside bytes InQuote p q es is = prefix-inside bytes p q es is
+further-inside bytes c p q es is = absurd is
+
+-- what stands in front of a further line of a paragraph
+fronts-inside : (bytes : List ℕ) (opens : List Container) (p q : Point) (es : List Event) → opens ≡ [] → Fronts bytes opens p q es → Inside bytes [] es
 fronts-inside bytes opens p q es none (Behind at) = record { outside = tt; ends = refl; white = refl; has = refl; stand = λ ys. refl }
-fronts-inside bytes opens first last es none (Goes same p q r xs ys is more) = inside-append bytes [] [] xs ys (prefix-inside bytes p q xs is) (fronts-inside bytes same q r ys none more)
-fronts-inside bytes opens first last es none (Begins before p q r xs ys is more) = absurd (omega (arith, none))
+fronts-inside bytes opens first last es none (Goes c same p q r xs ys is more) = inside-append bytes [] [] xs ys (further-inside bytes c p q xs is) (fronts-inside bytes same q r ys none more)
+fronts-inside bytes opens first last es none (Begins c before p q r xs ys is more) = cc
 
 -- the lines of a paragraph
 inside-chunk : (bytes : List ℕ) (p q : Point) → Inside bytes ((record { first = p; after = q }) ∷ []) (enter_link n.Data p text_link ∷ exit n.Data q ∷ [])
@@ -140,7 +147,7 @@ lines-inside options bytes row (next ∷ rows) is =
     let q : Point = behind_row row in
     let lines : List Event = linked_lines n.Data text_link next rows in
     inside-append bytes ((record { first = row.first; after = q }) ∷ []) (chunks_of next rows) (enter_link n.Data row.first text_link ∷ exit n.Data q ∷ []) (next.front ++ lines) (inside-chunk bytes row.first q)
-    (inside-append bytes [] (chunks_of next rows) next.front lines (fronts-inside bytes 0 is.3 next.first next.front refl is.6) (lines-inside options bytes next rows is.7))
+    (inside-append bytes [] (chunks_of next rows) next.front lines (fronts-inside bytes [] is.3 next.first next.front refl is.6) (lines-inside options bytes next rows is.7))
 
 -- Events in front of others.
 
@@ -174,8 +181,8 @@ stands-ending bytes name row other = go row.after
 stands-line : (bytes : List ℕ) (name : Name) (row last : Row) (es : List Event) → part_kind name ≡ None → HasFront bytes row → Stands bytes es → Stands bytes (row.front ++ es ++ tail_events name last)
 stands-line bytes name row last es other front h =
     stands-append bytes (row.front ++ es) (tail_events name last)
-    (stands-append bytes row.front es (stands-outside bytes row.front (fronts-no_parts bytes row.opens front.0 row.first row.front front.1) (fronts-unlinked bytes row.opens front.0 row.first row.front front.1)) h)
-    (stands-append bytes (quote_ends last.leaves last.end) (ending_events name last) (stands-outside bytes (quote_ends last.leaves last.end) (ends-no_parts last.leaves last.end) (ends-unlinked last.leaves last.end))
+    (stands-append bytes row.front es (stands-outside bytes row.front (fronts-no_parts bytes row.change.opens front.0 row.first row.front front.1) (fronts-unlinked bytes row.change.opens front.0 row.first row.front front.1)) h)
+    (stands-append bytes (ends_of last.leaves last.end) (ending_events name last) (stands-outside bytes (ends_of last.leaves last.end) (ends-no_parts last.leaves last.end) (ends-unlinked last.leaves last.end))
     (stands-ending bytes name last other))
 
 -- A text part of chunks that are lines.
@@ -263,8 +270,8 @@ stands-groups options bytes (Single row ∷ gs) are unlinked =
 stands-groups options bytes (Lines row rows ∷ gs) are unlinked =
     stands-append bytes (titled_group bytes (Lines row rows)) (titled_groups bytes gs) (stands-lines options bytes row rows are.0 are.2) (stands-groups options bytes gs are.3 unlinked)
 
-rows-stand : (options : ParseOptions) (bytes : List ℕ) (depth : ℕ) (going : Bool) (p : Point) (lines : List (List ℕ)) (rows : List Row) → AreRows options bytes depth going p lines rows → EachNoContent rows → EachUnlinked rows → Stands bytes (titled_groups bytes (groups rows))
-rows-stand options bytes depth going p lines rows are quiet unlinked = stands-groups options bytes (groups rows) (groups-are options bytes depth going p lines rows are quiet) (groups-unlinked rows unlinked)
+rows-stand : (options : ParseOptions) (bytes : List ℕ) (cs : List Container) (going : Bool) (p : Point) (lines : List (List ℕ)) (rows : List Row) → AreRows options bytes cs going p lines rows → EachNoContent rows → EachUnlinked rows → Stands bytes (titled_groups bytes (groups rows))
+rows-stand options bytes cs going p lines rows are quiet unlinked = stands-groups options bytes (groups rows) (groups-are options bytes cs going p lines rows are quiet) (groups-unlinked rows unlinked)
 
 -- The text parts of a text.
 all-stand : (bytes : List ℕ) (xs : List Event) → Stands bytes xs → parts_stand bytes xs ≡ true
@@ -281,16 +288,16 @@ stands-mark bytes = go (has_mark bytes)
     go true = stands-outside bytes (pair n.ByteOrderMark first_point mark_end) (refl, (refl, tt)) (refl, (refl, tt))
     go false = stands-outside bytes [] tt tt
 
-blocks-both : (options : ParseOptions) (bytes : List ℕ) (depth : ℕ) (going : Bool) (p : Point) (lines : List (List ℕ)) (rows : List Row) → AreRows options bytes depth going p lines rows → EachNoContent rows → EachUnlinked rows → Stands bytes (mark_events bytes ++ titled_groups bytes (groups rows))
-blocks-both options bytes depth going p lines rows are quiet unlinked = stands-append bytes (mark_events bytes) (titled_groups bytes (groups rows)) (stands-mark bytes) (rows-stand options bytes depth going p lines rows are quiet unlinked)
+blocks-both : (options : ParseOptions) (bytes : List ℕ) (cs : List Container) (going : Bool) (p : Point) (lines : List (List ℕ)) (rows : List Row) → AreRows options bytes cs going p lines rows → EachNoContent rows → EachUnlinked rows → Stands bytes (mark_events bytes ++ titled_groups bytes (groups rows))
+blocks-both options bytes cs going p lines rows are quiet unlinked = stands-append bytes (mark_events bytes) (titled_groups bytes (groups rows)) (stands-mark bytes) (rows-stand options bytes cs going p lines rows are quiet unlinked)
 
-pub blocks-stand : (options : ParseOptions) (bytes : List ℕ) (depth : ℕ) (going : Bool) (p : Point) (lines : List (List ℕ)) (rows : List Row) → AreRows options bytes depth going p lines rows → EachNoContent rows → EachUnlinked rows →
+pub blocks-stand : (options : ParseOptions) (bytes : List ℕ) (cs : List Container) (going : Bool) (p : Point) (lines : List (List ℕ)) (rows : List Row) → AreRows options bytes cs going p lines rows → EachNoContent rows → EachUnlinked rows →
     parts_stand bytes (mark_events bytes ++ titled_groups bytes (groups rows)) ≡ true
-blocks-stand options bytes depth going p lines rows are quiet unlinked = all-stand bytes (mark_events bytes ++ titled_groups bytes (groups rows)) (blocks-both options bytes depth going p lines rows are quiet unlinked)
+blocks-stand options bytes cs going p lines rows are quiet unlinked = all-stand bytes (mark_events bytes ++ titled_groups bytes (groups rows)) (blocks-both options bytes cs going p lines rows are quiet unlinked)
 
-pub blocks-chunks : (options : ParseOptions) (bytes : List ℕ) (depth : ℕ) (going : Bool) (p : Point) (lines : List (List ℕ)) (rows : List Row) → AreRows options bytes depth going p lines rows → EachNoContent rows → EachUnlinked rows →
+pub blocks-chunks : (options : ParseOptions) (bytes : List ℕ) (cs : List Container) (going : Bool) (p : Point) (lines : List (List ℕ)) (rows : List Row) → AreRows options bytes cs going p lines rows → EachNoContent rows → EachUnlinked rows →
     chunks_stand 0 (mark_events bytes ++ titled_groups bytes (groups rows)) ≡ true
-blocks-chunks options bytes depth going p lines rows are quiet unlinked = all-chunks bytes (mark_events bytes ++ titled_groups bytes (groups rows)) (blocks-both options bytes depth going p lines rows are quiet unlinked)
+blocks-chunks options bytes cs going p lines rows are quiet unlinked = all-chunks bytes (mark_events bytes ++ titled_groups bytes (groups rows)) (blocks-both options bytes cs going p lines rows are quiet unlinked)
 
 -- Their events nest.
 
@@ -312,29 +319,29 @@ text-nested line p = go (length (text_of line) == 0)
     go true = (balanced-none, (tt, text-order line p))
     go false = around-nested n.HeadingAtxText begin end (enter_link n.Data begin heading_link ∷ exit n.Data end ∷ []) (linked-nested heading_link begin end (text-order line p))
 
-single-nested : (bytes : List ℕ) (size : ℕ) (p : Point) (row : Row) (events : List Event) → Ordered bytes p row → row.leaves ≤ size + row.opens → row.kind ≢ TextRow → Under (size + row.opens - row.leaves) (behind_row row) events → (kind : RowKind) → row.kind ≡ kind →
-    Under size p (titled_row_by bytes kind row ++ events)
-single-nested bytes size p row events o most other on BlankRow e = under-line bytes size p row n.BlankLineEnding row.inside events o most (blank-nested bytes p row o e) on
-single-nested bytes size p row events o most other on HeadingRow e =
+single-nested : (bytes : List ℕ) (names kept : List Name) (p : Point) (row : Row) (events : List Event) → Ordered bytes p row → Keeps names row kept → row.kind ≢ TextRow → Under kept (behind_row row) events → (kind : RowKind) → row.kind ≡ kind →
+    Under names p (titled_row_by bytes kind row ++ events)
+single-nested bytes names kept p row events o keeps other on BlankRow e = under-line bytes names kept p row n.BlankLineEnding row.inside events o keeps (blank-nested bytes p row o e) on
+single-nested bytes names kept p row events o keeps other on HeadingRow e =
     let text : List Event = linked_text (row_title bytes row).text in
     let inside : List Event = (row_title bytes row).front ++ text ++ (row_title bytes row).back in
-    under-line bytes size p row n.LineEnding (around n.HeadingAtx row.first row.end inside) events o most (heading-nested bytes p row text o (text-nested (row_line bytes row) row.first)) on
-single-nested bytes size p row events o most other on BreakRow e = under-line bytes size p row n.LineEnding (around n.ThematicBreak row.first row.end row.inside) events o most (break-nested bytes p row o e) on
-single-nested bytes size p row events o most other on TextRow e = absurd (other e)
+    under-line bytes names kept p row n.LineEnding (around n.HeadingAtx row.first row.end inside) events o keeps (heading-nested bytes p row text o (text-nested (row_line bytes row) row.first)) on
+single-nested bytes names kept p row events o keeps other on BreakRow e = under-line bytes names kept p row n.LineEnding (around n.ThematicBreak row.first row.end row.inside) events o keeps (break-nested bytes p row o e) on
+single-nested bytes names kept p row events o keeps other on TextRow e = absurd (other e)
 
--- so many quotes are open in front of groups
-abbrev Titled : List ℕ → ℕ → Point → List Group → Type 0
-Titled bytes size p gs = Under size p (titled_groups bytes gs)
+-- these names are open in front of groups
+abbrev Titled : List ℕ → List Name → Point → List Group → Type 0
+Titled bytes names p gs = Under names p (titled_groups bytes gs)
 
 titled-by_lines : (bytes : List ℕ) → ByLines bytes (Titled bytes)
 titled-by_lines bytes = record {
   none = λ p. record { matches = tt; closed = refl; forward = tt };
-  single = λ size p row gs o most other on. single-nested bytes size p row (titled_groups bytes gs) o most other on row.kind refl;
-  alone = λ size p row gs o most on.
+  single = λ names kept p row gs o keeps other on. single-nested bytes names kept p row (titled_groups bytes gs) o keeps other on row.kind refl;
+  alone = λ names kept p row gs o keeps on.
       let inside : List Event = enter_link n.Data row.first text_link ∷ exit n.Data row.end ∷ [] in
-      under-line bytes size p row n.LineEnding (around n.Paragraph row.first row.end inside) (titled_groups bytes gs) o most
+      under-line bytes names kept p row n.LineEnding (around n.Paragraph row.first row.end inside) (titled_groups bytes gs) o keeps
       (around-nested n.Paragraph row.first row.end inside (linked-nested text_link row.first row.end (line-order bytes p row o))) on;
-  next = λ size p row below rows gs o under leaves opens on.
+  next = λ names p row below rows gs o under leaves opens on.
       let q : Point = behind_row row in
       let chunk : List Event = enter_link n.Data row.first text_link ∷ exit n.Data q ∷ [] in
       let last : Row = last_row below rows in
@@ -343,16 +350,16 @@ titled-by_lines bytes = record {
       let more : List Event = titled_groups bytes gs in
       let whole : List Event = around n.Paragraph row.first last.end (chunk ++ below.front ++ lines) in
       let apart : (row.front ++ whole ++ tail) ++ more ≡ row.front ++ (whole ++ (tail ++ more)) = append_assoc (row.front ++ whole) tail more ∙ append_assoc row.front whole (tail ++ more) in
-      subst (Under size p) (sym apart)
-      (under-turn size (size + row.opens) p row.first row.front (whole ++ (tail ++ more)) (fronts-turn bytes row.opens size p row.first row.front o.front) (fronts-spans bytes row.opens p row.first row.front o.front)
-      (under-next (size + row.opens) row.first q below.first last.end below.front chunk lines tail more (linked-nested text_link row.first q (behind-order bytes p row o))
-      (fronts-balanced bytes below.opens q below.first below.front under.front opens) on));
+      subst (Under names p) (sym apart)
+      (under-turn names (open_names row.change.opens ++ names) p row.first row.front (whole ++ (tail ++ more)) (fronts-turn bytes row.change.opens names p row.first row.front o.front) (fronts-spans bytes row.change.opens p row.first row.front o.front)
+      (under-next (open_names row.change.opens ++ names) row.first q below.first last.end below.front chunk lines tail more (linked-nested text_link row.first q (behind-order bytes p row o))
+      (fronts-balanced bytes below.change.opens q below.first below.front under.front opens) on));
 }
 
-titled-nest : (options : ParseOptions) (bytes : List ℕ) (p : Point) (lines : List (List ℕ)) (rows : List Row) → AreRows options bytes 0 false p lines rows → Onward p (titled_groups bytes (groups rows))
+titled-nest : (options : ParseOptions) (bytes : List ℕ) (p : Point) (lines : List (List ℕ)) (rows : List Row) → AreRows options bytes [] false p lines rows → Onward p (titled_groups bytes (groups rows))
 titled-nest options bytes p lines rows are = under-none p (titled_groups bytes (groups rows)) (rows-hold bytes (Titled bytes) (titled-by_lines bytes) options p lines rows are)
 
-pub blocks-nested : (options : ParseOptions) (bytes : List ℕ) (lines : List (List ℕ)) (rows : List Row) → AreRows options bytes 0 false (body_point bytes) lines rows → Nested (mark_events bytes ++ titled_groups bytes (groups rows))
+pub blocks-nested : (options : ParseOptions) (bytes : List ℕ) (lines : List (List ℕ)) (rows : List Row) → AreRows options bytes [] false (body_point bytes) lines rows → Nested (mark_events bytes ++ titled_groups bytes (groups rows))
 blocks-nested options bytes lines rows are =
     let nests : Onward (body_point bytes) (titled_groups bytes (groups rows)) = titled-nest options bytes (body_point bytes) lines rows are in
     mark-nested bytes (titled_groups bytes (groups rows)) nests.balanced nests.forward
