@@ -10,6 +10,7 @@ pub mod FrontLemmas
 pub mod FrontPlaces
 pub mod FrontNames
 pub mod RowFacts
+pub mod ContainedLemmas
 pub mod HeadingSpread
 pub mod LineKinds
 pub mod HeadingLines

@@ -1,5 +1,5 @@
 -- The tree of a text where quotes, headings and breaks alone may be on is what the events of its lines are read as.
-use Rattle.std.proofs.Common.{◌≡◌, ℕ, zero, suc, ◌+◌, ◌-◌, Bool, true, false, cond, not, ◌==◌, ◌&&◌, ◌||◌, List, [], ◌∷◌, ◌++◌, map, drop, refl, ap, sym, ◌∙◌, subst, inl, inr, ◌⊎◌, arith}
+use Rattle.std.proofs.Common.{◌≡◌, ℕ, zero, suc, ◌+◌, ◌-◌, Bool, true, false, cond, not, ◌==◌, ◌&&◌, ◌||◌, List, [], ◌∷◌, ◌++◌, map, length, drop, refl, ap, sym, ◌∙◌, subst, inl, inr, ◌⊎◌, arith}
 use Rattle.std.specs.Prelude.{nat_le, Option, Some, None}
 use Rattle.std.specs.List.{onto_first}
 use Rattle.std.proofs.lemmas.Bool.{and_from, and_parts}
@@ -9,27 +9,29 @@ use Rattle.md_engine.specs.declared.configuration.ParseOptions.{ParseOptions}
 use Rattle.md_engine.specs.declared.event.Point.{Point}
 use Rattle.md_engine.specs.Place.{first_point}
 use Rattle.md_leaves.specs.HeadingRule.{is_heading}
-use Rattle.md_seam.specs.Containers.{Taken, quote_taken}
+use Rattle.md_seam.specs.Containers.{Taken, continues, opens_quote, quote_taken}
 use Rattle.md_seam.specs.Grouped.{grouped, grouped_block, with_front}
 use Rattle.md_seam.specs.Lines.{begins_with, ends_line, full_lines_of, is_ending, lines_of, without_ending}
 use Rattle.md_seam.specs.Meaning.{tree, with_frontmatter}
 use Rattle.md_seam.specs.Preamble.{Preamble, first_column, front_of, has_mark, preamble, preamble_by, rest_at, rests_at, without_mark}
 use Rattle.md_seam.specs.Rest.{Rest, has_small_indent, is_parted, lose, run_len, trim_start}
-use Rattle.md_seam.specs.Spelled.{spelled}
-use Rattle.md_seam.specs.State.{At, InQuote, Kept, Leaf, NoLeaf, OpenParagraph, Path, Spot, Within, closed, kept, shut, texts, then_block, then_leaf}
+use Rattle.md_seam.specs.Spelled.{QuoteShape, spelled}
+use Rattle.md_seam.specs.State.{At, Container, InFootnote, InItem, InQuote, Kept, Leaf, NoLeaf, OpenParagraph, Path, Spot, Within, closed, container_block, kept, shut, texts, then_block, then_leaf}
 use Rattle.md_seam.specs.Step.{fresh_line, spot_of, step, steps}
 use Rattle.md_seam.specs.Texts.{split_lines}
 use Rattle.md_seam.specs.Tree.{Block, Blocks, Break, End, Heading, More, Paragraph, Quote}
 use Rattle.md_seam.proofs.LinesLemmas.{without_ending-onto}
+use Rattle.markdown_blocks.specs.Change.{change_by, interrupts, others_of}
 use Rattle.markdown_blocks.specs.Document.{body_point, mark_end}
-use Rattle.markdown_blocks.specs.Fronted.{Prefixed, Quoted, no_prefix, one_more, quotes_on}
+use Rattle.markdown_blocks.specs.Fronted.{Contained, Prefixed, contained, no_prefix, one_more, prefixes_new, prefixes_on, rest_line}
 use Rattle.markdown_blocks.specs.Outlined.{are_shallow, is_shallow}
 use Rattle.markdown_blocks.specs.Parsed.{IsBuilt}
 use Rattle.markdown_blocks.specs.Rows.{BlankRow, BreakRow, HeadingRow, Row, RowKind, TextRow, groups, groups_events, is_lazy, line_kind}
 use Rattle.markdown_blocks.specs.Sections.{heading_block}
-use Rattle.markdown_blocks.specs.Stands.{IsPlain, IsPlainLeaf, depth_of, is_going}
+use Rattle.markdown_blocks.specs.Stands.{IsPlain, IsPlainLeaf, containers_of, is_going, shape_of}
+use Rattle.markdown_blocks.proofs.ContainedLemmas.{IsQuoteTaken, contained-shapes, opens-quote, quote-alone}
 use Rattle.markdown_blocks.proofs.LineKinds.{heading-kind}
-use Rattle.markdown_blocks.proofs.LineSteps.{all_new, behind_path, fresh-found, goes_lazy, kept_to, longer, new_line, new_path, plain-step, quoted_at, shut-lines, spot_by, step-new, step-quoted, stepped}
+use Rattle.markdown_blocks.proofs.LineSteps.{behind_path, contained_at, fresh-found, goes_lazy, kept_to, longer, new_line, new_path, plain-step, renewed, shut-lines, spot_by, step-contained, step-new, stepped_on}
 use Rattle.markdown_blocks.proofs.MarkLemmas.{without-mark}
 use Rattle.markdown_blocks.proofs.RowFacts as f
 use Rattle.markdown_blocks.proofs.SpelledRows.{rests_from, spelled-rows}
@@ -95,11 +97,74 @@ simple-heading line h =
     let same : depth ≡ 0 + depth = omega arith in
     ap (λ (k : ℕ). nat_le k 6) same ∙ (and_parts (nat_le (0 + depth) 6) (is_parted (drop depth text)) (and_parts (nat_le 1 depth) (nat_le (0 + depth) 6 && is_parted (drop depth text)) h).1).0
 
+-- Quotes alone are open.
+
+abbrev AreQuotes : List Container → Type 0
+AreQuotes [] = Unit {0}
+AreQuotes (c ∷ cs) = (c ≡ InQuote) × AreQuotes cs
+
+quotes-front : (cs ds : List Container) → AreQuotes (cs ++ ds) → AreQuotes cs
+quotes-front [] ds h = tt
+quotes-front (c ∷ cs) ds h = (h.0, quotes-front cs ds h.1)
+
+shape-quote : (c : Container) → shape_of c ≡ QuoteShape → c ≡ InQuote
+shape-quote InQuote e = refl
+shape-quote (InItem digits marker width starts_blank) e = cc
+shape-quote (InFootnote label) e = cc
+
+shapes-quotes : (cs ds : List Container) → map shape_of cs ≡ map shape_of ds → AreQuotes ds → AreQuotes cs
+shapes-quotes [] ds e h = tt
+shapes-quotes (c ∷ cs) [] e h = cc
+shapes-quotes (c ∷ cs) (d ∷ ds) e h =
+    let first : shape_of c ≡ shape_of d = cc in
+    let rest : map shape_of cs ≡ map shape_of ds = cc in
+    (shape-quote c (first ∙ ap shape_of h.0), shapes-quotes cs ds rest h.1)
+
+-- those that stay on a line,
+quotes-stay : (options : ParseOptions) (p : Path) (r : Rest) → AreQuotes (containers_of p) → AreQuotes (contained_at options p r).change.stays
+quotes-stay options p r h =
+    let change = (contained_at options p r).change in
+    quotes-front change.stays change.closes (shapes-quotes (change.stays ++ change.closes) (containers_of p) (contained-shapes options (containers_of p) (is_going p) r) h)
+
+quotes-new : (options : ParseOptions) (interrupting : Bool) (n : ℕ) (r : Rest) → IsBuilt options → AreQuotes (prefixes_new options interrupting n r).containers
+quotes-new options interrupting zero r built = tt
+quotes-new options interrupting (suc n) r built = subst (λ (o : Option Taken). AreQuotes (by o).containers) (sym (quote-alone options interrupting r built)) (go (λ s. quotes-new options false n s built) (opens_quote options r) (opens-quote options r))
+  where
+    by : Option Taken → Prefixed
+    by o = elim o [ None ↦ no_prefix r | Some t ↦ one_more t.container (prefixes_new options false n t.rest) ]
+
+    go : ((s : Rest) → AreQuotes (prefixes_new options false n s).containers) → (o : Option Taken) → IsQuoteTaken o → AreQuotes (by o).containers
+    go below None quote = tt
+    go below (Some t) quote = (quote, below t.rest)
+
+-- and those that open on it
+quotes-open : (options : ParseOptions) (cs : List Container) (going : Bool) (r : Rest) → IsBuilt options → AreQuotes (contained options cs going r).change.opens
+unfolding contained
+quotes-open options cs going r built = go (is_lazy going new.containers (line_kind options (rest_line new.rest)))
+  where
+    on : Prefixed
+    on = prefixes_on options cs r
+
+    interrupting : Bool
+    interrupting = interrupts going (others_of cs on.containers)
+
+    new : Prefixed
+    new = prefixes_new options interrupting (length on.rest.bytes) on.rest
+
+    go : (x : Bool) → AreQuotes (change_by x on.containers (others_of cs on.containers) new.containers).opens
+    go true = quotes-new options interrupting (length on.rest.bytes) on.rest built
+    go false = quotes-new options interrupting (length on.rest.bytes) on.rest built
+
 -- Paths.
 
+-- of quotes, and simple trees in them
 abbrev IsSimple : Path → Type 0
 IsSimple (At s) = are_simple s.here ≡ true
-IsSimple (Within before container p) = (are_simple before ≡ true) × IsSimple p
+IsSimple (Within before container p) = (are_simple before ≡ true) × (container ≡ InQuote) × IsSimple p
+
+simple-quotes : (p : Path) → IsSimple p → AreQuotes (containers_of p)
+simple-quotes (At s) h = tt
+simple-quotes (Within before container p) h = (h.1, simple-quotes p h.2)
 
 simple-shut : (options : ParseOptions) (s : Spot) → IsBuilt options → IsPlainLeaf s.leaf → are_simple s.here ≡ true → are_simple (shut options s) ≡ true
 simple-shut options s built plain h = go s.leaf plain
@@ -111,22 +176,26 @@ simple-shut options s built plain h = go s.leaf plain
 
 simple-closed : (options : ParseOptions) (p : Path) → IsBuilt options → IsPlain p → IsSimple p → are_simple (closed options p) ≡ true
 simple-closed options (At s) built plain h = simple-shut options s built plain h
-simple-closed options (Within before InQuote p) built plain h = simple-then before (Quote (closed options p)) h.0 (simple-closed options p built plain h.1)
-simple-closed options (Within before container p) built plain h = absurd plain
+simple-closed options (Within before container p) built plain h =
+    subst (λ (c : Container). are_simple (then_block before (container_block c (closed options p))) ≡ true) (sym h.1) (simple-then before (Quote (closed options p)) h.0 (simple-closed options p built plain h.2))
 
-simple-kept : (options : ParseOptions) (n : ℕ) (p : Path) → IsBuilt options → IsPlain p → IsSimple p → IsSimple (kept_to options n p)
-simple-kept options zero p built plain h = simple-closed options p built plain h
-simple-kept options (suc n) (At s) built plain h = simple-shut options s built plain h
-simple-kept options (suc n) (Within before InQuote p) built plain h = (h.0, simple-kept options n p built plain h.1)
-simple-kept options (suc n) (Within before container p) built plain h = absurd plain
+simple-kept : (options : ParseOptions) (cs : List Container) (p : Path) → IsBuilt options → IsPlain p → AreQuotes cs → IsSimple p → IsSimple (kept_to options cs p)
+simple-kept options [] p built plain quotes h = simple-closed options p built plain h
+simple-kept options (c ∷ cs) (At s) built plain quotes h = simple-shut options s built plain h
+simple-kept options (c ∷ cs) (Within before container p) built plain quotes h = (h.0, quotes.0, simple-kept options cs p built plain quotes.1 h.2)
+
+simple-renewed : (cs : List Container) (p : Path) → AreQuotes cs → IsSimple p → IsSimple (renewed cs p)
+simple-renewed [] p quotes h = h
+simple-renewed (c ∷ cs) (At s) quotes h = h
+simple-renewed (c ∷ cs) (Within before container p) quotes h = (h.0, quotes.0, simple-renewed cs p quotes.1 h.2)
 
 simple-longer : (p : Path) (lines : List Kept) → IsSimple p → IsSimple (longer p lines)
 simple-longer (At s) lines h = h
-simple-longer (Within before container p) lines h = (h.0, simple-longer p lines h.1)
+simple-longer (Within before container p) lines h = (h.0, h.1, simple-longer p lines h.2)
 
 simple-behind : (p : Path) (f : Blocks → Path) → IsSimple p → ((bs : Blocks) → are_simple bs ≡ true → IsSimple (f bs)) → IsSimple (behind_path p f)
 simple-behind (At s) f h each = each s.here h
-simple-behind (Within before container p) f h each = (h.0, simple-behind p f h.1 each)
+simple-behind (Within before container p) f h each = (h.0, h.1, simple-behind p f h.2 each)
 
 simple-fresh : (options : ParseOptions) (bs : Blocks) (r : Rest) → IsBuilt options → are_simple bs ≡ true → are_simple (fresh_line options bs r).here ≡ true
 simple-fresh options bs r built h = ap (λ (s : Spot). are_simple s.here) (fresh-found options bs r built) ∙ go (line_kind options r.bytes) refl
@@ -137,19 +206,27 @@ simple-fresh options bs r built h = ap (λ (s : Spot). are_simple s.here) (fresh
     go BreakRow e = simple-then bs Break h refl
     go TextRow e = h
 
-simple-new_line : (options : ParseOptions) (n : ℕ) (r : Rest) (bs : Blocks) → IsBuilt options → are_simple bs ≡ true → IsSimple (new_line options n r bs)
-simple-new_line options zero r bs built h = simple-fresh options bs r built h
-simple-new_line options (suc n) r bs built h = (h, simple-new_line options n r End built refl)
+simple-new_line : (options : ParseOptions) (cs : List Container) (r : Rest) (bs : Blocks) → IsBuilt options → AreQuotes cs → are_simple bs ≡ true → IsSimple (new_line options cs r bs)
+simple-new_line options [] r bs built quotes h = simple-fresh options bs r built h
+simple-new_line options (c ∷ cs) r bs built quotes h = (h, quotes.0, simple-new_line options cs r End built quotes.1 refl)
 
 simple-step : (options : ParseOptions) (p : Path) (r : Rest) → IsBuilt options → IsPlain p → IsSimple p → IsSimple (step options p r)
-simple-step options p r built plain h = subst IsSimple (sym (step-quoted options p r built plain)) (go (goes_lazy options p quotes))
+simple-step options p r built plain h = subst IsSimple (sym (step-contained options p r built plain)) (go (goes_lazy options p c))
   where
-    quotes : Quoted
-    quotes = quoted_at options p r
+    c : Contained
+    c = contained_at options p r
 
-    go : (x : Bool) → IsSimple (cond x (longer p (kept quotes.rest ∷ [])) (new_path options p quotes))
-    go true = simple-longer p (kept quotes.rest ∷ []) h
-    go false = simple-behind (kept_to options (depth_of p - quotes.closes) p) (new_line options quotes.opens quotes.rest) (simple-kept options (depth_of p - quotes.closes) p built plain h) (λ bs k. simple-new_line options quotes.opens quotes.rest bs built k)
+    stay : AreQuotes c.change.stays
+    stay = quotes-stay options p r (simple-quotes p h)
+
+    open_new : AreQuotes c.change.opens
+    open_new = quotes-open options (containers_of p) (is_going p) r built
+
+    go : (x : Bool) → IsSimple (cond x (longer (renewed c.change.stays p) (kept c.rest ∷ [])) (new_path options p c))
+    go true = simple-longer (renewed c.change.stays p) (kept c.rest ∷ []) (simple-renewed c.change.stays p stay h)
+    go false =
+        simple-behind (kept_to options c.change.stays p) (new_line options c.change.opens c.rest) (simple-kept options c.change.stays p built plain stay h)
+        (λ bs k. simple-new_line options c.change.opens c.rest bs built open_new k)
 
 plain-steps : (options : ParseOptions) (p : Path) (rs : List Rest) → IsBuilt options → IsPlain p → IsPlain (steps options p rs)
 plain-steps options p [] built plain = plain
@@ -179,21 +256,24 @@ no_quote-empty options column = go (has_small_indent options (rest_at column [])
     go true = refl
     go false = refl
 
-on-empty : (options : ParseOptions) (n column : ℕ) → quotes_on options n (rest_at column []) ≡ no_prefix (rest_at column [])
-on-empty options zero column = refl
-on-empty options (suc n) column = ap (λ (o : Option Taken). elim o as (λ _. Prefixed) [ None ↦ no_prefix (rest_at column []) | Some t ↦ one_more (quotes_on options n t.rest) ]) (no_quote-empty options column)
+on-empty : (options : ParseOptions) (cs : List Container) (column : ℕ) → AreQuotes cs → prefixes_on options cs (rest_at column []) ≡ no_prefix (rest_at column [])
+on-empty options [] column quotes = refl
+on-empty options (c ∷ cs) column quotes = ap by (ap (λ (x : Container). continues options x (rest_at column [])) quotes.0 ∙ no_quote-empty options column)
+  where
+    by : Option Taken → Prefixed
+    by o = elim o [ None ↦ no_prefix (rest_at column []) | Some t ↦ one_more t.container (prefixes_on options cs t.rest) ]
 
-step-empty : (options : ParseOptions) (p : Path) (column : ℕ) → IsBuilt options → IsPlain p → closed options (step options p (rest_at column [])) ≡ closed options p
-step-empty options p column built plain =
+step-empty : (options : ParseOptions) (p : Path) (column : ℕ) → IsBuilt options → IsPlain p → AreQuotes (containers_of p) → closed options (step options p (rest_at column [])) ≡ closed options p
+step-empty options p column built plain quotes =
     ap (closed options) (step-new options p r built plain)
-    ∙ ap (λ (w : Prefixed). closed options (stepped options p w.many (all_new options w.rest))) (on-empty options (depth_of p) column)
+    ∙ ap (λ (on : Prefixed). closed options (stepped_on options p on)) (on-empty options (containers_of p) column quotes)
     ∙ go (is_going p)
     ∙ ap (λ (s : Spot). closed options (At s)) (fresh-found options (closed options p) r built)
   where
     r : Rest
     r = rest_at column []
 
-    go : (x : Bool) → closed options (cond (is_lazy x 0 BlankRow) (longer p (kept r ∷ [])) (At (fresh_line options (closed options p) r))) ≡ closed options (At (fresh_line options (closed options p) r))
+    go : (x : Bool) → closed options (cond (is_lazy x [] BlankRow) (longer (renewed (containers_of p) p) (kept r ∷ [])) (At (fresh_line options (closed options p) r))) ≡ closed options (At (fresh_line options (closed options p) r))
     go true = refl
     go false = refl
 
@@ -202,14 +282,15 @@ steps-append options p [] ss = refl
 steps-append options p (r ∷ rs) ss = steps-append options (step options p r) rs ss
 
 come-empty : (options : ParseOptions) (column : ℕ) (lines : List (List ℕ)) → IsBuilt options → come options (rests_at column (lines ++ [] ∷ [])) ≡ come options (rests_at column lines)
-come-empty options column [] built = step-empty options (At (spot_of End)) column built tt
+come-empty options column [] built = step-empty options (At (spot_of End)) column built tt tt
 come-empty options column (line ∷ lines) built =
     let first : Path = step options (At (spot_of End)) (rest_at column line) in
     let rs : List Rest = map (rest_at 0) lines in
     let plain : IsPlain first = plain-step options (At (spot_of End)) (rest_at column line) built tt in
+    let simple : IsSimple first = simple-step options (At (spot_of End)) (rest_at column line) built tt refl in
     ap (λ (l : List Rest). closed options (steps options first l)) (map-append (rest_at 0) lines ([] ∷ []))
     ∙ ap (closed options) (steps-append options first rs (rest_at 0 [] ∷ []))
-    ∙ step-empty options (steps options first rs) 0 built (plain-steps options first rs built plain)
+    ∙ step-empty options (steps options first rs) 0 built (plain-steps options first rs built plain) (simple-quotes (steps options first rs) (simple-steps options first rs built plain simple))
 
 -- these lines, or these and an empty one
 abbrev IsOrEmpty : List (List ℕ) → List (List ℕ) → Type 0
@@ -296,7 +377,7 @@ rests-at p [] = refl
 rests-at p (line ∷ lines) = refl
 
 -- The events of the lines of a text are read as its tree.
-pub tree-rows : (options : ParseOptions) → IsBuilt options → (bytes : List ℕ) (rows : List Row) → f.AreRows options bytes 0 false (body_point bytes) (split_lines (drop (body_point bytes).index bytes)) rows →
+pub tree-rows : (options : ParseOptions) → IsBuilt options → (bytes : List ℕ) (rows : List Row) → f.AreRows options bytes [] false (body_point bytes) (split_lines (drop (body_point bytes).index bytes)) rows →
     spelled (groups_events bytes (groups rows)) bytes ≡ tree options bytes
 tree-rows options built bytes rows are =
     let p : Point = body_point bytes in
