@@ -32,7 +32,7 @@ use Rattle.md_seam.proofs.SpacesGoods.{rest-calm}
 use Rattle.markdown_blocks.specs.Change.{Change, change_by, container_name, ends_of, interrupts, open_behind, others_of}
 use Rattle.markdown_blocks.specs.FlowRule.{Rule, behind_containers, blank_ended, break_of, content_of, continues_at, ended, ended_to, existing_by, existing_from, flow_at, flow_lines, leaf_of, line_ended, line_then, new_from, new_of, nonblank_of, quote_opened, tried}
 use Rattle.markdown_blocks.specs.LineFlags.{begun_line, ending_name, next_line, stays, went_on}
-use Rattle.markdown_blocks.specs.Rows.{BlankRow, BreakRow, Front, Held, HeadingRow, Passed, Row, RowKind, TextRow, after_ending, break_inside, closes_before, ending_of, goes_at, held_at, held_by, held_of, in_front, inside_of, is_break, is_lazy, is_text, leaf_events, new_front, no_front, opens_at, quote_new, quote_on, row_kind, row_of, rows_at, rows_events, went_front}
+use Rattle.markdown_blocks.specs.Rows.{BlankRow, BreakRow, Front, Held, HeadingRow, Passed, Row, RowKind, TextRow, after_ending, break_inside, closes_before, ending_of, goes_at, held_at, held_by, held_of, in_front, inside_of, is_break, is_lazy, is_text, leaf_events, new_front, no_front, opens_at, quote_new, quote_on, row_events, row_kind, row_of, rows_at, rows_events, went_front}
 use Rattle.markdown_blocks.specs.Stands.{AreOpen, Is}
 use Rattle.markdown_blocks.proofs.FlowLemmas.{from_ending-shrinks}
 use Rattle.markdown_blocks.proofs.LeafRows.{blank-refused, blank-took, break-refused, break-took, chunk-took}
@@ -40,14 +40,14 @@ use Rattle.markdown_blocks.proofs.LeafRows.{blank-refused, blank-took, break-ref
 -- The leaf of a line, by its kind.
 
 -- what it adds
-abbrev added_by : ParseOptions → List Cell → Point → RowKind → List Event
+abbrev pub added_by : ParseOptions → List Cell → Point → RowKind → List Event
 added_by options cells p BlankRow = blank_events cells p
 added_by options cells p HeadingRow = around n.HeadingAtx p (line_end cells p) (heading_inside options cells p)
 added_by options cells p BreakRow = around n.ThematicBreak p (line_end cells p) (break_inside options cells p)
 added_by options cells p TextRow = enter_link n.Content p content_link ∷ exit n.Content (line_end cells p) ∷ []
 
 -- whether the line is blank, where it was known to be or not
-abbrev blank_by : RowKind → Bool → Bool
+abbrev pub blank_by : RowKind → Bool → Bool
 blank_by BlankRow b = true
 blank_by HeadingRow b = b
 blank_by BreakRow b = b
@@ -156,7 +156,7 @@ ends-are (k ∷ ks) [] p are = absurd are
 ends-are (k ∷ ks) (c ∷ cs) p are = ap₂ (λ (es : List Event) (name : Name). es ++ exit name p ∷ []) (ends-are ks cs p are.1) (known-name k c are.0)
 
 -- where these events stand behind the line before, and whatever follows them
-abbrev Ends : List Known → List Event → Point → Type 0
+abbrev pub Ends : List Known → List Event → Point → Type 0
 Ends ks tail p = (keep : ℕ) (more : List Event) (q : Point) → ends_at (drop keep ks) (point_of (tail ++ more) q) ≡ ends_at (drop keep ks) p
 
 ends-behind : (ks : List Known) (e : Event) (tail : List Event) → Ends ks (e ∷ tail) e.point
@@ -437,15 +437,15 @@ new-more options next (suc m) (suc size) cs cells h is some most are all shut =
 -- The containers of a line, and its leaf.
 
 -- a line was read up to its ending: what stands behind the line before, and what it adds
-record Done (next : Rule) (options : ParseOptions) (front tail : List Event) (p : Point) (x : Held) (o : Outcome) : Type 0 where
-  new : Here
-  is : o ≡ ended next (from_ending x.cells) new
-  rest : IsRest new.scratch
-  events : new.events ≡ front ++ (ends_of x.change.closes p ++ (tail ++ (x.front ++ added_by options x.cells x.point (row_kind options x.cells))))
-  point : new.point ≡ line_end x.cells x.point
-  containers : AreOpen new.flags.containers (open_behind x.change)
-  interrupt : new.flags.interrupt ≡ is_text (row_kind options x.cells)
-  blank : new.flags.blank ≡ blank_by (row_kind options x.cells) false
+pub record Done (next : Rule) (options : ParseOptions) (front tail : List Event) (p : Point) (x : Held) (o : Outcome) : Type 0 where
+  pub new : Here
+  pub is : o ≡ ended next (from_ending x.cells) new
+  pub rest : IsRest new.scratch
+  pub events : new.events ≡ front ++ (ends_of x.change.closes p ++ (tail ++ (x.front ++ added_by options x.cells x.point (row_kind options x.cells))))
+  pub point : new.point ≡ line_end x.cells x.point
+  pub containers : AreOpen new.flags.containers (open_behind x.change)
+  pub interrupt : new.flags.interrupt ≡ is_text (row_kind options x.cells)
+  pub blank : new.flags.blank ≡ blank_by (row_kind options x.cells) false
 
 -- behind the containers that went on
 record Between (front tail : List Event) (p : Point) (cs : List Container) (going : Bool) (w : Front) (h : Here) : Type 0 where
@@ -600,17 +600,17 @@ new-done options next front tail p cs going interrupting w m (suc size) cells h 
         (new-more options next m size (w.containers ++ t.container ∷ []) t.cells (quote_opened (passed_here t h)) b.rest (omega (arith, shorter)) (omega (arith, shorter)) begun refl refl))
 
 -- at the begin of a line
-record Begins (front tail : List Event) (p : Point) (cs : List Container) (going : Bool) (h : Here) : Type 0 where
-  rest : IsRest h.scratch
-  events : h.events ≡ front ++ tail
-  containers : AreOpen h.flags.containers cs
-  continued : h.flags.continued ≡ 0
-  interrupt : h.flags.interrupt ≡ going
-  blank : h.flags.blank ≡ false
-  line_end : h.flags.line_end ≡ length front
-  ends : Ends h.flags.containers tail p
+pub record Begins (front tail : List Event) (p : Point) (cs : List Container) (going : Bool) (h : Here) : Type 0 where
+  pub rest : IsRest h.scratch
+  pub events : h.events ≡ front ++ tail
+  pub containers : AreOpen h.flags.containers cs
+  pub continued : h.flags.continued ≡ 0
+  pub interrupt : h.flags.interrupt ≡ going
+  pub blank : h.flags.blank ≡ false
+  pub line_end : h.flags.line_end ≡ length front
+  pub ends : Ends h.flags.containers tail p
 
-line-done : (options : ParseOptions) (next : Rule) (front tail : List Event) (p : Point) (cs : List Container) (going : Bool) (cells : List Cell) (h : Here) → Begins front tail p cs going h →
+pub line-done : (options : ParseOptions) (next : Rule) (front tail : List Event) (p : Point) (cs : List Container) (going : Bool) (cells : List Cell) (h : Here) → Begins front tail p cs going h →
     Done next options front tail p (held_at options cs going cells h.point) (line_then options next cells h)
 unfolding line_then new_of held_at
 line-done options next front tail p cs going cells h b =
@@ -636,11 +636,11 @@ line-done options next front tail p cs going cells h b =
 -- Rows.
 
 -- what a row says of its leaf is what is added
-leaf-added : (options : ParseOptions) (x : Held) (below : List Row) (k : RowKind) → leaf_events k (record (row_of options x below) { inside = inside_of options x.cells x.point k }) ≡ added_by options x.cells x.point k
-leaf-added options x below BlankRow = refl
-leaf-added options x below HeadingRow = refl
-leaf-added options x below BreakRow = refl
-leaf-added options x below TextRow = refl
+leaf-added : (options : ParseOptions) (x : Held) (ls : List Container) (below : List Row) (k : RowKind) → leaf_events k (record (row_of options x below) { leaves = ls; inside = inside_of options x.cells x.point k }) ≡ added_by options x.cells x.point k
+leaf-added options x ls below BlankRow = refl
+leaf-added options x ls below HeadingRow = refl
+leaf-added options x ls below BreakRow = refl
+leaf-added options x ls below TextRow = refl
 
 ending-named : (k : RowKind) → ending_name (blank_by k false) ≡ ending_of k
 ending-named BlankRow = refl
@@ -655,11 +655,11 @@ regroup-row front ends tail w added more ending rows = simp append_assoc
 -- What stands behind a line.
 
 -- the rows behind these cells, from the ending of a line on
-abbrev rows_below : ParseOptions → ℕ → List Container → Bool → List Cell → List Row
+abbrev pub rows_below : ParseOptions → ℕ → List Container → Bool → List Cell → List Row
 rows_below options m cs going left = elim left [ [] ↦ [] | x ∷ xs ↦ rows_at options m cs going xs x.after ]
 
 -- its ending
-abbrev ending_here : Name → Point → List Cell → List Event
+abbrev pub ending_here : Name → Point → List Cell → List Event
 ending_here name p [] = []
 ending_here name p (c ∷ cs) = pair name p c.after
 
@@ -669,10 +669,10 @@ Adds options m next = (front tail : List Event) (p : Point) (cs : List Container
     new.events ≡ front ++ (ends_of (closes_before cs (rows_at options m cs going cells h.point)) p ++ (tail ++ rows_events (rows_at options m cs going cells h.point)))
 
 -- behind the ending of a line, at the begin of the next
-abbrev next_here : Cell → Here → Here
+abbrev pub next_here : Cell → Here → Here
 next_here c h = record h { events = h.events ++ pair (ending_name h.flags.blank) h.point c.after; point = c.after; flags = next_line (length h.events) h.flags }
 
-next-begins : (cs : List Container) (going : Bool) (c : Cell) (h : Here) → IsRest h.scratch → h.flags.interrupt ≡ going → AreOpen h.flags.containers cs →
+pub next-begins : (cs : List Container) (going : Bool) (c : Cell) (h : Here) → IsRest h.scratch → h.flags.interrupt ≡ going → AreOpen h.flags.containers cs →
     Begins h.events (pair (ending_name h.flags.blank) h.point c.after) h.point cs going (next_here c h)
 next-begins cs going c h is held are = record {
   rest = is;
@@ -705,7 +705,7 @@ ended-adds options m next adds cs going (x ∷ xs) h new rest fits is held are e
     go true k = adds h.events (pair name h.point x.after) h.point cs going xs (next_here x h) new rest (omega arith) (next-begins cs going x h is held are) k
     go false k = cc
 
-held-shorter : (options : ParseOptions) (cs : List Container) (going : Bool) (cells : List Cell) (p : Point) → length (held_at options cs going cells p).cells ≤ length cells
+pub held-shorter : (options : ParseOptions) (cs : List Container) (going : Bool) (cells : List Cell) (p : Point) → length (held_at options cs going cells p).cells ≤ length cells
 unfolding held_at
 held-shorter options cs going cells p =
     let w = went_front options cs cells p in
@@ -715,17 +715,34 @@ ending-same : (name : Name) (p : Point) (left : List Cell) → ending_here name 
 ending-same name p [] = refl
 ending-same name p (c ∷ cs) = refl
 
+-- a row behind which these containers end
+abbrev pub leaving : List Container → Row → Row
+leaving ls row = record row { leaves = ls }
+
+-- what a line added, the ends of containers and its ending are the events of its row
+pub row-adds : (next : Rule) (options : ParseOptions) (front tail : List Event) (p : Point) (x : Held) (o : Outcome) (d : Done next options front tail p x o) (ls : List Container) (left : List Cell) (below : List Row) (more : List Event) → from_ending x.cells ≡ left →
+    d.new.events ++ (ends_of ls d.new.point ++ (ending_here (ending_name d.new.flags.blank) d.new.point left ++ more)) ≡ front ++ (ends_of x.change.closes p ++ (tail ++ (row_events (leaving ls (row_of options x below)) ++ more)))
+row-adds next options front tail p x o d ls left below more e =
+    ap (λ (cells : List Cell). d.new.events ++ behind cells d.new.point (ending_name d.new.flags.blank)) (sym e)
+    ∙ ap (λ (q : Point). d.new.events ++ behind (from_ending x.cells) q (ending_name d.new.flags.blank)) d.point
+    ∙ ap₂ (λ (es : List Event) (name : Name). es ++ behind (from_ending x.cells) (line_end x.cells x.point) name) d.events (ap ending_name d.blank ∙ ending-named k)
+    ∙ regroup-row front (ends_of x.change.closes p) tail x.front (added_by options x.cells x.point k) (ends_of ls (line_end x.cells x.point)) (ending_here (ending_of k) (line_end x.cells x.point) (from_ending x.cells)) more
+    ∙ ap₂ (λ (a c : List Event). front ++ (ends_of x.change.closes p ++ (tail ++ (((x.front ++ a) ++ (ends_of ls (line_end x.cells x.point) ++ c)) ++ more))))
+    (sym (leaf-added options x ls below k)) (ending-same (ending_of k) (line_end x.cells x.point) (from_ending x.cells))
+  where
+    k : RowKind
+    k = row_kind options x.cells
+
+    behind : List Cell → Point → Name → List Event
+    behind cells q name = ends_of ls q ++ (ending_here name q cells ++ more)
+
 -- flow adds the events of the rows, and the ends of the containers that the first of them closes in front of the ending before it
 flow-adds : (options : ParseOptions) (m : ℕ) → Adds options m (flow_lines options m)
 unfolding flow_lines
 flow-adds options zero front tail p cs going cells h new rest fits b e = absurd (omega arith)
 flow-adds options (suc m) front tail p cs going cells h new rest fits b e =
     ended-adds options m (flow_lines options m) (flow-adds options m) (open_behind x.change) (is_text k) left d.new new rest (omega (arith, from_ending-shrinks x.cells, held-shorter options cs going cells h.point)) d.rest d.interrupt d.containers (sym d.is ∙ e)
-    ∙ ap (λ (q : Point). d.new.events ++ behind q (ending_name d.new.flags.blank)) d.point
-    ∙ ap₂ (λ (es : List Event) (name : Name). es ++ behind (line_end x.cells x.point) name) d.events (ap ending_name d.blank ∙ ending-named k)
-    ∙ regroup-row front (ends_of x.change.closes p) tail x.front (added_by options x.cells x.point k) (ends_of (closes_before (open_behind x.change) below) (line_end x.cells x.point)) (ending_here (ending_of k) (line_end x.cells x.point) left) (rows_events below)
-    ∙ ap₂ (λ (a c : List Event). front ++ (ends_of x.change.closes p ++ (tail ++ (((x.front ++ a) ++ (ends_of (closes_before (open_behind x.change) below) (line_end x.cells x.point) ++ c)) ++ rows_events below))))
-    (sym (leaf-added options x below k)) (ending-same (ending_of k) (line_end x.cells x.point) left)
+    ∙ row-adds (flow_lines options m) options front tail p x (line_then options (flow_lines options m) cells h) d (closes_before (open_behind x.change) below) left below (rows_events below) refl
   where
     d : Done (flow_lines options m) options front tail p (held_at options cs going cells h.point) (line_then options (flow_lines options m) cells h)
     d = line-done options (flow_lines options m) front tail p cs going cells h b
@@ -742,16 +759,13 @@ flow-adds options (suc m) front tail p cs going cells h new rest fits b e =
     below : List Row
     below = rows_below options m (open_behind x.change) (is_text k) left
 
-    behind : Point → Name → List Event
-    behind q name = ends_of (closes_before (open_behind x.change) below) q ++ (ending_here name q left ++ rows_events below)
-
 -- before the first line no container ends
-no-closes : (options : ParseOptions) (cells : List Cell) (p : Point) → (held_at options [] false cells p).change.closes ≡ []
+pub no-closes : (options : ParseOptions) (cells : List Cell) (p : Point) → (held_at options [] false cells p).change.closes ≡ []
 unfolding held_at
 no-closes options cells p = refl
 
 -- at the begin of a text
-text-begins : (h : Here) → IsRest h.scratch → h.events ≡ [] → h.flags.containers ≡ [] → h.flags.continued ≡ 0 → h.flags.interrupt ≡ false → h.flags.blank ≡ false → h.flags.line_end ≡ 0 → Begins [] [] h.point [] false h
+pub text-begins : (h : Here) → IsRest h.scratch → h.events ≡ [] → h.flags.containers ≡ [] → h.flags.continued ≡ 0 → h.flags.interrupt ≡ false → h.flags.blank ≡ false → h.flags.line_end ≡ 0 → Begins [] [] h.point [] false h
 text-begins h is none shut continued interrupt blank line_end = record {
   rest = is;
   events = none;
@@ -763,7 +777,7 @@ text-begins h is none shut continued interrupt blank line_end = record {
   ends = ends-none h.flags.containers h.point shut;
 }
 
--- and of all rows
+-- so the rule of all lines adds the events of all rows
 pub flow_at-rows : (options : ParseOptions) (cells : List Cell) (h new : Here) (rest : List Cell) → IsRest h.scratch → h.events ≡ [] → h.flags.containers ≡ [] → h.flags.continued ≡ 0 → h.flags.interrupt ≡ false → h.flags.blank ≡ false → h.flags.line_end ≡ 0 →
     flow_at options cells h ≡ Accepts new rest → new.events ≡ rows_events (rows_at options (suc (length cells)) [] false cells h.point)
 unfolding flow_at
