@@ -1,24 +1,23 @@
 -- What flow adds to the events: line by line, what the rows of the text say.
-use Rattle.std.proofs.Common.{◌≡◌, ℕ, zero, suc, ◌+◌, ◌-◌, ◌<◌, ◌≤◌, Bool, true, false, cond, ◌&&◌, nat_eq, List, [], ◌∷◌, ◌++◌, length, take, drop, Option, Some, None, refl, sym, ◌∙◌, ap, ap₂, subst, arith, append_assoc, append-nil, length-append, length-drop}
-use Rattle.std.specs.Prelude.{◌==◌, get_or, nat_lt, slice_get}
+use Rattle.std.proofs.Common.{◌≡◌, ℕ, zero, suc, ◌+◌, ◌<◌, ◌≤◌, Bool, true, false, cond, ◌&&◌, nat_eq, List, [], ◌∷◌, ◌++◌, length, take, drop, Option, Some, None, refl, sym, ◌∙◌, ap, ap₂, subst, arith, append_assoc, append-nil, length-drop}
+use Rattle.std.specs.Prelude.{nat_lt, slice_get}
 use Rattle.std.proofs.Math.ListN.{drop_of_length-le}
 use Rattle.std.proofs.Math.Seq.{drop-append_seam, drop-length, take-append_seam, take-length}
 use Rattle.std.proofs.lemmas.Bool.{and_parts, lt-ltb}
-use Rattle.std.proofs.lemmas.Bool.Decides.{nat_tests}
-use Rattle.std.proofs.lemmas.List.{length-take-le, take-append-drop}
-use Rattle.std.proofs.lemmas.Option.{slice_get-get_or, slice_get_past}
+use Rattle.std.proofs.lemmas.List.{take-append-drop}
+use Rattle.std.proofs.lemmas.Option.{slice_get_past}
 use Rattle.md_engine.specs.declared.configuration.ParseOptions.{ParseOptions}
 use Rattle.md_engine.specs.declared.event.Event.{Event}
 use Rattle.md_engine.specs.declared.event.Name.{Name}
 use Rattle.md_engine.specs.declared.event.Name.TheVariants as n
 use Rattle.md_engine.specs.declared.event.Point.{Point}
-use Rattle.md_engine.specs.declared.tokenizer.Container.{Container}
+use Rattle.md_engine.specs.declared.tokenizer.Container.{Container as Known}
 use Rattle.md_engine.specs.declared.tokenizer.ContainerKind.{ContainerKind}
 use Rattle.md_engine.specs.declared.tokenizer.ContainerKind.TheVariants as kind
 use Rattle.md_engine.specs.Ends.{ends_at, name_of, point_of, put}
 use Rattle.md_engine.specs.Meaning.{Accepts, Cell, Here, Outcome, Refuses}
 use Rattle.md_engine.specs.World.{closed_events}
-use Rattle.md_containers.specs.QuoteRule.{prefix_at, prefix_end, prefix_events, prefix_rest, takes_prefix}
+use Rattle.md_containers.specs.QuoteRule.{prefix_at, prefix_rest, quote_at, takes_prefix}
 use Rattle.md_containers.proofs.PrefixCells.{prefix-is, prefix-shorter, quote-is}
 use Rattle.md_content.specs.Chunks.{content_link}
 use Rattle.md_leaves.specs.BlankRule.{blank_events}
@@ -28,24 +27,27 @@ use Rattle.md_seam.specs.Ahead.{from_ending, line_bytes, line_end}
 use Rattle.md_seam.specs.Nested.{around, enter, enter_link, exit, pair}
 use Rattle.md_seam.specs.Rest.{is_blank}
 use Rattle.md_seam.specs.Spaces.{IsRest, calmed}
+use Rattle.md_seam.specs.State.{Container, InQuote}
 use Rattle.md_seam.proofs.SpacesGoods.{rest-calm}
+use Rattle.markdown_blocks.specs.Change.{Change, change_by, container_name, ends_of, interrupts, open_behind, others_of}
 use Rattle.markdown_blocks.specs.FlowRule.{Rule, behind_containers, blank_ended, break_of, content_of, continues_at, ended, ended_to, existing_by, existing_from, flow_at, flow_lines, leaf_of, line_ended, line_then, new_from, new_of, nonblank_of, quote_opened, tried}
 use Rattle.markdown_blocks.specs.LineFlags.{begun_line, ending_name, next_line, stays, went_on}
-use Rattle.markdown_blocks.specs.Rows.{BlankRow, BreakRow, Front, Held, HeadingRow, Row, RowKind, TextRow, after_ending, break_inside, closes_before, ending_of, held_at, held_by, held_of, in_front, inside_of, is_break, is_lazy, is_text, leaf_events, new_front, no_front, quote_ends, row_kind, row_of, rows_at, rows_events, went_front}
+use Rattle.markdown_blocks.specs.Rows.{BlankRow, BreakRow, Front, Held, HeadingRow, Passed, Row, RowKind, TextRow, after_ending, break_inside, closes_before, ending_of, goes_at, held_at, held_by, held_of, in_front, inside_of, is_break, is_lazy, is_text, leaf_events, new_front, no_front, opens_at, quote_new, quote_on, row_events, row_kind, row_of, rows_at, rows_events, went_front}
+use Rattle.markdown_blocks.specs.Stands.{AreOpen, Is}
 use Rattle.markdown_blocks.proofs.FlowLemmas.{from_ending-shrinks}
 use Rattle.markdown_blocks.proofs.LeafRows.{blank-refused, blank-took, break-refused, break-took, chunk-took}
 
 -- The leaf of a line, by its kind.
 
 -- what it adds
-abbrev added_by : ParseOptions → List Cell → Point → RowKind → List Event
+abbrev pub added_by : ParseOptions → List Cell → Point → RowKind → List Event
 added_by options cells p BlankRow = blank_events cells p
 added_by options cells p HeadingRow = around n.HeadingAtx p (line_end cells p) (heading_inside options cells p)
 added_by options cells p BreakRow = around n.ThematicBreak p (line_end cells p) (break_inside options cells p)
 added_by options cells p TextRow = enter_link n.Content p content_link ∷ exit n.Content (line_end cells p) ∷ []
 
 -- whether the line is blank, where it was known to be or not
-abbrev blank_by : RowKind → Bool → Bool
+abbrev pub blank_by : RowKind → Bool → Bool
 blank_by BlankRow b = true
 blank_by HeadingRow b = b
 blank_by BreakRow b = b
@@ -104,289 +106,379 @@ leaf-is options next cells h is = go (is_blank (line_bytes cells)) refl
         ap (λ (o : Outcome). tried o (blank_ended next) (λ s g. nonblank_of options next cells (record h { scratch = s; flags = g }))) (blank-refused cells h k)
         ∙ nonblank k (is_heading_line options cells) refl
 
--- The ends of containers, all of which are quotes.
+-- The containers that the tokenizer holds.
 
-quote-name : (k : ContainerKind) → name_of k ≡ n.BlockQuote
-quote-name kind.BlockQuote = refl
+known-name : (k : Known) (c : Container) → Is k c → name_of k.kind ≡ container_name c
+known-name k InQuote is = ap name_of is
+known-name k c is = absurd is
 
-quote_ends-snoc : (size : ℕ) (p : Point) → quote_ends size p ++ exit n.BlockQuote p ∷ [] ≡ exit n.BlockQuote p ∷ quote_ends size p
-quote_ends-snoc zero p = refl
-quote_ends-snoc (suc size) p = ap (λ (es : List Event). exit n.BlockQuote p ∷ es) (quote_ends-snoc size p)
+open-length : (ks : List Known) (cs : List Container) → AreOpen ks cs → length ks ≡ length cs
+open-length [] [] are = refl
+open-length [] (c ∷ cs) are = absurd are
+open-length (k ∷ ks) [] are = absurd are
+open-length (k ∷ ks) (c ∷ cs) are = let more = open-length ks cs are.1 in omega arith
 
-ends-are : (cs : List Container) (p : Point) → ends_at cs p ≡ quote_ends (length cs) p
-ends-are [] p = refl
-ends-are (c ∷ cs) p =
-    ap₂ (λ (es : List Event) (name : Name). es ++ exit name p ∷ []) (ends-are cs p) (quote-name c.kind)
-    ∙ quote_ends-snoc (length cs) p
+open-append : (ks ls : List Known) (cs ds : List Container) → AreOpen ks cs → AreOpen ls ds → AreOpen (ks ++ ls) (cs ++ ds)
+open-append [] ls [] ds are more = more
+open-append [] ls (c ∷ cs) ds are more = absurd are
+open-append (k ∷ ks) ls [] ds are more = absurd are
+open-append (k ∷ ks) ls (c ∷ cs) ds are more = (are.0, open-append ks ls cs ds are.1 more)
+
+-- those up to a place, and those behind it
+open-parts : (ks : List Known) (cs ds : List Container) → AreOpen ks (cs ++ ds) → AreOpen (take (length cs) ks) cs × AreOpen (drop (length cs) ks) ds
+open-parts ks [] ds are = (tt, are)
+open-parts [] (c ∷ cs) ds are = absurd are
+open-parts (k ∷ ks) (c ∷ cs) ds are = let more = open-parts ks cs ds are.1 in ((are.0, more.0), more.1)
+
+open-all : (n : ℕ) (ks : List Known) (cs : List Container) → n ≡ length ks → AreOpen ks cs → AreOpen (take n ks) cs
+open-all n ks cs e are = let P : List Known → Type 0 = λ l. AreOpen l cs in subst P (sym (ap (λ (m : ℕ). take m ks) e ∙ take-length ks)) are
+
+-- the next one, behind so many
+record IsNext (ks : List Known) (n : ℕ) (c : Container) (cs : List Container) : Type 0 where
+  held : Known
+  found : slice_get ks n ≡ Some held
+  is : Is held c
+  more : AreOpen (drop (suc n) ks) cs
+  inside : n < length ks
+
+open-next : (n : ℕ) (ks : List Known) (c : Container) (cs : List Container) → AreOpen (drop n ks) (c ∷ cs) → IsNext ks n c cs
+open-next zero [] c cs are = absurd are
+open-next zero (k ∷ ks) c cs are = record { held = k; found = refl; is = are.0; more = are.1; inside = omega arith }
+open-next (suc n) [] c cs are = absurd are
+open-next (suc n) (k ∷ ks) c cs are = let next = open-next n ks c cs are in record { held = next.held; found = next.found; is = next.is; more = next.more; inside = omega (arith, next.inside) }
+
+-- The ends of containers.
+
+ends-are : (ks : List Known) (cs : List Container) (p : Point) → AreOpen ks cs → ends_at ks p ≡ ends_of cs p
+ends-are [] [] p are = refl
+ends-are [] (c ∷ cs) p are = absurd are
+ends-are (k ∷ ks) [] p are = absurd are
+ends-are (k ∷ ks) (c ∷ cs) p are = ap₂ (λ (es : List Event) (name : Name). es ++ exit name p ∷ []) (ends-are ks cs p are.1) (known-name k c are.0)
 
 -- where these events stand behind the line before, and whatever follows them
-abbrev Ends : List Container → List Event → Point → Type 0
-Ends cs tail p = (keep : ℕ) (more : List Event) (q : Point) → ends_at (drop keep cs) (point_of (tail ++ more) q) ≡ quote_ends (length cs - keep) p
+abbrev pub Ends : List Known → List Event → Point → Type 0
+Ends ks tail p = (keep : ℕ) (more : List Event) (q : Point) → ends_at (drop keep ks) (point_of (tail ++ more) q) ≡ ends_at (drop keep ks) p
 
-ends-behind : (cs : List Container) (e : Event) (tail : List Event) → Ends cs (e ∷ tail) e.point
-ends-behind cs e tail keep more q = ends-are (drop keep cs) e.point ∙ ap (λ (size : ℕ). quote_ends size e.point) (length-drop keep cs)
+ends-behind : (ks : List Known) (e : Event) (tail : List Event) → Ends ks (e ∷ tail) e.point
+ends-behind ks e tail keep more q = refl
 
-ends-none : (cs : List Container) (p : Point) → cs ≡ [] → Ends cs [] p
-ends-none cs p e keep more q =
-    ends-are (drop keep cs) (point_of more q)
-    ∙ ap (λ (size : ℕ). quote_ends size (point_of more q)) (length-drop keep cs ∙ none)
-    ∙ ap (λ (size : ℕ). quote_ends size p) (sym none)
-  where
-    none : length cs - keep ≡ 0
-    none = omega (arith, ap length e)
+ends-none : (ks : List Known) (p : Point) → ks ≡ [] → Ends ks [] p
+ends-none ks p e keep more q =
+    let none : drop keep ks ≡ [] = drop_of_length-le ks (omega (arith, ap length e)) in
+    ap (λ (l : List Known). ends_at l (point_of more q)) none ∙ ap (λ (l : List Known). ends_at l p) (sym none)
 
-closed-ends : (front tail more es : List Event) (p q : Point) (keep at : ℕ) (cs : List Container) → Ends cs tail p → at ≡ length front → es ≡ front ++ (tail ++ more) →
-    closed_events keep at cs es q ≡ front ++ (quote_ends (length cs - keep) p ++ (tail ++ more))
-closed-ends front tail more es p q keep at cs ends begin same =
-    ap₂ (λ (n : ℕ) (xs : List Event). put n (ends_at (drop keep cs) (point_of (drop n xs) q)) xs) begin same
-    ∙ ap₂ (λ (a b : List Event). (a ++ ends_at (drop keep cs) (point_of b q)) ++ b) (take-append_seam front (tail ++ more)) (drop-append_seam front (tail ++ more))
-    ∙ append_assoc front (ends_at (drop keep cs) (point_of (tail ++ more) q)) (tail ++ more)
-    ∙ ap (λ (xs : List Event). front ++ (xs ++ (tail ++ more))) (ends keep more q)
+closed-ends : (front tail more es : List Event) (p q : Point) (keep at : ℕ) (ks : List Known) (cs : List Container) → Ends ks tail p → AreOpen (drop keep ks) cs → at ≡ length front → es ≡ front ++ (tail ++ more) →
+    closed_events keep at ks es q ≡ front ++ (ends_of cs p ++ (tail ++ more))
+closed-ends front tail more es p q keep at ks cs ends are begin same =
+    ap₂ (λ (n : ℕ) (xs : List Event). put n (ends_at (drop keep ks) (point_of (drop n xs) q)) xs) begin same
+    ∙ ap₂ (λ (a b : List Event). (a ++ ends_at (drop keep ks) (point_of b q)) ++ b) (take-append_seam front (tail ++ more)) (drop-append_seam front (tail ++ more))
+    ∙ append_assoc front (ends_at (drop keep ks) (point_of (tail ++ more) q)) (tail ++ more)
+    ∙ ap (λ (xs : List Event). front ++ (xs ++ (tail ++ more))) (ends keep more q ∙ ends-are (drop keep ks) cs p are)
 
-closed-none : (keep at : ℕ) (cs : List Container) (es : List Event) (q : Point) → length cs ≤ keep → closed_events keep at cs es q ≡ es
-closed-none keep at cs es q all =
-    ap (λ (xs : List Container). put at (ends_at xs (point_of (drop at es) q)) es) (drop_of_length-le cs all)
+closed-none : (keep at : ℕ) (ks : List Known) (es : List Event) (q : Point) → length ks ≤ keep → closed_events keep at ks es q ≡ es
+closed-none keep at ks es q all =
+    ap (λ (xs : List Known). put at (ends_at xs (point_of (drop at es) q)) es) (drop_of_length-le ks all)
     ∙ ap (λ (xs : List Event). xs ++ drop at es) (append-nil (take at es))
     ∙ take-append-drop at es
 
--- Containers that are open.
+-- What is tried for a container.
+
+-- behind its prefix
+abbrev passed_here : Passed → Here → Here
+passed_here t h = record h { events = h.events ++ t.events; point = t.point }
+
+-- taken where it goes on or opens, and refused elsewhere
+abbrev passed_by : Option Passed → Here → Outcome
+passed_by None h = Refuses h.scratch h.flags
+passed_by (Some t) h = Accepts (passed_here t h) t.cells
 
 asked : (options : ParseOptions) (k : ContainerKind) (cells : List Cell) (h : Here) → continues_at options k cells h ≡ prefix_at options cells h
 asked options kind.BlockQuote cells h = refl
 
-went-many : (options : ParseOptions) (size : ℕ) (cells : List Cell) (p : Point) → (went_front options size cells p).many ≤ size
-went-many options zero cells p = omega arith
-went-many options (suc size) cells p = go (takes_prefix options cells) (went-many options size (prefix_rest options cells) (prefix_end options cells p))
+-- an open container goes on where its cells say so;
+further-is : (options : ParseOptions) (k : Known) (c : Container) (cells : List Cell) (h : Here) → IsRest h.scratch → Is k c → continues_at options k.kind cells h ≡ passed_by (goes_at options c cells h.point) h
+further-is options k InQuote cells h is same = asked options k.kind cells h ∙ prefix-is options cells h is ∙ go (takes_prefix options cells)
   where
-    go : (x : Bool) → (went_front options size (prefix_rest options cells) (prefix_end options cells p)).many ≤ size →
-        (cond x (in_front (prefix_events options cells p) (went_front options size (prefix_rest options cells) (prefix_end options cells p))) (no_front cells p)).many ≤ suc size
-    go true h = omega arith
-    go false h = omega arith
+    go : (x : Bool) → cond x (Accepts (passed_here (quote_on options cells h.point) h) (prefix_rest options cells)) (Refuses h.scratch h.flags) ≡ passed_by (cond x (Some (quote_on options cells h.point)) None) h
+    go true = refl
+    go false = refl
+further-is options k c cells h is same = absurd same
 
-went-shorter : (options : ParseOptions) (size : ℕ) (cells : List Cell) (p : Point) → length (went_front options size cells p).cells ≤ length cells
-went-shorter options zero cells p = omega arith
-went-shorter options (suc size) cells p = go (takes_prefix options cells) refl (went-shorter options size (prefix_rest options cells) (prefix_end options cells p))
+-- then it is still the same container,
+goes-same : (options : ParseOptions) (k : Known) (c : Container) (cells : List Cell) (p : Point) (t : Passed) → Is k c → goes_at options c cells p ≡ Some t → Is k t.container
+goes-same options k InQuote cells p t is e = go (takes_prefix options cells) e
   where
-    go : (x : Bool) → takes_prefix options cells ≡ x → length (went_front options size (prefix_rest options cells) (prefix_end options cells p)).cells ≤ length (prefix_rest options cells) →
-        length (cond x (in_front (prefix_events options cells p) (went_front options size (prefix_rest options cells) (prefix_end options cells p))) (no_front cells p)).cells ≤ length cells
-    go true e h = omega (arith, prefix-shorter options cells e)
-    go false e h = omega arith
+    go : (x : Bool) → cond x (Some (quote_on options cells p)) None ≡ Some t → Is k t.container
+    go true e = let same : quote_on options cells p ≡ t = cc in let P : Passed → Type 0 = λ x. Is k x.container in subst P same is
+    go false e = cc
+goes-same options k c cells p t is e = absurd is
 
-new-shorter : (options : ParseOptions) (size : ℕ) (cells : List Cell) (p : Point) → length (new_front options size cells p).cells ≤ length cells
-new-shorter options zero cells p = omega arith
-new-shorter options (suc size) cells p = go (options.constructs.block_quote && takes_prefix options cells) refl (new-shorter options size (prefix_rest options cells) (prefix_end options cells p))
+-- and takes a cell at least
+goes-shorter : (options : ParseOptions) (c : Container) (cells : List Cell) (p : Point) (t : Passed) → goes_at options c cells p ≡ Some t → length t.cells < length cells
+goes-shorter options InQuote cells p t e = go (takes_prefix options cells) refl e
   where
-    go : (x : Bool) → (options.constructs.block_quote && takes_prefix options cells) ≡ x → length (new_front options size (prefix_rest options cells) (prefix_end options cells p)).cells ≤ length (prefix_rest options cells) →
-        length (cond x (in_front (enter n.BlockQuote p ∷ prefix_events options cells p) (new_front options size (prefix_rest options cells) (prefix_end options cells p))) (no_front cells p)).cells ≤ length cells
-    go true e h = let takes = (and_parts options.constructs.block_quote (takes_prefix options cells) e).1 in omega (arith, prefix-shorter options cells takes)
-    go false e h = omega arith
+    go : (x : Bool) → takes_prefix options cells ≡ x → cond x (Some (quote_on options cells p)) None ≡ Some t → length t.cells < length cells
+    go true takes e = let same : prefix_rest options cells ≡ t.cells = cc in omega (arith, prefix-shorter options cells takes, ap length same)
+    go false takes e = cc
+goes-shorter options c cells p t e = cc
+
+-- the same of one that opens
+opening-is : (options : ParseOptions) (interrupting : Bool) (cells : List Cell) (h : Here) → IsRest h.scratch → quote_at options cells h ≡ passed_by (opens_at options interrupting cells h.point) h
+opening-is options interrupting cells h is = quote-is options cells h is ∙ go (options.constructs.block_quote && takes_prefix options cells)
+  where
+    go : (x : Bool) → cond x (Accepts (passed_here (quote_new options cells h.point) h) (prefix_rest options cells)) (Refuses h.scratch h.flags) ≡ passed_by (cond x (Some (quote_new options cells h.point)) None) h
+    go true = refl
+    go false = refl
+
+opens-same : (options : ParseOptions) (interrupting : Bool) (cells : List Cell) (p : Point) (t : Passed) → opens_at options interrupting cells p ≡ Some t → Is (record { kind = kind.BlockQuote }) t.container
+opens-same options interrupting cells p t e = go (options.constructs.block_quote && takes_prefix options cells) e
+  where
+    go : (x : Bool) → cond x (Some (quote_new options cells p)) None ≡ Some t → Is (record { kind = kind.BlockQuote }) t.container
+    go true e = let same : quote_new options cells p ≡ t = cc in let P : Passed → Type 0 = λ x. Is (record { kind = kind.BlockQuote }) x.container in subst P same refl
+    go false e = cc
+
+opens-shorter : (options : ParseOptions) (interrupting : Bool) (cells : List Cell) (p : Point) (t : Passed) → opens_at options interrupting cells p ≡ Some t → length t.cells < length cells
+opens-shorter options interrupting cells p t e = go (options.constructs.block_quote && takes_prefix options cells) refl e
+  where
+    go : (x : Bool) → (options.constructs.block_quote && takes_prefix options cells) ≡ x → cond x (Some (quote_new options cells p)) None ≡ Some t → length t.cells < length cells
+    go true takes e =
+        let same : prefix_rest options cells ≡ t.cells = cc in
+        omega (arith, prefix-shorter options cells (and_parts options.constructs.block_quote (takes_prefix options cells) takes).1, ap length same)
+    go false takes e = cc
+
+-- none opens where nothing is left
+opens-none : (options : ParseOptions) (interrupting : Bool) (cells : List Cell) (p : Point) → length cells ≤ 0 → opens_at options interrupting cells p ≡ None
+opens-none options interrupting cells p most = go (opens_at options interrupting cells p) refl
+  where
+    go : (x : Option Passed) → opens_at options interrupting cells p ≡ x → x ≡ None
+    go None e = refl
+    go (Some t) e = absurd (omega (arith, opens-shorter options interrupting cells p t e))
+
+-- Containers that are open.
+
+went-shorter : (options : ParseOptions) (cs : List Container) (cells : List Cell) (p : Point) → length (went_front options cs cells p).cells ≤ length cells
+went-shorter options [] cells p = omega arith
+went-shorter options (c ∷ cs) cells p = go (goes_at options c cells p) refl (λ t. went-shorter options cs t.cells t.point)
+  where
+    Shorter : Front → Type 0
+    Shorter f = length f.cells ≤ length cells
+
+    go : (x : Option Passed) → goes_at options c cells p ≡ x → ((t : Passed) → length (went_front options cs t.cells t.point).cells ≤ length t.cells) →
+        Shorter (elim x [ None ↦ no_front cells p | Some t ↦ in_front t (went_front options cs t.cells t.point) ])
+    go None e more = omega arith
+    go (Some t) e more = omega (arith, more t, goes-shorter options c cells p t e)
+
+new-shorter : (options : ParseOptions) (interrupting : Bool) (size : ℕ) (cells : List Cell) (p : Point) → length (new_front options interrupting size cells p).cells ≤ length cells
+new-shorter options interrupting zero cells p = omega arith
+new-shorter options interrupting (suc size) cells p = go (opens_at options interrupting cells p) refl (λ t. new-shorter options false size t.cells t.point)
+  where
+    Shorter : Front → Type 0
+    Shorter f = length f.cells ≤ length cells
+
+    go : (x : Option Passed) → opens_at options interrupting cells p ≡ x → ((t : Passed) → length (new_front options false size t.cells t.point).cells ≤ length t.cells) →
+        Shorter (elim x [ None ↦ no_front cells p | Some t ↦ in_front t (new_front options false size t.cells t.point) ])
+    go None e more = omega arith
+    go (Some t) e more = omega (arith, more t, opens-shorter options interrupting cells p t e)
+
+-- those that went on, and the others, are still those that the tokenizer holds
+went-open : (options : ParseOptions) (ks : List Known) (cs : List Container) (cells : List Cell) (p : Point) → AreOpen ks cs → AreOpen ks ((went_front options cs cells p).containers ++ others_of cs (went_front options cs cells p).containers)
+went-open options ks [] cells p are = are
+went-open options [] (c ∷ cs) cells p are = absurd are
+went-open options (k ∷ ks) (c ∷ cs) cells p are = go (goes_at options c cells p) refl (λ t. went-open options ks cs t.cells t.point are.1)
+  where
+    Kept : Front → Type 0
+    Kept f = AreOpen (k ∷ ks) (f.containers ++ others_of (c ∷ cs) f.containers)
+
+    go : (x : Option Passed) → goes_at options c cells p ≡ x → ((t : Passed) → AreOpen ks ((went_front options cs t.cells t.point).containers ++ others_of cs (went_front options cs t.cells t.point).containers)) →
+        Kept (elim x [ None ↦ no_front cells p | Some t ↦ in_front t (went_front options cs t.cells t.point) ])
+    go None e more = are
+    go (Some t) e more = (goes-same options k c cells p t are.0 e, more t)
 
 -- so many went on
 abbrev with_continued : ℕ → Here → Here
-with_continued k h = record h { flags = record h.flags { continued = k } }
+with_continued n h = record h { flags = record h.flags { continued = n } }
 
 -- and these, with their prefixes
 abbrev gone : ℕ → Front → Here → Here
-gone k f h = record h { events = h.events ++ f.events; point = f.point; flags = record h.flags { continued = k + f.many } }
+gone n f h = record h { events = h.events ++ f.events; point = f.point; flags = record h.flags { continued = n + length f.containers } }
 
-existing-is : (options : ParseOptions) (next : Rule) (m size k : ℕ) (cells : List Cell) (h : Here) → IsRest h.scratch → length cells < m → k + size ≡ length h.flags.containers →
-    existing_from options next m cells (with_continued k h) ≡ new_of options next (went_front options size cells h.point).cells (gone k (went_front options size cells h.point) h)
+existing-is : (options : ParseOptions) (next : Rule) (m n : ℕ) (cs : List Container) (cells : List Cell) (h : Here) → IsRest h.scratch → length cells < m → AreOpen (drop n h.flags.containers) cs →
+    existing_from options next m cells (with_continued n h) ≡ new_of options next (went_front options cs cells h.point).cells (gone n (went_front options cs cells h.point) h)
 unfolding existing_from
-existing-is options next zero size k cells h is some all = absurd (omega arith)
-existing-is options next (suc m) zero k cells h is some all =
-    let past : slice_get h.flags.containers k ≡ None = slice_get_past h.flags.containers k (omega arith) in
-    let same : k + 0 ≡ k = omega arith in
-    ap (λ (o : Option Container). existing_by options next (existing_from options next m) o cells (with_continued k h)) past
+existing-is options next zero n cs cells h is some are = absurd (omega arith)
+existing-is options next (suc m) n [] cells h is some are =
+    let none : length (drop n h.flags.containers) ≡ 0 = open-length (drop n h.flags.containers) [] are in
+    let past : slice_get h.flags.containers n ≡ None = slice_get_past h.flags.containers n (omega (arith, none, length-drop n h.flags.containers)) in
+    let same : n + 0 ≡ n = omega arith in
+    ap (λ (o : Option Known). existing_by options next (existing_from options next m) o cells (with_continued n h)) past
     ∙ ap₂ (λ (es : List Event) (x : ℕ). new_of options next cells (record h { events = es; flags = record h.flags { continued = x } })) (sym (append-nil h.events)) (sym same)
-existing-is options next (suc m) (suc size) k cells h is some all =
-    go (λ e. existing-is options next m size (suc k) (prefix_rest options cells) (record h { events = h.events ++ prefix_events options cells h.point; point = prefix_end options cells h.point }) is (omega (arith, prefix-shorter options cells e)) (omega arith)) (takes_prefix options cells) refl
+existing-is options next (suc m) n (c ∷ cs) cells h is some are =
+    go (λ t lt. existing-is options next m (suc n) cs t.cells (passed_here t h) is lt (open-next n h.flags.containers c cs are).more) (goes_at options c cells h.point) refl
   where
-    f : Front
-    f = went_front options size (prefix_rest options cells) (prefix_end options cells h.point)
-
-    first : Container
-    first = get_or h.flags.containers k (record { kind = kind.BlockQuote })
-
-    inside : k < length h.flags.containers
-    inside = omega arith
-
-    here' : slice_get h.flags.containers k ≡ Some first
-    here' = slice_get-get_or h.flags.containers k (record { kind = kind.BlockQuote }) inside
+    first : IsNext h.flags.containers n c cs
+    first = open-next n h.flags.containers c cs are
 
     at : Here
-    at = with_continued k h
+    at = with_continued n h
 
     onward : Outcome → Outcome
-    onward o = tried o (λ rest x. existing_from options next m rest (record x { flags = went_on x.flags })) (λ s g. new_of options next cells (record (with_continued k h) { scratch = s; flags = g }))
+    onward o = tried o (λ rest x. existing_from options next m rest (record x { flags = went_on x.flags })) (λ s g. new_of options next cells (record (with_continued n h) { scratch = s; flags = g }))
 
-    begins : existing_from options next (suc m) cells at ≡ onward (prefix_at options cells at)
-    begins = ap (λ (o : Option Container). existing_by options next (existing_from options next m) o cells (with_continued k h)) here' ∙ ap onward (asked options first.kind cells (with_continued k h))
+    begins : existing_from options next (suc m) cells at ≡ onward (passed_by (goes_at options c cells h.point) at)
+    begins = ap (λ (o : Option Known). existing_by options next (existing_from options next m) o cells (with_continued n h)) first.found ∙ ap onward (further-is options first.held c cells (with_continued n h) is first.is)
 
     Done : Front → Type 0
-    Done x = existing_from options next (suc m) cells at ≡ new_of options next x.cells (gone k x h)
+    Done x = existing_from options next (suc m) cells at ≡ new_of options next x.cells (gone n x h)
 
-    fits : nat_lt k (length h.flags.containers) ≡ true
-    fits = lt-ltb k (length h.flags.containers) inside
-
-    moved : Here
-    moved = record h { events = h.events ++ prefix_events options cells h.point; point = prefix_end options cells h.point }
+    fits : nat_lt n (length h.flags.containers) ≡ true
+    fits = lt-ltb n (length h.flags.containers) first.inside
 
     Further : Type 0
-    Further = takes_prefix options cells ≡ true → existing_from options next m (prefix_rest options cells) (with_continued (suc k) moved) ≡ new_of options next f.cells (gone (suc k) f moved)
+    Further = (t : Passed) → length t.cells < m →
+        existing_from options next m t.cells (with_continued (suc n) (passed_here t h)) ≡ new_of options next (went_front options cs t.cells t.point).cells (gone (suc n) (went_front options cs t.cells t.point) (passed_here t h))
 
-    go : Further → (x : Bool) → takes_prefix options cells ≡ x → Done (cond x (in_front (prefix_events options cells h.point) f) (no_front cells h.point))
-    go more true e =
-        let same : suc k + f.many ≡ k + suc f.many = omega arith in
-        begins ∙ ap onward (prefix-is options cells at is ∙ ap (λ (x : Bool). cond x (Accepts (with_continued k moved) (prefix_rest options cells)) (Refuses h.scratch at.flags)) e)
-        ∙ ap (λ (x : Bool). existing_from options next m (prefix_rest options cells) (with_continued (cond x (suc k) k) moved)) fits
-        ∙ more e
-        ∙ ap₂ (λ (es : List Event) (x : ℕ). new_of options next f.cells (record h { events = es; point = f.point; flags = record h.flags { continued = x } })) (append_assoc h.events (prefix_events options cells h.point) f.events) same
-    go more false e =
-        let same : k ≡ k + 0 = omega arith in
-        begins ∙ ap onward (prefix-is options cells at is ∙ ap (λ (x : Bool). cond x (Accepts (with_continued k moved) (prefix_rest options cells)) (Refuses h.scratch at.flags)) e)
+    go : Further → (x : Option Passed) → goes_at options c cells h.point ≡ x → Done (elim x [ None ↦ no_front cells h.point | Some t ↦ in_front t (went_front options cs t.cells t.point) ])
+    go more None e =
+        let same : n ≡ n + 0 = omega arith in
+        begins
+        ∙ ap (λ (x : Option Passed). onward (passed_by x at)) e
         ∙ ap₂ (λ (es : List Event) (x : ℕ). new_of options next cells (record h { events = es; flags = record h.flags { continued = x } })) (sym (append-nil h.events)) same
+    go more (Some t) e =
+        let f : Front = went_front options cs t.cells t.point in
+        let same : suc n + length f.containers ≡ n + suc (length f.containers) = omega arith in
+        begins
+        ∙ ap (λ (x : Option Passed). onward (passed_by x at)) e
+        ∙ ap (λ (x : Bool). existing_from options next m t.cells (with_continued (cond x (suc n) n) (passed_here t h))) fits
+        ∙ more t (omega (arith, goes-shorter options c cells h.point t e))
+        ∙ ap₂ (λ (es : List Event) (x : ℕ). new_of options next f.cells (record h { events = es; point = f.point; flags = record h.flags { continued = x } })) (append_assoc h.events t.events f.events) same
 
 -- Containers that open.
 
--- a quote with its prefix
-abbrev begun_quote : ParseOptions → List Cell → Here → Here
-begun_quote options cells h = record h { events = h.events ++ enter n.BlockQuote h.point ∷ prefix_events options cells h.point; point = prefix_end options cells h.point }
+new-by : (options : ParseOptions) (next : Rule) (interrupting : Bool) (m : ℕ) (cells : List Cell) (h : Here) (x : Option Passed) → IsRest h.scratch → opens_at options interrupting cells h.point ≡ x →
+    new_from options next (suc m) cells h ≡ tried (passed_by x h) (λ rest k. new_from options next m rest (quote_opened k)) (λ s g. behind_containers options next cells (record h { scratch = s; flags = g }))
+unfolding new_from
+new-by options next interrupting m cells h x is e =
+    ap (λ (o : Outcome). tried o (λ rest k. new_from options next m rest (quote_opened k)) (λ s g. behind_containers options next cells (record h { scratch = s; flags = g })))
+    (opening-is options interrupting cells h is ∙ ap (λ (y : Option Passed). passed_by y h) e)
 
-new-none : (options : ParseOptions) (next : Rule) (m : ℕ) (cells : List Cell) (h : Here) → IsRest h.scratch → (options.constructs.block_quote && takes_prefix options cells) ≡ false →
+new-none : (options : ParseOptions) (next : Rule) (interrupting : Bool) (m : ℕ) (cells : List Cell) (h : Here) → IsRest h.scratch → opens_at options interrupting cells h.point ≡ None →
     new_from options next (suc m) cells h ≡ behind_containers options next cells h
-unfolding new_from
-new-none options next m cells h is e =
-    ap (λ (o : Outcome). tried o (λ rest k. new_from options next m rest (quote_opened k)) (λ s g. behind_containers options next cells (record h { scratch = s; flags = g })))
-    (quote-is options cells h is ∙ ap (λ (x : Bool). cond x (Accepts (begun_quote options cells h) (prefix_rest options cells)) (Refuses h.scratch h.flags)) e)
+new-none options next interrupting m cells h is e = new-by options next interrupting m cells h None is e
 
-new-one : (options : ParseOptions) (next : Rule) (m : ℕ) (cells : List Cell) (h : Here) → IsRest h.scratch → (options.constructs.block_quote && takes_prefix options cells) ≡ true →
-    new_from options next (suc m) cells h ≡ new_from options next m (prefix_rest options cells) (quote_opened (begun_quote options cells h))
-unfolding new_from
-new-one options next m cells h is e =
-    ap (λ (o : Outcome). tried o (λ rest k. new_from options next m rest (quote_opened k)) (λ s g. behind_containers options next cells (record h { scratch = s; flags = g })))
-    (quote-is options cells h is ∙ ap (λ (x : Bool). cond x (Accepts (begun_quote options cells h) (prefix_rest options cells)) (Refuses h.scratch h.flags)) e)
+new-one : (options : ParseOptions) (next : Rule) (interrupting : Bool) (m : ℕ) (cells : List Cell) (h : Here) (t : Passed) → IsRest h.scratch → opens_at options interrupting cells h.point ≡ Some t →
+    new_from options next (suc m) cells h ≡ new_from options next m t.cells (quote_opened (passed_here t h))
+new-one options next interrupting m cells h t is e = new-by options next interrupting m cells h (Some t) is e
 
--- no quote opens where nothing is left
-takes-none : (options : ParseOptions) (cells : List Cell) → length cells ≤ 0 → (options.constructs.block_quote && takes_prefix options cells) ≡ false
-takes-none options [] e = go options.constructs.block_quote
-  where
-    go : (x : Bool) → (x && false) ≡ false
-    go true = refl
-    go false = refl
-takes-none options (c ∷ cs) e = absurd (omega arith)
-
--- where all containers went on or are new, more of them open
-record Opened (options : ParseOptions) (next : Rule) (h : Here) (f : Front) (o : Outcome) : Type 0 where
+-- where these containers went on or are new, more of them open
+record Opened (options : ParseOptions) (next : Rule) (cs : List Container) (h : Here) (f : Front) (o : Outcome) : Type 0 where
   new : Here
   is : o ≡ behind_containers options next f.cells new
   rest : IsRest new.scratch
   events : new.events ≡ h.events ++ f.events
   point : new.point ≡ f.point
-  size : length new.flags.containers ≡ length h.flags.containers + f.many
+  containers : AreOpen new.flags.containers (cs ++ f.containers)
   all : new.flags.continued ≡ length new.flags.containers
   interrupt : new.flags.interrupt ≡ false
   blank : new.flags.blank ≡ h.flags.blank
 
-new-more : (options : ParseOptions) (next : Rule) (m size : ℕ) (cells : List Cell) (h : Here) → IsRest h.scratch → length cells < m → length cells ≤ size → h.flags.continued ≡ length h.flags.containers → h.flags.interrupt ≡ false →
-    Opened options next h (new_front options size cells h.point) (new_from options next m cells h)
-new-more options next zero size cells h is some most all shut = absurd (omega arith)
-new-more options next (suc m) zero cells h is some most all shut = record {
+-- none does
+opened-none : (options : ParseOptions) (next : Rule) (cs : List Container) (cells : List Cell) (h : Here) (o : Outcome) → o ≡ behind_containers options next cells h → IsRest h.scratch → AreOpen h.flags.containers cs → h.flags.continued ≡ length h.flags.containers → h.flags.interrupt ≡ false →
+    Opened options next cs h (no_front cells h.point) o
+opened-none options next cs cells h o same is are all shut = record {
   new = h;
-  is = new-none options next m cells h is (takes-none options cells most);
+  is = same;
   rest = is;
   events = sym (append-nil h.events);
   point = refl;
-  size = omega arith;
+  containers = let P : List Container → Type 0 = λ l. AreOpen h.flags.containers l in subst P (sym (append-nil cs)) are;
   all = all;
   interrupt = shut;
   blank = refl;
 }
-new-more options next (suc m) (suc size) cells h is some most all shut =
-    go (λ e. new-more options next m size (prefix_rest options cells) (quote_opened (begun_quote options cells h)) is (omega (arith, prefix-shorter options cells (takes e))) (omega (arith, prefix-shorter options cells (takes e))) refl refl)
-    (options.constructs.block_quote && takes_prefix options cells) refl
+
+new-more : (options : ParseOptions) (next : Rule) (m size : ℕ) (cs : List Container) (cells : List Cell) (h : Here) → IsRest h.scratch → length cells < m → length cells ≤ size → AreOpen h.flags.containers cs → h.flags.continued ≡ length h.flags.containers → h.flags.interrupt ≡ false →
+    Opened options next cs h (new_front options false size cells h.point) (new_from options next m cells h)
+new-more options next zero size cs cells h is some most are all shut = absurd (omega arith)
+new-more options next (suc m) zero cs cells h is some most are all shut =
+    opened-none options next cs cells h (new_from options next (suc m) cells h) (new-none options next false m cells h is (opens-none options false cells h.point most)) is are all shut
+new-more options next (suc m) (suc size) cs cells h is some most are all shut =
+    go (λ t lt le more. new-more options next m size (cs ++ t.container ∷ []) t.cells (quote_opened (passed_here t h)) is lt le more refl refl) (opens_at options false cells h.point) refl
   where
-    takes : (options.constructs.block_quote && takes_prefix options cells) ≡ true → takes_prefix options cells ≡ true
-    takes e = (and_parts options.constructs.block_quote (takes_prefix options cells) e).1
+    quote : Known
+    quote = record { kind = kind.BlockQuote }
 
-    added : List Event
-    added = enter n.BlockQuote h.point ∷ prefix_events options cells h.point
+    Further : Type 0
+    Further = (t : Passed) → length t.cells < m → length t.cells ≤ size → AreOpen (quote_opened (passed_here t h)).flags.containers (cs ++ t.container ∷ []) →
+        Opened options next (cs ++ t.container ∷ []) (quote_opened (passed_here t h)) (new_front options false size t.cells t.point) (new_from options next m t.cells (quote_opened (passed_here t h)))
 
-    f : Front
-    f = new_front options size (prefix_rest options cells) (prefix_end options cells h.point)
-
-    next_here : Here
-    next_here = quote_opened (begun_quote options cells h)
-
-    go : ((options.constructs.block_quote && takes_prefix options cells) ≡ true → Opened options next next_here f (new_from options next m (prefix_rest options cells) next_here)) →
-        (x : Bool) → (options.constructs.block_quote && takes_prefix options cells) ≡ x → Opened options next h (cond x (in_front added f) (no_front cells h.point)) (new_from options next (suc m) cells h)
-    go more true e =
-        let o = more e in
-        let none : next_here.events ≡ h.events ++ added = closed-none h.flags.continued h.flags.line_end h.flags.containers (h.events ++ added) (prefix_end options cells h.point) (omega arith) in
-        let kept : length (take h.flags.continued h.flags.containers) ≡ h.flags.continued = length-take-le h.flags.continued h.flags.containers (omega arith) in
-        let one : length next_here.flags.containers ≡ length (take h.flags.continued h.flags.containers) + 1 = length-append (take h.flags.continued h.flags.containers) (record { kind = kind.BlockQuote } ∷ []) in
+    go : Further → (x : Option Passed) → opens_at options false cells h.point ≡ x →
+        Opened options next cs h (elim x [ None ↦ no_front cells h.point | Some t ↦ in_front t (new_front options false size t.cells t.point) ]) (new_from options next (suc m) cells h)
+    go more None e = opened-none options next cs cells h (new_from options next (suc m) cells h) (new-none options next false m cells h is e) is are all shut
+    go more (Some t) e =
+        let shorter = opens-shorter options false cells h.point t e in
+        let f : Front = new_front options false size t.cells t.point in
+        let begun : AreOpen (quote_opened (passed_here t h)).flags.containers (cs ++ t.container ∷ []) =
+        open-append (take h.flags.continued h.flags.containers) (quote ∷ []) cs (t.container ∷ []) (open-all h.flags.continued h.flags.containers cs all are) (opens-same options false cells h.point t e, tt) in
+        let o = more t (omega (arith, shorter)) (omega (arith, shorter)) begun in
+        let none : (quote_opened (passed_here t h)).events ≡ h.events ++ t.events = closed-none h.flags.continued h.flags.line_end h.flags.containers (h.events ++ t.events) t.point (omega arith) in
+        let P : List Container → Type 0 = λ l. AreOpen o.new.flags.containers l in
         record {
           new = o.new;
-          is = new-one options next m cells h is e ∙ o.is;
+          is = new-one options next false m cells h t is e ∙ o.is;
           rest = o.rest;
-          events = o.events ∙ ap (λ (es : List Event). es ++ f.events) none ∙ append_assoc h.events added f.events;
+          events = o.events ∙ ap (λ (es : List Event). es ++ f.events) none ∙ append_assoc h.events t.events f.events;
           point = o.point;
-          size = omega (arith, o.size, one, kept);
+          containers = subst P (append_assoc cs (t.container ∷ []) f.containers) o.containers;
           all = o.all;
           interrupt = o.interrupt;
           blank = o.blank;
         }
-    go more false e = record {
-      new = h;
-      is = new-none options next m cells h is e;
-      rest = is;
-      events = sym (append-nil h.events);
-      point = refl;
-      size = omega arith;
-      all = all;
-      interrupt = shut;
-      blank = refl;
-    }
 
 -- The containers of a line, and its leaf.
 
 -- a line was read up to its ending: what stands behind the line before, and what it adds
-record Done (next : Rule) (options : ParseOptions) (front tail : List Event) (p : Point) (x : Held) (o : Outcome) : Type 0 where
-  new : Here
-  is : o ≡ ended next (from_ending x.cells) new
-  rest : IsRest new.scratch
-  events : new.events ≡ front ++ (quote_ends x.closes p ++ (tail ++ (x.front ++ added_by options x.cells x.point (row_kind options x.cells))))
-  point : new.point ≡ line_end x.cells x.point
-  size : length new.flags.containers ≡ x.depth
-  interrupt : new.flags.interrupt ≡ is_text (row_kind options x.cells)
-  blank : new.flags.blank ≡ blank_by (row_kind options x.cells) false
+pub record Done (next : Rule) (options : ParseOptions) (front tail : List Event) (p : Point) (x : Held) (o : Outcome) : Type 0 where
+  pub new : Here
+  pub is : o ≡ ended next (from_ending x.cells) new
+  pub rest : IsRest new.scratch
+  pub events : new.events ≡ front ++ (ends_of x.change.closes p ++ (tail ++ (x.front ++ added_by options x.cells x.point (row_kind options x.cells))))
+  pub point : new.point ≡ line_end x.cells x.point
+  pub containers : AreOpen new.flags.containers (open_behind x.change)
+  pub interrupt : new.flags.interrupt ≡ is_text (row_kind options x.cells)
+  pub blank : new.flags.blank ≡ blank_by (row_kind options x.cells) false
 
 -- behind the containers that went on
-record Between (front tail : List Event) (p : Point) (depth : ℕ) (going : Bool) (w : Front) (h : Here) : Type 0 where
+record Between (front tail : List Event) (p : Point) (cs : List Container) (going : Bool) (w : Front) (h : Here) : Type 0 where
   rest : IsRest h.scratch
   events : h.events ≡ front ++ (tail ++ w.events)
-  size : length h.flags.containers ≡ depth
-  continued : h.flags.continued ≡ w.many
-  fits : w.many ≤ depth
+  containers : AreOpen h.flags.containers (w.containers ++ others_of cs w.containers)
+  continued : h.flags.continued ≡ length w.containers
   interrupt : h.flags.interrupt ≡ going
   blank : h.flags.blank ≡ false
   line_end : h.flags.line_end ≡ length front
   ends : Ends h.flags.containers tail p
 
--- so many of the containers before it are still open
-lazy-none : (going : Bool) (k : RowKind) → is_lazy going 0 k ≡ (going && is_text k)
+-- where no container opens, a line of text goes on the open paragraph
+lazy-none : (going : Bool) (k : RowKind) → is_lazy going [] k ≡ (going && is_text k)
 lazy-none true k = refl
 lazy-none false k = refl
 
-some-more : (size : ℕ) → (suc size == 0) ≡ false
-some-more size = grind (arith, nat_tests)
+lazy-some : (going : Bool) (c : Container) (cs : List Container) (k : RowKind) → is_lazy going (c ∷ cs) k ≡ false
+lazy-some true c cs k = refl
+lazy-some false c cs k = refl
 
-lazy-some : (going : Bool) (size : ℕ) (k : RowKind) → is_lazy going (suc size) k ≡ false
-lazy-some true size k = ap (λ (x : Bool). x && is_text k) (some-more size)
-lazy-some false size k = refl
+-- those that stay, and those that end, are all that went on or did not
+change-parts : (x : Bool) (went others : List Container) → let c = change_by x went others [] in c.stays ++ c.closes ≡ went ++ others
+change-parts true went others = append-nil (went ++ others)
+change-parts false went others = refl
 
-keep-fits : (x : Bool) (a b : ℕ) → b ≤ a → cond x a b ≤ a
-keep-fits true a b h = omega arith
-keep-fits false a b h = h
+change-stays : (x : Bool) (went others : List Container) → length (change_by x went others []).stays ≡ cond x (length (went ++ others)) (length went)
+change-stays true went others = refl
+change-stays false went others = refl
+
+change-none : (x : Bool) (went others : List Container) → let c = change_by x went others [] in open_behind c ≡ c.stays
+change-none true went others = append-nil (went ++ others)
+change-none false went others = append-nil went
 
 regroup-ends : (front tail w added : List Event) → (front ++ (tail ++ w)) ++ added ≡ front ++ (tail ++ (w ++ added))
 regroup-ends front tail w added = simp append_assoc
@@ -394,18 +486,17 @@ regroup-ends front tail w added = simp append_assoc
 regroup-line : (front ends tail w begin more added : List Event) → ((front ++ (ends ++ (tail ++ (w ++ begin)))) ++ more) ++ added ≡ front ++ (ends ++ (tail ++ ((w ++ (begin ++ more)) ++ added)))
 regroup-line front ends tail w begin more added = simp append_assoc
 
--- no quote opens
-done-none : (options : ParseOptions) (next : Rule) (front tail : List Event) (p : Point) (depth : ℕ) (going : Bool) (w : Front) (cells : List Cell) (h : Here) → Between front tail p depth going w h →
-    Done next options front tail p (held_of options depth going w (no_front cells h.point)) (behind_containers options next cells h)
-done-none options next front tail p depth going w cells h b = record {
+-- no container opens
+done-none : (options : ParseOptions) (next : Rule) (front tail : List Event) (p : Point) (cs : List Container) (going : Bool) (w : Front) (cells : List Cell) (h : Here) → Between front tail p cs going w h →
+    Done next options front tail p (held_of options cs going w (no_front cells h.point)) (behind_containers options next cells h)
+done-none options next front tail p cs going w cells h b = record {
   new = ended_to keep leaf.flags.line_end leaf;
   is = leaf-is options next cells (record h { flags = begun_line h.flags }) b.rest;
   rest = b.rest;
-  events = closed-ends front tail (w.events ++ added) leaf.events p leaf.point keep leaf.flags.line_end h.flags.containers b.ends b.line_end (ap (λ (es : List Event). es ++ added) b.events ∙ regroup-ends front tail w.events added)
-      ∙ ap₂ (λ (a c : ℕ). front ++ (quote_ends (a - c) p ++ (tail ++ (w.events ++ added)))) b.size kept
-      ∙ ap (λ (es : List Event). front ++ (quote_ends (depth - cond (is_lazy going 0 k) depth w.many) p ++ (tail ++ (es ++ added)))) (sym (append-nil w.events));
+  events = closed-ends front tail (w.events ++ added) leaf.events p leaf.point keep leaf.flags.line_end h.flags.containers c.closes b.ends parts.1 b.line_end (ap (λ (es : List Event). es ++ added) b.events ∙ regroup-ends front tail w.events added)
+      ∙ ap (λ (es : List Event). front ++ (ends_of c.closes p ++ (tail ++ (es ++ added)))) (sym (append-nil w.events));
   point = refl;
-  size = length-take-le keep h.flags.containers (omega (arith, kept, b.size, keep-fits (is_lazy going 0 k) depth w.many b.fits)) ∙ kept ∙ add-none;
+  containers = let P : List Container → Type 0 = λ l. AreOpen (take keep h.flags.containers) l in subst P (sym (change-none (is_lazy going [] k) w.containers (others_of cs w.containers))) parts.0;
   interrupt = refl;
   blank = ap (λ (x : Bool). blank_by k x) b.blank;
 }
@@ -422,29 +513,35 @@ done-none options next front tail p depth going w cells h b = record {
     keep : ℕ
     keep = stays leaf.flags
 
-    kept : keep ≡ cond (is_lazy going 0 (row_kind options cells)) depth w.many
+    c : Change
+    c = change_by (is_lazy going [] (row_kind options cells)) w.containers (others_of cs w.containers) []
+
+    kept : keep ≡ length c.stays
     kept =
         ap (λ (x : Bool). cond (x && is_text k) (length h.flags.containers) h.flags.continued) b.interrupt
-        ∙ ap₂ (λ (x y : ℕ). cond (going && is_text k) x y) b.size b.continued
-        ∙ ap (λ (x : Bool). cond x depth w.many) (sym (lazy-none going k))
+        ∙ ap₂ (λ (x y : ℕ). cond (going && is_text k) x y) (open-length h.flags.containers (w.containers ++ others_of cs w.containers) b.containers) b.continued
+        ∙ ap (λ (x : Bool). cond x (length (w.containers ++ others_of cs w.containers)) (length w.containers)) (sym (lazy-none going k))
+        ∙ sym (change-stays (is_lazy going [] k) w.containers (others_of cs w.containers))
 
-    add-none : cond (is_lazy going 0 (row_kind options cells)) depth w.many ≡ cond (is_lazy going 0 (row_kind options cells)) depth w.many + 0
-    add-none = omega arith
+    parts : AreOpen (take keep h.flags.containers) c.stays × AreOpen (drop keep h.flags.containers) c.closes
+    parts =
+        let P : ℕ → Type 0 = λ n. AreOpen (take n h.flags.containers) c.stays × AreOpen (drop n h.flags.containers) c.closes in
+        let Q : List Container → Type 0 = λ l. AreOpen h.flags.containers l in
+        subst P (sym kept) (open-parts h.flags.containers c.stays c.closes (subst Q (sym (change-parts (is_lazy going [] k) w.containers (others_of cs w.containers))) b.containers))
 
--- quotes open
-done-some : (options : ParseOptions) (next : Rule) (front tail : List Event) (p : Point) (depth : ℕ) (going : Bool) (w f : Front) (m : ℕ) (cells : List Cell) (h : Here) → Between front tail p depth going w h →
-    Opened options next (quote_opened (begun_quote options cells h)) f (new_from options next m (prefix_rest options cells) (quote_opened (begun_quote options cells h))) →
-    Done next options front tail p (held_of options depth going w (in_front (enter n.BlockQuote h.point ∷ prefix_events options cells h.point) f)) (new_from options next m (prefix_rest options cells) (quote_opened (begun_quote options cells h)))
-done-some options next front tail p depth going w f m cells h b o =
-    subst P (sym (ap (λ (x : Bool). cond x depth w.many) (lazy-some going f.many k))) (record {
+-- containers open
+done-some : (options : ParseOptions) (next : Rule) (front tail : List Event) (p : Point) (cs : List Container) (going : Bool) (w f : Front) (t : Passed) (h : Here) (o : Outcome) → Between front tail p cs going w h →
+    Opened options next (w.containers ++ t.container ∷ []) (quote_opened (passed_here t h)) f o → Done next options front tail p (held_of options cs going w (in_front t f)) o
+done-some options next front tail p cs going w f t h out b o =
+    subst P (sym (lazy-some going t.container f.containers k)) (record {
       new = ended_to keep leaf.flags.line_end leaf;
       is = o.is ∙ leaf-is options next f.cells (record o.new { flags = begun_line o.new.flags }) o.rest;
       rest = o.rest;
       events = closed-none keep leaf.flags.line_end o.new.flags.containers leaf.events leaf.point (omega (arith, kept))
-          ∙ ap₂ (λ (es : List Event) (q : Point). es ++ added_by options f.cells q k) (o.events ∙ ap (λ (es : List Event). es ++ f.events) (first ∙ ap₂ (λ (a c : ℕ). front ++ (quote_ends (a - c) p ++ (tail ++ (w.events ++ begin)))) b.size b.continued)) o.point
-          ∙ regroup-line front (quote_ends (depth - w.many) p) tail w.events begin f.events (added_by options f.cells f.point k);
+          ∙ ap₂ (λ (es : List Event) (q : Point). es ++ added_by options f.cells q k) (o.events ∙ ap (λ (es : List Event). es ++ f.events) first) o.point
+          ∙ regroup-line front (ends_of (others_of cs w.containers) p) tail w.events t.events f.events (added_by options f.cells f.point k);
       point = ap (λ (q : Point). line_end f.cells q) o.point;
-      size = length-take-le keep o.new.flags.containers (omega (arith, kept)) ∙ sizes;
+      containers = open-all keep o.new.flags.containers (w.containers ++ t.container ∷ f.containers) kept (subst Q (append_assoc w.containers (t.container ∷ []) f.containers) o.containers);
       interrupt = refl;
       blank = ap (λ (x : Bool). blank_by k x) (o.blank ∙ b.blank);
     })
@@ -452,11 +549,11 @@ done-some options next front tail p depth going w f m cells h b o =
     k : RowKind
     k = row_kind options f.cells
 
-    begin : List Event
-    begin = enter n.BlockQuote h.point ∷ prefix_events options cells h.point
+    P : Bool → Type 0
+    P lazy = Done next options front tail p (held_by cs lazy w (in_front t f)) out
 
-    P : ℕ → Type 0
-    P keep = Done next options front tail p (held_by depth keep w (in_front begin f)) (new_from options next m (prefix_rest options cells) (quote_opened (begun_quote options cells h)))
+    Q : List Container → Type 0
+    Q l = AreOpen o.new.flags.containers l
 
     leaf : Here
     leaf = leaf_here options f.cells (record o.new { flags = begun_line o.new.flags }) (row_kind options f.cells)
@@ -467,67 +564,69 @@ done-some options next front tail p depth going w f m cells h b o =
     kept : keep ≡ length o.new.flags.containers
     kept = ap (λ (x : Bool). cond (x && is_text k) (length o.new.flags.containers) o.new.flags.continued) o.interrupt ∙ o.all
 
-    first : (quote_opened (begun_quote options cells h)).events ≡ front ++ (quote_ends (length h.flags.containers - h.flags.continued) p ++ (tail ++ (w.events ++ begin)))
-    first = closed-ends front tail (w.events ++ begin) (h.events ++ begin) p (prefix_end options cells h.point) h.flags.continued h.flags.line_end h.flags.containers b.ends b.line_end (ap (λ (es : List Event). es ++ begin) b.events ∙ regroup-ends front tail w.events begin)
+    ended : AreOpen (drop h.flags.continued h.flags.containers) (others_of cs w.containers)
+    ended =
+        let R : ℕ → Type 0 = λ n. AreOpen (drop n h.flags.containers) (others_of cs w.containers) in
+        subst R (sym b.continued) (open-parts h.flags.containers w.containers (others_of cs w.containers) b.containers).1
 
-    sizes : keep ≡ w.many + suc f.many
-    sizes =
-        let one : length (quote_opened (begun_quote options cells h)).flags.containers ≡ length (take h.flags.continued h.flags.containers) + 1 = length-append (take h.flags.continued h.flags.containers) (record { kind = kind.BlockQuote } ∷ []) in
-        let some : length (take h.flags.continued h.flags.containers) ≡ h.flags.continued = length-take-le h.flags.continued h.flags.containers (omega (arith, b.continued, b.size, b.fits)) in
-        omega (arith, kept, o.size, one, some, b.continued)
+    first : (quote_opened (passed_here t h)).events ≡ front ++ (ends_of (others_of cs w.containers) p ++ (tail ++ (w.events ++ t.events)))
+    first = closed-ends front tail (w.events ++ t.events) (h.events ++ t.events) p t.point h.flags.continued h.flags.line_end h.flags.containers (others_of cs w.containers) b.ends ended b.line_end
+        (ap (λ (es : List Event). es ++ t.events) b.events ∙ regroup-ends front tail w.events t.events)
 
 -- the same for another outcome
 done-same : (options : ParseOptions) (next : Rule) (front tail : List Event) (p : Point) (x : Held) (a b : Outcome) → a ≡ b → Done next options front tail p x b → Done next options front tail p x a
 done-same options next front tail p x a b e d = let P : Outcome → Type 0 = λ o. Done next options front tail p x o in subst P (sym e) d
 
-new-done : (options : ParseOptions) (next : Rule) (front tail : List Event) (p : Point) (depth : ℕ) (going : Bool) (w : Front) (m size : ℕ) (cells : List Cell) (h : Here) → Between front tail p depth going w h → length cells ≤ m → length cells ≤ size →
-    Done next options front tail p (held_of options depth going w (new_front options size cells h.point)) (new_from options next (suc m) cells h)
-new-done options next front tail p depth going w m zero cells h b some most =
-    done-same options next front tail p _ _ _ (new-none options next m cells h b.rest (takes-none options cells most)) (done-none options next front tail p depth going w cells h b)
-new-done options next front tail p depth going w m (suc size) cells h b some most = go (options.constructs.block_quote && takes_prefix options cells) refl
+new-done : (options : ParseOptions) (next : Rule) (front tail : List Event) (p : Point) (cs : List Container) (going interrupting : Bool) (w : Front) (m size : ℕ) (cells : List Cell) (h : Here) → Between front tail p cs going w h → length cells ≤ m → length cells ≤ size →
+    Done next options front tail p (held_of options cs going w (new_front options interrupting size cells h.point)) (new_from options next (suc m) cells h)
+new-done options next front tail p cs going interrupting w m zero cells h b some most =
+    done-same options next front tail p _ _ _ (new-none options next interrupting m cells h b.rest (opens-none options interrupting cells h.point most)) (done-none options next front tail p cs going w cells h b)
+new-done options next front tail p cs going interrupting w m (suc size) cells h b some most = go (opens_at options interrupting cells h.point) refl
   where
-    begin : List Event
-    begin = enter n.BlockQuote h.point ∷ prefix_events options cells h.point
+    quote : Known
+    quote = record { kind = kind.BlockQuote }
 
-    f : Front
-    f = new_front options size (prefix_rest options cells) (prefix_end options cells h.point)
-
-    go : (x : Bool) → (options.constructs.block_quote && takes_prefix options cells) ≡ x → Done next options front tail p (held_of options depth going w (cond x (in_front begin f) (no_front cells h.point))) (new_from options next (suc m) cells h)
-    go true e =
-        let shorter = prefix-shorter options cells (and_parts options.constructs.block_quote (takes_prefix options cells) e).1 in
-        done-same options next front tail p _ _ _ (new-one options next m cells h b.rest e)
-        (done-some options next front tail p depth going w f m cells h b (new-more options next m size (prefix_rest options cells) (quote_opened (begun_quote options cells h)) b.rest (omega (arith, shorter)) (omega (arith, shorter)) refl refl))
-    go false e = done-same options next front tail p _ _ _ (new-none options next m cells h b.rest e) (done-none options next front tail p depth going w cells h b)
+    go : (x : Option Passed) → opens_at options interrupting cells h.point ≡ x →
+        Done next options front tail p (held_of options cs going w (elim x [ None ↦ no_front cells h.point | Some t ↦ in_front t (new_front options false size t.cells t.point) ])) (new_from options next (suc m) cells h)
+    go None e = done-same options next front tail p _ _ _ (new-none options next interrupting m cells h b.rest e) (done-none options next front tail p cs going w cells h b)
+    go (Some t) e =
+        let shorter = opens-shorter options interrupting cells h.point t e in
+        let R : ℕ → Type 0 = λ n. AreOpen (take n h.flags.containers) w.containers in
+        let stayed : AreOpen (take h.flags.continued h.flags.containers) w.containers = subst R (sym b.continued) (open-parts h.flags.containers w.containers (others_of cs w.containers) b.containers).0 in
+        let begun : AreOpen (quote_opened (passed_here t h)).flags.containers (w.containers ++ t.container ∷ []) =
+        open-append (take h.flags.continued h.flags.containers) (quote ∷ []) w.containers (t.container ∷ []) stayed (opens-same options interrupting cells h.point t e, tt) in
+        done-same options next front tail p _ _ _ (new-one options next interrupting m cells h t b.rest e)
+        (done-some options next front tail p cs going w (new_front options false size t.cells t.point) t h _ b
+        (new-more options next m size (w.containers ++ t.container ∷ []) t.cells (quote_opened (passed_here t h)) b.rest (omega (arith, shorter)) (omega (arith, shorter)) begun refl refl))
 
 -- at the begin of a line
-record Begins (front tail : List Event) (p : Point) (depth : ℕ) (going : Bool) (h : Here) : Type 0 where
-  rest : IsRest h.scratch
-  events : h.events ≡ front ++ tail
-  size : length h.flags.containers ≡ depth
-  continued : h.flags.continued ≡ 0
-  interrupt : h.flags.interrupt ≡ going
-  blank : h.flags.blank ≡ false
-  line_end : h.flags.line_end ≡ length front
-  ends : Ends h.flags.containers tail p
+pub record Begins (front tail : List Event) (p : Point) (cs : List Container) (going : Bool) (h : Here) : Type 0 where
+  pub rest : IsRest h.scratch
+  pub events : h.events ≡ front ++ tail
+  pub containers : AreOpen h.flags.containers cs
+  pub continued : h.flags.continued ≡ 0
+  pub interrupt : h.flags.interrupt ≡ going
+  pub blank : h.flags.blank ≡ false
+  pub line_end : h.flags.line_end ≡ length front
+  pub ends : Ends h.flags.containers tail p
 
-line-done : (options : ParseOptions) (next : Rule) (front tail : List Event) (p : Point) (depth : ℕ) (going : Bool) (cells : List Cell) (h : Here) → Begins front tail p depth going h →
-    Done next options front tail p (held_at options depth going cells h.point) (line_then options next cells h)
+pub line-done : (options : ParseOptions) (next : Rule) (front tail : List Event) (p : Point) (cs : List Container) (going : Bool) (cells : List Cell) (h : Here) → Begins front tail p cs going h →
+    Done next options front tail p (held_at options cs going cells h.point) (line_then options next cells h)
 unfolding line_then new_of held_at
-line-done options next front tail p depth going cells h b =
+line-done options next front tail p cs going cells h b =
     done-same options next front tail p _ _ _
-    (ap (λ (k : ℕ). existing_from options next (suc (length cells)) cells (with_continued k h)) b.continued ∙ existing-is options next (suc (length cells)) depth 0 cells h b.rest (omega arith) (omega (arith, b.size)))
-    (new-done options next front tail p depth going w (length w.cells) (length w.cells) w.cells (gone 0 w h) between (omega arith) (omega arith))
+    (ap (λ (k : ℕ). existing_from options next (suc (length cells)) cells (with_continued k h)) b.continued ∙ existing-is options next (suc (length cells)) 0 cs cells h b.rest (omega arith) b.containers)
+    (new-done options next front tail p cs going (interrupts going (others_of cs w.containers)) w (length w.cells) (length w.cells) w.cells (gone 0 w h) between (omega arith) (omega arith))
   where
     w : Front
-    w = went_front options depth cells h.point
+    w = went_front options cs cells h.point
 
-    between : Between front tail p depth going w (gone 0 w h)
+    between : Between front tail p cs going w (gone 0 w h)
     between = record {
       rest = b.rest;
       events = ap (λ (es : List Event). es ++ w.events) b.events ∙ append_assoc front tail w.events;
-      size = b.size;
+      containers = went-open options h.flags.containers cs cells h.point b.containers;
       continued = omega arith;
-      fits = went-many options depth cells h.point;
       interrupt = b.interrupt;
       blank = b.blank;
       line_end = b.line_end;
@@ -537,11 +636,11 @@ line-done options next front tail p depth going cells h b =
 -- Rows.
 
 -- what a row says of its leaf is what is added
-leaf-added : (options : ParseOptions) (x : Held) (below : List Row) (k : RowKind) → leaf_events k (record (row_of options x below) { inside = inside_of options x.cells x.point k }) ≡ added_by options x.cells x.point k
-leaf-added options x below BlankRow = refl
-leaf-added options x below HeadingRow = refl
-leaf-added options x below BreakRow = refl
-leaf-added options x below TextRow = refl
+leaf-added : (options : ParseOptions) (x : Held) (ls : List Container) (below : List Row) (k : RowKind) → leaf_events k (record (row_of options x below) { leaves = ls; inside = inside_of options x.cells x.point k }) ≡ added_by options x.cells x.point k
+leaf-added options x ls below BlankRow = refl
+leaf-added options x ls below HeadingRow = refl
+leaf-added options x ls below BreakRow = refl
+leaf-added options x ls below TextRow = refl
 
 ending-named : (k : RowKind) → ending_name (blank_by k false) ≡ ending_of k
 ending-named BlankRow = refl
@@ -556,118 +655,132 @@ regroup-row front ends tail w added more ending rows = simp append_assoc
 -- What stands behind a line.
 
 -- the rows behind these cells, from the ending of a line on
-abbrev rows_below : ParseOptions → ℕ → ℕ → Bool → List Cell → List Row
-rows_below options m depth going left = elim left [ [] ↦ [] | c ∷ cs ↦ rows_at options m depth going cs c.after ]
+abbrev pub rows_below : ParseOptions → ℕ → List Container → Bool → List Cell → List Row
+rows_below options m cs going left = elim left [ [] ↦ [] | x ∷ xs ↦ rows_at options m cs going xs x.after ]
 
 -- its ending
-abbrev ending_here : Name → Point → List Cell → List Event
+abbrev pub ending_here : Name → Point → List Cell → List Event
 ending_here name p [] = []
 ending_here name p (c ∷ cs) = pair name p c.after
 
 -- what flow adds from the begin of a line on, with so many lines at most
 abbrev Adds : ParseOptions → ℕ → Rule → Type 0
-Adds options m next = (front tail : List Event) (p : Point) (depth : ℕ) (going : Bool) (cells : List Cell) (h new : Here) (rest : List Cell) → length cells < m → Begins front tail p depth going h → next cells h ≡ Accepts new rest →
-    new.events ≡ front ++ (quote_ends (closes_before depth (rows_at options m depth going cells h.point)) p ++ (tail ++ rows_events (rows_at options m depth going cells h.point)))
+Adds options m next = (front tail : List Event) (p : Point) (cs : List Container) (going : Bool) (cells : List Cell) (h new : Here) (rest : List Cell) → length cells < m → Begins front tail p cs going h → next cells h ≡ Accepts new rest →
+    new.events ≡ front ++ (ends_of (closes_before cs (rows_at options m cs going cells h.point)) p ++ (tail ++ rows_events (rows_at options m cs going cells h.point)))
 
-ended-adds : (options : ParseOptions) (m : ℕ) (next : Rule) → Adds options m next → (going : Bool) (left : List Cell) (h new : Here) (rest : List Cell) → length left ≤ m → IsRest h.scratch → h.flags.interrupt ≡ going → ended next left h ≡ Accepts new rest →
-    new.events ≡ h.events ++ (quote_ends (closes_before (length h.flags.containers) (rows_below options m (length h.flags.containers) going left)) h.point
-    ++ (ending_here (ending_name h.flags.blank) h.point left ++ rows_events (rows_below options m (length h.flags.containers) going left)))
-ended-adds options m next adds going [] h new rest fits is held e =
+-- behind the ending of a line, at the begin of the next
+abbrev pub next_here : Cell → Here → Here
+next_here c h = record h { events = h.events ++ pair (ending_name h.flags.blank) h.point c.after; point = c.after; flags = next_line (length h.events) h.flags }
+
+pub next-begins : (cs : List Container) (going : Bool) (c : Cell) (h : Here) → IsRest h.scratch → h.flags.interrupt ≡ going → AreOpen h.flags.containers cs →
+    Begins h.events (pair (ending_name h.flags.blank) h.point c.after) h.point cs going (next_here c h)
+next-begins cs going c h is held are = record {
+  rest = is;
+  events = refl;
+  containers = are;
+  continued = refl;
+  interrupt = held;
+  blank = refl;
+  line_end = refl;
+  ends = ends-behind h.flags.containers (enter (ending_name h.flags.blank) h.point) (exit (ending_name h.flags.blank) c.after ∷ []);
+}
+
+ended-adds : (options : ParseOptions) (m : ℕ) (next : Rule) → Adds options m next → (cs : List Container) (going : Bool) (left : List Cell) (h new : Here) (rest : List Cell) → length left ≤ m → IsRest h.scratch → h.flags.interrupt ≡ going → AreOpen h.flags.containers cs → ended next left h ≡ Accepts new rest →
+    new.events ≡ h.events ++ (ends_of (closes_before cs (rows_below options m cs going left)) h.point ++ (ending_here (ending_name h.flags.blank) h.point left ++ rows_events (rows_below options m cs going left)))
+ended-adds options m next adds cs going [] h new rest fits is held are e =
     ap (λ (x : Here). x.events) same
     ∙ ap₂ (λ (a b : List Event). (a ++ ends_at h.flags.containers (point_of b h.point)) ++ b) (take-length h.events) (drop-length h.events)
     ∙ append_assoc h.events (ends_at h.flags.containers h.point) []
-    ∙ ap (λ (es : List Event). h.events ++ (es ++ [])) (ends-are h.flags.containers h.point)
+    ∙ ap (λ (es : List Event). h.events ++ (es ++ [])) (ends-are h.flags.containers cs h.point are)
   where
     same : new ≡ ended_to 0 (length h.events) h
     same = cc
-ended-adds options m next adds going (c ∷ cs) h new rest fits is held e = go (nat_eq c.byte 10) e
+ended-adds options m next adds cs going (x ∷ xs) h new rest fits is held are e = go (nat_eq x.byte 10) e
   where
     name : Name
     name = ending_name h.flags.blank
 
-    at : Here
-    at = record h { events = h.events ++ pair (ending_name h.flags.blank) h.point c.after; point = c.after; flags = next_line (length h.events) h.flags }
-
-    begins : Begins h.events (pair (ending_name h.flags.blank) h.point c.after) h.point (length h.flags.containers) going at
-    begins = record {
-      rest = is;
-      events = refl;
-      size = refl;
-      continued = refl;
-      interrupt = held;
-      blank = refl;
-      line_end = refl;
-      ends = ends-behind h.flags.containers (enter name h.point) (exit name c.after ∷ []);
-    }
-
-    go : (x : Bool) → cond x (next cs at) (Refuses h.scratch h.flags) ≡ Accepts new rest →
-        new.events ≡ h.events ++ (quote_ends (closes_before (length h.flags.containers) (rows_at options m (length h.flags.containers) going cs c.after)) h.point
-        ++ (pair (ending_name h.flags.blank) h.point c.after ++ rows_events (rows_at options m (length h.flags.containers) going cs c.after)))
-    go true k = adds h.events (pair name h.point c.after) h.point (length h.flags.containers) going cs at new rest (omega arith) begins k
+    go : (b : Bool) → cond b (next xs (next_here x h)) (Refuses h.scratch h.flags) ≡ Accepts new rest →
+        new.events ≡ h.events ++ (ends_of (closes_before cs (rows_at options m cs going xs x.after)) h.point ++ (pair (ending_name h.flags.blank) h.point x.after ++ rows_events (rows_at options m cs going xs x.after)))
+    go true k = adds h.events (pair name h.point x.after) h.point cs going xs (next_here x h) new rest (omega arith) (next-begins cs going x h is held are) k
     go false k = cc
 
-held-shorter : (options : ParseOptions) (depth : ℕ) (going : Bool) (cells : List Cell) (p : Point) → length (held_at options depth going cells p).cells ≤ length cells
+pub held-shorter : (options : ParseOptions) (cs : List Container) (going : Bool) (cells : List Cell) (p : Point) → length (held_at options cs going cells p).cells ≤ length cells
 unfolding held_at
-held-shorter options depth going cells p =
-    let w = went_front options depth cells p in
-    omega (arith, went-shorter options depth cells p, new-shorter options (length w.cells) w.cells w.point)
+held-shorter options cs going cells p =
+    let w = went_front options cs cells p in
+    omega (arith, went-shorter options cs cells p, new-shorter options (interrupts going (others_of cs w.containers)) (length w.cells) w.cells w.point)
 
 ending-same : (name : Name) (p : Point) (left : List Cell) → ending_here name p left ≡ elim (after_ending left) [ None ↦ [] | Some q ↦ pair name p q ]
 ending-same name p [] = refl
 ending-same name p (c ∷ cs) = refl
 
--- flow adds the events of the rows, and the ends of the quotes that the first of them closes in front of the ending before it
+-- a row behind which these containers end
+abbrev pub leaving : List Container → Row → Row
+leaving ls row = record row { leaves = ls }
+
+-- what a line added, the ends of containers and its ending are the events of its row
+pub row-adds : (next : Rule) (options : ParseOptions) (front tail : List Event) (p : Point) (x : Held) (o : Outcome) (d : Done next options front tail p x o) (ls : List Container) (left : List Cell) (below : List Row) (more : List Event) → from_ending x.cells ≡ left →
+    d.new.events ++ (ends_of ls d.new.point ++ (ending_here (ending_name d.new.flags.blank) d.new.point left ++ more)) ≡ front ++ (ends_of x.change.closes p ++ (tail ++ (row_events (leaving ls (row_of options x below)) ++ more)))
+row-adds next options front tail p x o d ls left below more e =
+    ap (λ (cells : List Cell). d.new.events ++ behind cells d.new.point (ending_name d.new.flags.blank)) (sym e)
+    ∙ ap (λ (q : Point). d.new.events ++ behind (from_ending x.cells) q (ending_name d.new.flags.blank)) d.point
+    ∙ ap₂ (λ (es : List Event) (name : Name). es ++ behind (from_ending x.cells) (line_end x.cells x.point) name) d.events (ap ending_name d.blank ∙ ending-named k)
+    ∙ regroup-row front (ends_of x.change.closes p) tail x.front (added_by options x.cells x.point k) (ends_of ls (line_end x.cells x.point)) (ending_here (ending_of k) (line_end x.cells x.point) (from_ending x.cells)) more
+    ∙ ap₂ (λ (a c : List Event). front ++ (ends_of x.change.closes p ++ (tail ++ (((x.front ++ a) ++ (ends_of ls (line_end x.cells x.point) ++ c)) ++ more))))
+    (sym (leaf-added options x ls below k)) (ending-same (ending_of k) (line_end x.cells x.point) (from_ending x.cells))
+  where
+    k : RowKind
+    k = row_kind options x.cells
+
+    behind : List Cell → Point → Name → List Event
+    behind cells q name = ends_of ls q ++ (ending_here name q cells ++ more)
+
+-- flow adds the events of the rows, and the ends of the containers that the first of them closes in front of the ending before it
 flow-adds : (options : ParseOptions) (m : ℕ) → Adds options m (flow_lines options m)
 unfolding flow_lines
-flow-adds options zero front tail p depth going cells h new rest fits b e = absurd (omega arith)
-flow-adds options (suc m) front tail p depth going cells h new rest fits b e =
-    ended-adds options m (flow_lines options m) (flow-adds options m) (is_text k) left d.new new rest (omega (arith, from_ending-shrinks x.cells, held-shorter options depth going cells h.point)) d.rest d.interrupt (sym d.is ∙ e)
-    ∙ ap₂ (λ (size : ℕ) (q : Point). d.new.events ++ behind size q (ending_name d.new.flags.blank)) d.size d.point
-    ∙ ap₂ (λ (es : List Event) (name : Name). es ++ behind x.depth (line_end x.cells x.point) name) d.events (ap ending_name d.blank ∙ ending-named k)
-    ∙ regroup-row front (quote_ends x.closes p) tail x.front (added_by options x.cells x.point k) (quote_ends (closes_before x.depth below) (line_end x.cells x.point)) (ending_here (ending_of k) (line_end x.cells x.point) left) (rows_events below)
-    ∙ ap₂ (λ (a c : List Event). front ++ (quote_ends x.closes p ++ (tail ++ (((x.front ++ a) ++ (quote_ends (closes_before x.depth below) (line_end x.cells x.point) ++ c)) ++ rows_events below))))
-    (sym (leaf-added options x below k)) (ending-same (ending_of k) (line_end x.cells x.point) left)
+flow-adds options zero front tail p cs going cells h new rest fits b e = absurd (omega arith)
+flow-adds options (suc m) front tail p cs going cells h new rest fits b e =
+    ended-adds options m (flow_lines options m) (flow-adds options m) (open_behind x.change) (is_text k) left d.new new rest (omega (arith, from_ending-shrinks x.cells, held-shorter options cs going cells h.point)) d.rest d.interrupt d.containers (sym d.is ∙ e)
+    ∙ row-adds (flow_lines options m) options front tail p x (line_then options (flow_lines options m) cells h) d (closes_before (open_behind x.change) below) left below (rows_events below) refl
   where
-    d : Done (flow_lines options m) options front tail p (held_at options depth going cells h.point) (line_then options (flow_lines options m) cells h)
-    d = line-done options (flow_lines options m) front tail p depth going cells h b
+    d : Done (flow_lines options m) options front tail p (held_at options cs going cells h.point) (line_then options (flow_lines options m) cells h)
+    d = line-done options (flow_lines options m) front tail p cs going cells h b
 
     x : Held
-    x = held_at options depth going cells h.point
+    x = held_at options cs going cells h.point
 
     k : RowKind
-    k = row_kind options (held_at options depth going cells h.point).cells
+    k = row_kind options (held_at options cs going cells h.point).cells
 
     left : List Cell
-    left = from_ending (held_at options depth going cells h.point).cells
+    left = from_ending (held_at options cs going cells h.point).cells
 
     below : List Row
-    below = rows_below options m x.depth (is_text k) left
+    below = rows_below options m (open_behind x.change) (is_text k) left
 
-    behind : ℕ → Point → Name → List Event
-    behind size q name =
-        quote_ends (closes_before size (rows_below options m size (is_text k) left)) q ++ (ending_here name q left ++ rows_events (rows_below options m size (is_text k) left))
-
--- before the first line no quote ends
-no-closes : (options : ParseOptions) (cells : List Cell) (p : Point) → (held_at options 0 false cells p).closes ≡ 0
+-- before the first line no container ends
+pub no-closes : (options : ParseOptions) (cells : List Cell) (p : Point) → (held_at options [] false cells p).change.closes ≡ []
 unfolding held_at
-no-closes options cells p = omega arith
+no-closes options cells p = refl
 
--- and of all rows
+-- at the begin of a text
+pub text-begins : (h : Here) → IsRest h.scratch → h.events ≡ [] → h.flags.containers ≡ [] → h.flags.continued ≡ 0 → h.flags.interrupt ≡ false → h.flags.blank ≡ false → h.flags.line_end ≡ 0 → Begins [] [] h.point [] false h
+text-begins h is none shut continued interrupt blank line_end = record {
+  rest = is;
+  events = none;
+  containers = let P : List Known → Type 0 = λ l. AreOpen l [] in subst P (sym shut) tt;
+  continued = continued;
+  interrupt = interrupt;
+  blank = blank;
+  line_end = line_end;
+  ends = ends-none h.flags.containers h.point shut;
+}
+
+-- so the rule of all lines adds the events of all rows
 pub flow_at-rows : (options : ParseOptions) (cells : List Cell) (h new : Here) (rest : List Cell) → IsRest h.scratch → h.events ≡ [] → h.flags.containers ≡ [] → h.flags.continued ≡ 0 → h.flags.interrupt ≡ false → h.flags.blank ≡ false → h.flags.line_end ≡ 0 →
-    flow_at options cells h ≡ Accepts new rest → new.events ≡ rows_events (rows_at options (suc (length cells)) 0 false cells h.point)
+    flow_at options cells h ≡ Accepts new rest → new.events ≡ rows_events (rows_at options (suc (length cells)) [] false cells h.point)
 unfolding flow_at
 flow_at-rows options cells h new rest is none shut continued interrupt blank line_end e =
-    flow-adds options (suc (length cells)) [] [] h.point 0 false cells h new rest (omega arith) begins e
-    ∙ ap (λ (size : ℕ). quote_ends size h.point ++ rows_events (rows_at options (suc (length cells)) 0 false cells h.point)) (no-closes options cells h.point)
-  where
-    begins : Begins [] [] h.point 0 false h
-    begins = record {
-      rest = is;
-      events = none;
-      size = ap length shut;
-      continued = continued;
-      interrupt = interrupt;
-      blank = blank;
-      line_end = line_end;
-      ends = ends-none h.flags.containers h.point shut;
-    }
+    flow-adds options (suc (length cells)) [] [] h.point [] false cells h new rest (omega arith) (text-begins h is none shut continued interrupt blank line_end) e
+    ∙ ap (λ (cs : List Container). ends_of cs h.point ++ rows_events (rows_at options (suc (length cells)) [] false cells h.point)) (no-closes options cells h.point)

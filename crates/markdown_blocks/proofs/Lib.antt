@@ -20,6 +20,7 @@ pub mod FrontRows
 pub mod RowLemmas
 pub mod LeafRows
 pub mod FlowRows
+pub mod LinesLeft
 pub mod FlowReads
 pub mod SubstitutedLemmas
 pub mod JoinedLemmas
