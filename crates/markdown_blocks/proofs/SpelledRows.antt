@@ -1,8 +1,7 @@
--- What the events of a text are read as, where headings and breaks are the only leaves that may be on: what its lines do to the
+-- What the events of a text are read as, where of the leaves only paragraphs, headings and breaks may be on: what its lines do to the
 -- containers and the paragraph that are open.
-use Rattle.std.proofs.Common.{◌≡◌, ◌≢◌, ℕ, zero, suc, ◌+◌, ◌-◌, ◌≤◌, Bool, true, false, cond, ◌&&◌, List, [], ◌∷◌, ◌++◌, length, map, take, drop, refl, ap, ap₂, sym, ◌∙◌, subst, append_assoc, take_all, inl, inr, ◌⊎◌, arith}
-use Rattle.std.specs.Prelude.{◌==◌, Option, Some, None}
-use Rattle.std.proofs.lemmas.Bool.Decides.{nat_tests}
+use Rattle.std.proofs.Common.{◌≡◌, ◌≢◌, ℕ, zero, suc, ◌+◌, ◌-◌, Bool, true, false, cond, ◌&&◌, List, [], ◌∷◌, ◌++◌, length, map, take, drop, refl, ap, ap₂, sym, ◌∙◌, subst, append_assoc, take_all, inl, inr, ◌⊎◌, arith}
+use Rattle.std.specs.Prelude.{Option, Some, None}
 use Rattle.md_engine.specs.declared.configuration.ParseOptions.{ParseOptions}
 use Rattle.md_engine.specs.declared.event.Event.{Event}
 use Rattle.md_engine.specs.declared.event.Name.{Name}
@@ -90,7 +89,7 @@ lefts-kept options (c ∷ stays) closes outer (Within before container p) e =
     lefts-kept options stays closes (around_of container before ∷ outer) p more
     ∙ ap (λ (around : Around). reading_on options (around ∷ outer) (kept_to options stays p)) (sym (around-same c container before same))
 
--- what a line has changed of those that stay is not read
+-- what a line changes of those that stay, the events do not tell
 reading-renewed : (options : ParseOptions) (stays closes : List Container) (outer : List Around) (p : Path) (lines : List Kept) → AreShapes stays closes p → reading_on options outer (longer (renewed stays p) lines) ≡ reading_on options outer (longer p lines)
 reading-renewed options [] closes outer p lines e = refl
 reading-renewed options (c ∷ stays) closes outer (At s) lines e = refl
