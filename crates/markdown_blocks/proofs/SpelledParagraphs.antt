@@ -1,4 +1,4 @@
--- What the events of a paragraph are read as, where prefixes of quotes stand in front of its lines: its lines without them.
+-- What the events of a paragraph are read as, where prefixes of containers stand in front of its lines: its lines without them.
 use Rattle.std.proofs.Common.{◌≡◌, ℕ, zero, suc, ◌+◌, ◌-◌, ◌≤◌, Bool, true, false, cond, ◌&&◌, List, [], ◌∷◌, ◌++◌, length, take, drop, slice_range, refl, ap, sym, ◌∙◌, subst, append_assoc, append-nil, arith}
 use Rattle.std.specs.Prelude.{◌==◌, IsTrue, None}
 use Rattle.std.specs.List.{prefix_len}
@@ -19,7 +19,7 @@ use Rattle.md_seam.specs.Nested.{around, enter, exit, pair}
 use Rattle.md_seam.specs.Places.{at_or_before, same_place}
 use Rattle.md_seam.specs.Rest.{Rest, is_blank, is_white, trim_start}
 use Rattle.md_seam.specs.Spelled.{IsEnding, IsPrefix, IsQuiet, Reading, Role, Text, add_block, after_prefix, before_prefix, begun, byte_at, read, role, text_to}
-use Rattle.md_seam.specs.State.{Kept, kept, texts}
+use Rattle.md_seam.specs.State.{Container, InQuote, Kept, kept, texts}
 use Rattle.md_seam.specs.Texts.{trim_each}
 use Rattle.md_seam.specs.Tree.{Paragraph}
 use Rattle.md_seam.proofs.BlocksLemmas.{read-paragraph}
@@ -57,10 +57,16 @@ prefix-roles P bytes p q es is quiet prefix =
     (roles-append P (pair_unless_empty n.SpaceOrTab p is.marker) inside (pair-roles P n.SpaceOrTab p is.marker quiet) (prefix, (quiet, (quiet, pair-roles P n.SpaceOrTab is.behind q quiet))))
     (prefix, tt))
 
-fronts-between : (bytes : List ℕ) (opens : ℕ) (p q : Point) (es : List Event) → Fronts bytes opens p q es → opens ≡ 0 → Roles Between es
+-- so is what stands in front of the content of a container that goes on
+pub further-roles : (P : Role → Type 0) (bytes : List ℕ) (c : Container) (p q : Point) (es : List Event) → front.IsFurther bytes c p q es → P IsQuiet → P IsPrefix → Roles P es
+further-roles P bytes InQuote p q es is quiet prefix = prefix-roles P bytes p q es is quiet prefix
+further-roles P bytes c p q es is quiet prefix = absurd is
+
+fronts-between : (bytes : List ℕ) (opens : List Container) (p q : Point) (es : List Event) → Fronts bytes opens p q es → opens ≡ [] → Roles Between es
 fronts-between bytes opens p q es (Behind r) none = tt
-fronts-between bytes opens p q es (Goes many a b c xs ys prefix more) none = roles-append Between xs ys (prefix-roles Between bytes a b xs prefix tt tt) (fronts-between bytes many b c ys more none)
-fronts-between bytes opens p q es (Begins many a b c xs ys prefix more) none = absurd (omega arith)
+fronts-between bytes opens p q es (Goes c many a b d xs ys further more) none =
+    roles-append Between xs ys (further-roles Between bytes c a b xs further tt tt) (fronts-between bytes many b d ys more none)
+fronts-between bytes opens p q es (Begins c many a b d xs ys opening more) none = cc
 
 -- Texts.
 
@@ -135,20 +141,30 @@ blank-before bytes p end le blank = go (p.vs == 0) le
     go true h = blank
     go false h = blank-behind (slice_range bytes p.index (p.index + 1)) (slice_range bytes (p.index + 1) end) (sym (ap is_blank (f.slice-split bytes p.index (p.index + 1) end (omega arith) h)) ∙ blank)
 
--- prefixes leave the whitespace in front of their markers
-collects-fronts : (bytes : List ℕ) (opens : ℕ) (p q : Point) (es ys : List Event) (end : ℕ) (all : List ℕ) → Fronts bytes opens p q es → opens ≡ 0 → Collects bytes ys (byte_at q) end all →
+-- a prefix leaves the whitespace in front of its marker
+collects-quote : (bytes : List ℕ) (p q : Point) (es ys : List Event) (end : ℕ) (all : List ℕ) → front.IsPrefix bytes p q es → Collects bytes ys (byte_at q) end all →
+    (white : List ℕ) × (is_blank white ≡ true) × Collects bytes (es ++ ys) (byte_at p) end (white ++ all)
+collects-quote bytes p q es ys end all is c =
+    let le = marker-behind p is.marker is.indent is.marker_whole in
+    (slice_range bytes (byte_at p) is.marker.index, blank-before bytes p is.marker.index le is.white_before, collects-prefix bytes p q es ys (byte_at p) end all is le c)
+
+-- what stands in front of the content of a container that goes on leaves whitespace alone
+collects-further : (bytes : List ℕ) (c : Container) (p q : Point) (es ys : List Event) (end : ℕ) (all : List ℕ) → front.IsFurther bytes c p q es → Collects bytes ys (byte_at q) end all →
+    (white : List ℕ) × (is_blank white ≡ true) × Collects bytes (es ++ ys) (byte_at p) end (white ++ all)
+collects-further bytes InQuote p q es ys end all is collects = collects-quote bytes p q es ys end all is collects
+collects-further bytes c p q es ys end all is collects = absurd is
+
+collects-fronts : (bytes : List ℕ) (opens : List Container) (p q : Point) (es ys : List Event) (end : ℕ) (all : List ℕ) → Fronts bytes opens p q es → opens ≡ [] → Collects bytes ys (byte_at q) end all →
     (white : List ℕ) × (is_blank white ≡ true) × Collects bytes (es ++ ys) (byte_at p) end (white ++ all)
 collects-fronts bytes opens p q es ys end all (Behind r) none c = ([], refl, c)
-collects-fronts bytes opens p q es ys end all (Goes many a b d xs zs prefix more) none c =
+collects-fronts bytes opens p q es ys end all (Goes container many a b d xs zs further more) none c =
     let next = collects-fronts bytes many b d zs ys end all more none c in
-    let le = marker-behind a prefix.marker prefix.indent prefix.marker_whole in
-    let here : List ℕ = slice_range bytes (byte_at a) prefix.marker.index in
-    let all_of : Collects bytes (xs ++ (zs ++ ys)) (byte_at a) end (here ++ (next.0 ++ all)) = collects-prefix bytes a b xs (zs ++ ys) (byte_at a) end (next.0 ++ all) prefix le next.2 in (
-      here ++ next.0,
-      blank-append here next.0 (blank-before bytes a prefix.marker.index le prefix.white_before) next.1,
-      subst (λ (l : List Event). Collects bytes l (byte_at a) end ((here ++ next.0) ++ all)) (sym (append_assoc xs zs ys)) (subst (Collects bytes (xs ++ (zs ++ ys)) (byte_at a) end) (sym (append_assoc here next.0 all)) all_of),
+    let here = collects-further bytes container a b xs (zs ++ ys) end (next.0 ++ all) further next.2 in (
+      here.0 ++ next.0,
+      blank-append here.0 next.0 here.1 next.1,
+      subst (λ (l : List Event). Collects bytes l (byte_at a) end ((here.0 ++ next.0) ++ all)) (sym (append_assoc xs zs ys)) (subst (Collects bytes (xs ++ (zs ++ ys)) (byte_at a) end) (sym (append_assoc here.0 next.0 all)) here.2),
     )
-collects-fronts bytes opens p q es ys end all (Begins many a b d xs zs prefix more) none c = absurd (omega arith)
+collects-fronts bytes opens p q es ys end all (Begins container many a b d xs zs opening more) none c = absurd cc
 
 -- Lines.
 
@@ -270,7 +286,7 @@ read-one options bytes r row is cut text =
 
 -- one more in front
 pub read-more : (options : ParseOptions) (bytes : List ℕ) (r : Rest) (row next : Row) (rows : List Row) (q : Point) (lines : List Kept) →
-    f.IsRow options bytes (rest_line r) row → Cut r.spaces row.first → row.kind ≡ TextRow → f.IsEnding bytes row.end q → Fronts bytes 0 q next.first next.front → IsRead bytes next rows lines →
+    f.IsRow options bytes (rest_line r) row → Cut r.spaces row.first → row.kind ≡ TextRow → f.IsEnding bytes row.end q → Fronts bytes [] q next.first next.front → IsRead bytes next rows lines →
     IsRead bytes row (next ∷ rows) (kept r ∷ lines)
 read-more options bytes r row next rows q lines is cut text ending fronts below =
     let line = line-bytes options bytes r row is cut in
@@ -278,7 +294,7 @@ read-more options bytes r row next rows q lines is cut text ending fronts below 
     let chunk : Chunk = record { first = row.first; after = behind_row row } in
     let end : ℕ = (last_row next rows).end.index in
     let further : List Event = read_lines bytes next rows in
-    let fronted = collects-fronts bytes 0 q next.first next.front further end below.all fronts refl below.collects in
+    let fronted = collects-fronts bytes [] q next.first next.front further end below.all fronts refl below.collects in
     let white : List ℕ = fronted.0 in
     let whole : byte_at q ≡ q.index = ap (λ (vs : ℕ). cond (vs == 0) q.index (q.index + 1)) ending.whole in
     let from : Collects bytes (next.front ++ further) q.index end (white ++ below.all) = subst (λ (i : ℕ). Collects bytes (next.front ++ further) i end (white ++ below.all)) whole fronted.2 in
@@ -298,7 +314,7 @@ read-more options bytes r row next rows q lines is cut text ending fronts below 
       are = lines-more r.bytes (onto_line white below.own) all ending.ending (white ++ below.all) filled.no_ending (ends-before ending.ending (white ++ below.all) (begins-white white below.all fronted.1 below.begins)) refl (of-white white below.own below.all fronted.1 below.are);
       begins = ap (begins_with 10) (append_assoc r.bytes (ending_bytes ending.ending) (white ++ below.all)) ∙ begins-line r.bytes (ending_bytes ending.ending ++ (white ++ below.all)) filled;
       texts_are = ap (λ (l : List (List ℕ)). trim_start r.bytes ∷ l) (below.texts_are ∙ sym (trim-onto white below.own fronted.1));
-      between = roles-append Between (plain_chunk bytes chunk ++ next.front) further (roles-append Between (plain_chunk bytes chunk) next.front (chunk-roles Between bytes chunk tt tt) (fronts-between bytes 0 q next.first next.front fronts refl)) below.between;
+      between = roles-append Between (plain_chunk bytes chunk ++ next.front) further (roles-append Between (plain_chunk bytes chunk) next.front (chunk-roles Between bytes chunk tt tt) (fronts-between bytes [] q next.first next.front fronts refl)) below.between;
     }
 
 -- The events of a paragraph are read as its lines.

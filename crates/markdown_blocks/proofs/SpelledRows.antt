@@ -1,38 +1,39 @@
--- What the events of a text are read as, where quotes, headings and breaks alone may be on: what its lines do to the quotes and
--- the paragraph that are open.
-use Rattle.std.proofs.Common.{◌≡◌, ◌≢◌, ℕ, zero, suc, ◌+◌, ◌-◌, ◌≤◌, Bool, true, false, cond, ◌&&◌, List, [], ◌∷◌, ◌++◌, length, map, take, drop, refl, ap, ap₂, sym, ◌∙◌, subst, append_assoc, take_all, inl, inr, ◌⊎◌, arith}
-use Rattle.std.specs.Prelude.{◌==◌, Option, Some, None}
-use Rattle.std.proofs.lemmas.Bool.Decides.{nat_tests}
+-- What the events of a text are read as, where of the leaves only paragraphs, headings and breaks may be on: what its lines do to the
+-- containers and the paragraph that are open.
+use Rattle.std.proofs.Common.{◌≡◌, ◌≢◌, ℕ, zero, suc, ◌+◌, ◌-◌, Bool, true, false, cond, ◌&&◌, List, [], ◌∷◌, ◌++◌, length, map, take, drop, refl, ap, ap₂, sym, ◌∙◌, subst, append_assoc, take_all, inl, inr, ◌⊎◌, arith}
+use Rattle.std.specs.Prelude.{Option, Some, None}
 use Rattle.md_engine.specs.declared.configuration.ParseOptions.{ParseOptions}
 use Rattle.md_engine.specs.declared.event.Event.{Event}
 use Rattle.md_engine.specs.declared.event.Name.{Name}
 use Rattle.md_engine.specs.declared.event.Name.TheVariants as n
 use Rattle.md_engine.specs.declared.event.Point.{Point}
 use Rattle.md_seam.specs.Leaves.{heading_lines, heading_text}
-use Rattle.md_seam.specs.Nested.{around}
+use Rattle.md_seam.specs.Nested.{around, enter, exit}
 use Rattle.md_seam.specs.Preamble.{rest_at}
 use Rattle.md_seam.specs.Rest.{Rest, run_len}
-use Rattle.md_seam.specs.Spelled.{Around, Reading, add_block, block_around, left, read, role, spelled, unread}
+use Rattle.md_seam.specs.Spelled.{Around, Reading, Shape, add_block, block_around, left, read, role, spelled, unread}
 use Rattle.md_seam.specs.State.{At, Container, InFootnote, InItem, InQuote, Kept, Leaf, NoLeaf, OpenParagraph, Path, Spot, Within, closed, container_block, kept, shut, spot, texts, then_block, then_leaf}
 use Rattle.md_seam.specs.Step.{spot_of, step, steps}
 use Rattle.md_seam.specs.Tree.{Block, Blocks, End, Heading, Paragraph}
 use Rattle.md_seam.proofs.BlocksLemmas.{read-break}
 use Rattle.md_seam.proofs.RestCells.{Cut}
 use Rattle.md_seam.proofs.SpelledLemmas.{Between, Quiet, QuietOrPrefix, Roles, read-between, read-from, read-prefixes, read-quiet}
-use Rattle.markdown_blocks.specs.Fronted.{Quoted, cut_tab, rest_from, rest_line}
+use Rattle.markdown_blocks.specs.Change.{Change, container_name, ends_of, is_none}
+use Rattle.markdown_blocks.specs.Fronted.{Contained, cut_tab, rest_from, rest_line}
 use Rattle.markdown_blocks.specs.Parsed.{IsBuilt}
-use Rattle.markdown_blocks.specs.Rows.{BlankRow, BreakRow, Group, HeadingRow, Lines, Row, RowKind, Single, TextRow, ending_events, goes_on, groups, groups_events, is_lazy, is_text, last_row, line_kind, onto_groups, onto_lines, quote_ends, read_lines, read_title, row_title, single_events_by, tail_events}
-use Rattle.markdown_blocks.specs.Stands.{IsPlain, around_of, depth_of, final, final_on, is_going, outer_on, reading, reading_on, shape_of}
-use Rattle.markdown_blocks.proofs.FrontFacts.{Behind, Begins, Fronts, Goes}
+use Rattle.markdown_blocks.specs.Rows.{BlankRow, BreakRow, Group, HeadingRow, Lines, Row, RowKind, Single, TextRow, ending_events, goes_on, groups, groups_events, is_lazy, is_text, last_row, line_kind, onto_groups, onto_lines, read_lines, read_title, row_title, single_events_by, tail_events}
+use Rattle.markdown_blocks.specs.Stands.{IsPlain, around_of, containers_of, final, final_on, is_going, outer_on, reading, reading_on, shape_of}
+use Rattle.markdown_blocks.proofs.ContainedLemmas.{contained-shapes, lazy-opens}
+use Rattle.markdown_blocks.proofs.FrontFacts.{Behind, Begins, Fronts, Goes, IsFurther, IsOpening}
 use Rattle.markdown_blocks.proofs.LineKinds.{heading-kind}
-use Rattle.markdown_blocks.proofs.LineSteps.{behind_path, depth-step, fresh-found, going-step, goes_lazy, held_of, kept_to, lazy-opens, lazy-text, longer, new_line, new_path, plain-step, quoted-closes, quoted-lazy, quoted_at, rest_line-kind, rest_line-trim, shut-lines, spot_by, step-quoted}
+use Rattle.markdown_blocks.proofs.LineSteps.{behind_path, contained-lazy, contained_at, containers-step, fresh-found, going-step, goes_lazy, held_of, kept_to, lazy-text, longer, new_line, new_path, plain-step, renewed, rest_line-kind, rest_line-trim, shut-lines, spot_by, step-contained}
 use Rattle.markdown_blocks.proofs.RowFacts as f
 use Rattle.markdown_blocks.proofs.SpelledHeadings.{Begun, Whole, WithTab, read-heading}
-use Rattle.markdown_blocks.proofs.SpelledParagraphs.{IsRead, prefix-roles, read-lines, read-more, read-one}
+use Rattle.markdown_blocks.proofs.SpelledParagraphs.{IsRead, further-roles, prefix-roles, read-lines, read-more, read-one}
 
--- The ends and begins of quotes.
+-- The ends and begins of containers.
 
--- so many quotes end
+-- so many containers end
 abbrev pub lefts : ℕ → Reading → Reading
 lefts zero r = r
 lefts (suc size) r = lefts size (left r.outer r)
@@ -56,65 +57,90 @@ shape-block (InItem digits marker width starts_blank) bs = refl
 shape-block (InFootnote label) bs = refl
 
 -- where all containers of a path end, all of it is closed
-lefts-all : (options : ParseOptions) (outer : List Around) (p : Path) → lefts (depth_of p) (reading_on options outer p) ≡ final_on options outer p
+lefts-all : (options : ParseOptions) (outer : List Around) (p : Path) → lefts (length (containers_of p)) (reading_on options outer p) ≡ final_on options outer p
 lefts-all options outer (At s) = refl
 lefts-all options outer (Within before container p) =
-    lefts-one (depth_of p) (reading_on options (around_of container before ∷ outer) p)
+    lefts-one (length (containers_of p)) (reading_on options (around_of container before ∷ outer) p)
     ∙ ap (λ (r : Reading). left r.outer r) (lefts-all options (around_of container before ∷ outer) p)
     ∙ ap (λ (b : Block). record { outer = outer; here = then_block before b; leaf = None; text = None }) (shape-block container (closed options p))
 
+-- The containers of a path are read as these, of which some stay and the others close. One that stays may have changed, but for what the
+-- events tell.
+abbrev AreShapes : List Container → List Container → Path → Type 0
+AreShapes stays closes p = map shape_of (stays ++ closes) ≡ map shape_of (containers_of p)
+
+shapes-length : (cs ds : List Container) → map shape_of cs ≡ map shape_of ds → length cs ≡ length ds
+shapes-length [] [] e = refl
+shapes-length [] (d ∷ ds) e = cc
+shapes-length (c ∷ cs) [] e = cc
+shapes-length (c ∷ cs) (d ∷ ds) e = let more : map shape_of cs ≡ map shape_of ds = cc in ap (λ (n : ℕ). suc n) (shapes-length cs ds more)
+
+-- of the same shape, a container is read alike
+around-same : (c d : Container) (before : Blocks) → shape_of c ≡ shape_of d → around_of c before ≡ around_of d before
+around-same c d before e = ap (λ (shape : Shape). record { shape = shape; before = before }) e
+
 -- where some end, the others are kept
-lefts-kept : (options : ParseOptions) (n : ℕ) (outer : List Around) (p : Path) → n ≤ depth_of p → lefts (depth_of p - n) (reading_on options outer p) ≡ reading_on options outer (kept_to options n p)
-lefts-kept options zero outer p le = let all : depth_of p - 0 ≡ depth_of p = omega arith in ap (λ (k : ℕ). lefts k (reading_on options outer p)) all ∙ lefts-all options outer p
-lefts-kept options (suc n) outer (At s) le = absurd (omega arith)
-lefts-kept options (suc n) outer (Within before container p) le =
-    let less : suc (depth_of p) - suc n ≡ depth_of p - n = omega arith in
-    ap (λ (k : ℕ). lefts k (reading_on options (around_of container before ∷ outer) p)) less ∙ lefts-kept options n (around_of container before ∷ outer) p (omega arith)
+lefts-kept : (options : ParseOptions) (stays closes : List Container) (outer : List Around) (p : Path) → AreShapes stays closes p → lefts (length closes) (reading_on options outer p) ≡ reading_on options outer (kept_to options stays p)
+lefts-kept options [] closes outer p e = ap (λ (n : ℕ). lefts n (reading_on options outer p)) (shapes-length closes (containers_of p) e) ∙ lefts-all options outer p
+lefts-kept options (c ∷ stays) closes outer (At s) e = cc
+lefts-kept options (c ∷ stays) closes outer (Within before container p) e =
+    let same : shape_of c ≡ shape_of container = cc in
+    let more : AreShapes stays closes p = cc in
+    lefts-kept options stays closes (around_of container before ∷ outer) p more
+    ∙ ap (λ (around : Around). reading_on options (around ∷ outer) (kept_to options stays p)) (sym (around-same c container before same))
 
--- so many quotes begin
-abbrev enters : ℕ → Reading → Reading
-enters zero r = r
-enters (suc size) r = enters size (record r { outer = around_of InQuote r.here ∷ r.outer; here = End })
+-- what a line changes of those that stay, the events do not tell
+reading-renewed : (options : ParseOptions) (stays closes : List Container) (outer : List Around) (p : Path) (lines : List Kept) → AreShapes stays closes p → reading_on options outer (longer (renewed stays p) lines) ≡ reading_on options outer (longer p lines)
+reading-renewed options [] closes outer p lines e = refl
+reading-renewed options (c ∷ stays) closes outer (At s) lines e = refl
+reading-renewed options (c ∷ stays) closes outer (Within before container p) lines e =
+    let same : shape_of c ≡ shape_of container = cc in
+    let more : AreShapes stays closes p = cc in
+    ap (λ (around : Around). reading_on options (around ∷ outer) (longer (renewed stays p) lines)) (around-same c container before same) ∙ reading-renewed options stays closes (around_of container before ∷ outer) p lines more
 
-enters-between : (size : ℕ) (r : Reading) → r.text ≡ None → r.leaf ≡ None → ((enters size r).text ≡ None) × ((enters size r).leaf ≡ None)
-enters-between zero r t l = (t, l)
-enters-between (suc size) r t l = enters-between size (record r { outer = around_of InQuote r.here ∷ r.outer; here = End }) t l
+-- a container begins
+abbrev begins : Container → Reading → Reading
+begins c r = record r { outer = around_of c r.here ∷ r.outer; here = End }
 
--- so many new quotes with nothing in them
-abbrev new_none : ℕ → Blocks → Path
-new_none zero bs = At (spot_of bs)
-new_none (suc size) bs = Within bs InQuote (new_none size End)
+-- and each in the one before
+abbrev enters : List Container → Reading → Reading
+enters [] r = r
+enters (c ∷ cs) r = enters cs (begins c r)
 
--- what is open behind the quotes of a line, where it does not go on a paragraph
-abbrev open_path : ParseOptions → Path → Quoted → Path
-open_path options p quotes = behind_path (kept_to options (depth_of p - quotes.closes) p) (new_none quotes.opens)
+-- new containers with nothing in them
+abbrev new_none : List Container → Blocks → Path
+new_none [] bs = At (spot_of bs)
+new_none (c ∷ cs) bs = Within bs c (new_none cs End)
+
+-- what is open behind the containers of a line, where it does not go on a paragraph
+abbrev open_path : ParseOptions → Path → Contained → Path
+open_path options p c = behind_path (kept_to options c.change.stays p) (new_none c.change.opens)
 
 reading-behind : (options : ParseOptions) (outer : List Around) (p : Path) (f : Blocks → Path) → reading_on options outer (behind_path p f) ≡ reading_on options (outer_on outer p) (f (spot p).here)
 reading-behind options outer (At s) f = refl
 reading-behind options outer (Within before container p) f = reading-behind options (around_of container before ∷ outer) p f
 
-kept-none : (options : ParseOptions) (n : ℕ) (p : Path) → (spot (kept_to options n p)).leaf ≡ NoLeaf
-kept-none options zero p = refl
-kept-none options (suc n) (At s) = refl
-kept-none options (suc n) (Within before container p) = kept-none options n p
+kept-none : (options : ParseOptions) (stays : List Container) (p : Path) → (spot (kept_to options stays p)).leaf ≡ NoLeaf
+kept-none options [] p = refl
+kept-none options (c ∷ stays) (At s) = refl
+kept-none options (c ∷ stays) (Within before container p) = kept-none options stays p
 
 none-shut : (options : ParseOptions) (s : Spot) → s.leaf ≡ NoLeaf → shut options s ≡ s.here
 none-shut options s e = ap (then_leaf options s.here) e
 
-reading-none : (options : ParseOptions) (outer : List Around) (n : ℕ) (bs : Blocks) → reading_on options outer (new_none n bs) ≡ enters n (record { outer = outer; here = bs; leaf = None; text = None })
-reading-none options outer zero bs = refl
-reading-none options outer (suc n) bs = reading-none options (around_of InQuote bs ∷ outer) n End
+reading-none : (options : ParseOptions) (outer : List Around) (opens : List Container) (bs : Blocks) → reading_on options outer (new_none opens bs) ≡ enters opens (record { outer = outer; here = bs; leaf = None; text = None })
+reading-none options outer [] bs = refl
+reading-none options outer (c ∷ opens) bs = reading-none options (around_of c bs ∷ outer) opens End
 
--- behind the ends and the begins of quotes
-reading-open : (options : ParseOptions) (p : Path) (quotes : Quoted) → quotes.closes ≤ depth_of p → reading options (open_path options p quotes) ≡ enters quotes.opens (lefts quotes.closes (reading options p))
-reading-open options p quotes le =
-    let n : ℕ = depth_of p - quotes.closes in
-    let k : Path = kept_to options n p in
-    let same : depth_of p - n ≡ quotes.closes = omega arith in
-    reading-behind options [] k (new_none quotes.opens)
-    ∙ reading-none options (outer_on [] k) quotes.opens (spot k).here
-    ∙ ap (λ (bs : Blocks). enters quotes.opens (record { outer = outer_on [] k; here = bs; leaf = None; text = None })) (sym (none-shut options (spot k) (kept-none options n p)))
-    ∙ ap (enters quotes.opens) (sym (lefts-kept options n [] p (omega arith)) ∙ ap (λ (m : ℕ). lefts m (reading options p)) same)
+-- behind the ends and the begins of containers
+reading-open : (options : ParseOptions) (p : Path) (c : Contained) → AreShapes c.change.stays c.change.closes p →
+    reading options (open_path options p c) ≡ enters c.change.opens (lefts (length c.change.closes) (reading options p))
+reading-open options p c shapes =
+    let k : Path = kept_to options c.change.stays p in
+    reading-behind options [] k (new_none c.change.opens)
+    ∙ reading-none options (outer_on [] k) c.change.opens (spot k).here
+    ∙ ap (λ (bs : Blocks). enters c.change.opens (record { outer = outer_on [] k; here = bs; leaf = None; text = None })) (sym (none-shut options (spot k) (kept-none options c.change.stays p)))
+    ∙ ap (enters c.change.opens) (sym (lefts-kept options c.change.stays c.change.closes [] p shapes))
 
 -- Leaves.
 
@@ -138,29 +164,29 @@ behind-ap : (p : Path) (f g : Blocks → Path) → ((bs : Blocks) → f bs ≡ g
 behind-ap (At x) f g each = each x.here
 behind-ap (Within before container p) f g each = ap (Within before container) (behind-ap p f g each)
 
-new-with : (options : ParseOptions) (n : ℕ) (r : Rest) (bs : Blocks) → IsBuilt options → new_line options n r bs ≡ with_spot (new_none n bs) (λ cs. spot_by cs [] r (line_kind options r.bytes))
-new-with options zero r bs built = ap At (fresh-found options bs r built)
-new-with options (suc n) r bs built = ap (Within bs InQuote) (new-with options n r End built)
+new-with : (options : ParseOptions) (opens : List Container) (r : Rest) (bs : Blocks) → IsBuilt options → new_line options opens r bs ≡ with_spot (new_none opens bs) (λ cs. spot_by cs [] r (line_kind options r.bytes))
+new-with options [] r bs built = ap At (fresh-found options bs r built)
+new-with options (c ∷ opens) r bs built = ap (Within bs c) (new-with options opens r End built)
 
--- what a line begins stands behind its quotes
-new-path : (options : ParseOptions) (p : Path) (quotes : Quoted) (kind : RowKind) → IsBuilt options → line_kind options (rest_line quotes.rest) ≡ kind →
-    new_path options p quotes ≡ with_spot (open_path options p quotes) (λ bs. spot_by bs [] quotes.rest kind)
-new-path options p quotes kind built e =
-    let k : Path = kept_to options (depth_of p - quotes.closes) p in
-    behind-ap k (new_line options quotes.opens quotes.rest) (λ bs. with_spot (new_none quotes.opens bs) (λ cs. spot_by cs [] quotes.rest kind))
-    (λ bs. new-with options quotes.opens quotes.rest bs built ∙ ap (λ (x : RowKind). with_spot (new_none quotes.opens bs) (λ cs. spot_by cs [] quotes.rest x)) (sym (rest_line-kind options quotes.rest) ∙ e))
-    ∙ sym (behind-behind k (new_none quotes.opens) (λ bs. spot_by bs [] quotes.rest kind))
+-- what a line begins stands behind its containers
+new-path : (options : ParseOptions) (p : Path) (c : Contained) (kind : RowKind) → IsBuilt options → line_kind options (rest_line c.rest) ≡ kind →
+    new_path options p c ≡ with_spot (open_path options p c) (λ bs. spot_by bs [] c.rest kind)
+new-path options p c kind built e =
+    let k : Path = kept_to options c.change.stays p in
+    behind-ap k (new_line options c.change.opens c.rest) (λ bs. with_spot (new_none c.change.opens bs) (λ cs. spot_by cs [] c.rest kind))
+    (λ bs. new-with options c.change.opens c.rest bs built ∙ ap (λ (x : RowKind). with_spot (new_none c.change.opens bs) (λ cs. spot_by cs [] c.rest x)) (sym (rest_line-kind options c.rest) ∙ e))
+    ∙ sym (behind-behind k (new_none c.change.opens) (λ bs. spot_by bs [] c.rest kind))
 
-none-none : (n : ℕ) (bs : Blocks) → (spot (new_none n bs)).leaf ≡ NoLeaf
-none-none zero bs = refl
-none-none (suc n) bs = none-none n End
+none-none : (opens : List Container) (bs : Blocks) → (spot (new_none opens bs)).leaf ≡ NoLeaf
+none-none [] bs = refl
+none-none (c ∷ opens) bs = none-none opens End
 
 behind-leaf : (p : Path) (f : Blocks → Path) → ((bs : Blocks) → (spot (f bs)).leaf ≡ NoLeaf) → (spot (behind_path p f)).leaf ≡ NoLeaf
 behind-leaf (At x) f each = each x.here
 behind-leaf (Within before container p) f each = behind-leaf p f each
 
-open-none : (options : ParseOptions) (p : Path) (quotes : Quoted) → (spot (open_path options p quotes)).leaf ≡ NoLeaf
-open-none options p quotes = behind-leaf (kept_to options (depth_of p - quotes.closes) p) (new_none quotes.opens) (none-none quotes.opens)
+open-none : (options : ParseOptions) (p : Path) (c : Contained) → (spot (open_path options p c)).leaf ≡ NoLeaf
+open-none options p c = behind-leaf (kept_to options c.change.stays p) (new_none c.change.opens) (none-none c.change.opens)
 
 -- a leaf where nothing is open
 reading-with : (options : ParseOptions) (p : Path) (s : Blocks → Spot) → (spot p).leaf ≡ NoLeaf → reading options (with_spot p s) ≡ record (reading options p) { here = shut options (s (reading options p).here) }
@@ -186,9 +212,17 @@ reading-longer options p k ks built none =
 
 -- Events.
 
-read-ends : (bytes : List ℕ) (size : ℕ) (p : Point) (r : Reading) → read bytes r (quote_ends size p) ≡ lefts size r
-read-ends bytes zero p r = refl
-read-ends bytes (suc size) p r = read-ends bytes size p (left r.outer r)
+-- each container ends alike
+read-end : (bytes : List ℕ) (c : Container) (p : Point) (r : Reading) → read bytes r (exit (container_name c) p ∷ []) ≡ left r.outer r
+read-end bytes InQuote p r = refl
+read-end bytes (InItem digits marker width starts_blank) p r = refl
+read-end bytes (InFootnote label) p r = refl
+
+read-ends : (bytes : List ℕ) (cs : List Container) (p : Point) (r : Reading) → read bytes r (ends_of cs p) ≡ lefts (length cs) r
+read-ends bytes [] p r = refl
+read-ends bytes (c ∷ cs) p r =
+    let inner : Reading = lefts (length cs) r in
+    read-from bytes r inner (ends_of cs p) (exit (container_name c) p ∷ []) (read-ends bytes cs p r) ∙ read-end bytes c p inner ∙ sym (lefts-one (length cs) r)
 
 ending-between : (name : Name) (row : Row) → Between (role name) → Roles Between (ending_events name row)
 ending-between name row h = go row.after
@@ -197,19 +231,27 @@ ending-between name row h = go row.after
     go None = tt
     go (Some q) = (h, (h, tt))
 
-read-tail : (bytes : List ℕ) (name : Name) (row : Row) (r : Reading) → Between (role name) → r.text ≡ None → r.leaf ≡ None → read bytes r (tail_events name row) ≡ lefts row.leaves r
+read-tail : (bytes : List ℕ) (name : Name) (row : Row) (r : Reading) → Between (role name) → r.text ≡ None → r.leaf ≡ None → read bytes r (tail_events name row) ≡ lefts (length row.leaves) r
 read-tail bytes name row r h t l =
-    let next = lefts-between row.leaves r t l in
-    read-from bytes r (lefts row.leaves r) (quote_ends row.leaves row.end) (ending_events name row) (read-ends bytes row.leaves row.end r)
-    ∙ read-between bytes (lefts row.leaves r) (ending_events name row) next.0 next.1 (ending-between name row h)
+    let size : ℕ = length row.leaves in
+    let next = lefts-between size r t l in
+    read-from bytes r (lefts size r) (ends_of row.leaves row.end) (ending_events name row) (read-ends bytes row.leaves row.end r)
+    ∙ read-between bytes (lefts size r) (ending_events name row) next.0 next.1 (ending-between name row h)
 
-read-fronts : (bytes : List ℕ) (opens : ℕ) (p q : Point) (es : List Event) (r : Reading) → Fronts bytes opens p q es → r.text ≡ None → read bytes r es ≡ enters opens r
+-- what stands in front of the content of a container that goes on is not read
+read-further : (bytes : List ℕ) (c : Container) (p q : Point) (es : List Event) (r : Reading) → IsFurther bytes c p q es → r.text ≡ None → read bytes r es ≡ r
+read-further bytes c p q es r is t = read-prefixes bytes r es t (further-roles QuietOrPrefix bytes c p q es is tt tt)
+
+-- a container begins with its prefix, as its name and its prefix tell
+read-opening : (bytes : List ℕ) (c : Container) (p q : Point) (es : List Event) (r : Reading) → IsOpening bytes c p q es → r.text ≡ None → read bytes r (enter (container_name c) p ∷ es) ≡ begins c r
+read-opening bytes InQuote p q es r is t = read-prefixes bytes (begins InQuote r) es t (prefix-roles QuietOrPrefix bytes p q es is tt tt)
+read-opening bytes c p q es r is t = absurd is
+
+read-fronts : (bytes : List ℕ) (opens : List Container) (p q : Point) (es : List Event) (r : Reading) → Fronts bytes opens p q es → r.text ≡ None → read bytes r es ≡ enters opens r
 read-fronts bytes opens p q es r (Behind a) t = refl
-read-fronts bytes opens p q es r (Goes many a b c xs ys prefix more) t =
-    read-from bytes r r xs ys (read-prefixes bytes r xs t (prefix-roles QuietOrPrefix bytes a b xs prefix tt tt)) ∙ read-fronts bytes many b c ys r more t
-read-fronts bytes opens p q es r (Begins many a b c xs ys prefix more) t =
-    let s : Reading = record r { outer = around_of InQuote r.here ∷ r.outer; here = End } in
-    read-from bytes s s xs ys (read-prefixes bytes s xs t (prefix-roles QuietOrPrefix bytes a b xs prefix tt tt)) ∙ read-fronts bytes many b c ys s more t
+read-fronts bytes opens p q es r (Goes c many a b d xs ys further more) t = read-from bytes r r xs ys (read-further bytes c a b xs r further t) ∙ read-fronts bytes many b d ys r more t
+read-fronts bytes opens p q es r (Begins c many a b d xs ys opening more) t =
+    read-from bytes r (begins c r) (enter (container_name c) a ∷ xs) ys (read-opening bytes c a b xs r opening t) ∙ read-fronts bytes many b d ys (begins c r) more t
 
 -- the parts of the events of a line, and what follows
 read-parts : (bytes : List ℕ) (r a b c d : Reading) (xs ys zs more : List Event) → read bytes r xs ≡ a → read bytes a ys ≡ b → read bytes b zs ≡ c → read bytes c more ≡ d → read bytes r ((xs ++ ys ++ zs) ++ more) ≡ d
@@ -217,9 +259,9 @@ read-parts bytes r a b c d xs ys zs more e f g h = read-from bytes r c (xs ++ ys
 
 -- Groups.
 
--- these groups, where a path is open of whose quotes so many end first, are read as this
-abbrev Reads : ParseOptions → List ℕ → Path → ℕ → List Group → Reading → Type 0
-Reads options bytes p closes gs last = read bytes (lefts closes (reading options p)) (groups_events bytes gs) ≡ last
+-- these groups, where a path is open of whose containers so many end first, are read as this
+abbrev Reads : ParseOptions → List ℕ → Path → List Container → List Group → Reading → Type 0
+Reads options bytes p closes gs last = read bytes (lefts (length closes) (reading options p)) (groups_events bytes gs) ≡ last
 
 -- the lines of a paragraph go on an open one or begin one, and with what follows are read as this
 record ReadsLines (options : ParseOptions) (bytes : List ℕ) (p : Path) (row : Row) (rows : List Row) (gs : List Group) (last : Reading) : Type 0 where
@@ -237,7 +279,7 @@ record StartsLines (options : ParseOptions) (bytes : List ℕ) (p : Path) (row :
 -- by whether the first line goes on the open paragraph
 abbrev Means : ParseOptions → List ℕ → Path → Bool → Row → List Group → Reading → Type 0
 Means options bytes p true row gs last = StartsLines options bytes p row gs last
-Means options bytes p false row gs last = Reads options bytes p row.closes gs last
+Means options bytes p false row gs last = Reads options bytes p row.change.closes gs last
 
 -- Behind a line: what follows does not go on a paragraph,
 record Parts (options : ParseOptions) (bytes : List ℕ) (p : Path) (row : Row) (gs : List Group) (last : Reading) : Type 0 where
@@ -249,21 +291,34 @@ record Joins (options : ParseOptions) (bytes : List ℕ) (p : Path) (row : Row) 
   text : is_text row.kind ≡ true
   next : Row
   starts : StartsLines options bytes p next gs last
-  leaves : row.leaves ≡ 0
-  opens : next.opens ≡ 0
+  leaves : row.leaves ≡ []
+  opens : next.change.opens ≡ []
   after : Point
   ending : f.IsEnding bytes row.end after
-  fronts : Fronts bytes 0 after next.first next.front
+  fronts : Fronts bytes [] after next.first next.front
 
 abbrev Follows : ParseOptions → List ℕ → Path → Row → List Group → Reading → Type 0
 Follows options bytes p row gs last = Parts options bytes p row gs last ⊎ Joins options bytes p row gs last
 
-onto-joined : (row next : Row) (rows : List Row) (gs : List Group) → row.leaves ≡ 0 → next.opens ≡ 0 → onto_lines row next rows gs ≡ Lines row (next ∷ rows) ∷ gs
-onto-joined row next rows gs e h =
-    let x : (row.leaves == 0) ≡ true = grind (arith, nat_tests) in
-    let y : (next.opens == 0) ≡ true = grind (arith, nat_tests) in
-    ap (λ (t : Bool). cond (t && (next.opens == 0)) (Lines row (next ∷ rows) ∷ gs) (Lines row [] ∷ Lines next rows ∷ gs)) x
-    ∙ ap (λ (t : Bool). cond t (Lines row (next ∷ rows) ∷ gs) (Lines row [] ∷ Lines next rows ∷ gs)) y
+onto-joined : (row next : Row) (rows : List Row) (gs : List Group) → row.leaves ≡ [] → next.change.opens ≡ [] → onto_lines row next rows gs ≡ Lines row (next ∷ rows) ∷ gs
+onto-joined row next rows gs e h = ap₂ (λ (xs ys : List Container). cond (is_none xs && is_none ys) (Lines row (next ∷ rows) ∷ gs) (Lines row [] ∷ Lines next rows ∷ gs)) e h
+
+-- A line of text goes on a paragraph as well where the path is another that is read alike.
+starts-alike : (options : ParseOptions) (bytes : List ℕ) (p q : Path) (row : Row) (gs : List Group) (last : Reading) → ((lines : List Kept) → reading options (longer p lines) ≡ reading options (longer q lines)) →
+    StartsLines options bytes p row gs last → StartsLines options bytes q row gs last
+starts-alike options bytes p q row gs last alike starts =
+    let reads = starts.reads in
+    record {
+      rows = starts.rows;
+      below = starts.below;
+      groups_are = starts.groups_are;
+      reads = record {
+        first = reads.first;
+        lines = reads.lines;
+        are = reads.are;
+        behind = ap (λ (r : Reading). read bytes r (tail_events n.LineEnding (last_row row starts.rows) ++ groups_events bytes starts.below)) (sym (alike (reads.first ∷ reads.lines))) ∙ reads.behind;
+      };
+    }
 
 -- a line of text, and what follows
 starts-lines : (options : ParseOptions) (bytes : List ℕ) (p : Path) (r : Rest) (row : Row) (gs : List Group) (last : Reading) → f.IsRow options bytes (rest_line r) row → Cut r.spaces row.first → row.kind ≡ TextRow →
@@ -278,7 +333,7 @@ starts-lines options bytes p r row gs last is cut text (inl parts) = record {
     are = read-one options bytes r row is cut text;
     behind =
         let s : Reading = reading options (longer p (kept r ∷ [])) in
-        read-from bytes s (lefts row.leaves s) (tail_events n.LineEnding row) (groups_events bytes gs) (read-tail bytes n.LineEnding row s tt refl refl) ∙ parts.reads;
+        read-from bytes s (lefts (length row.leaves) s) (tail_events n.LineEnding row) (groups_events bytes gs) (read-tail bytes n.LineEnding row s tt refl refl) ∙ parts.reads;
   };
 }
 starts-lines options bytes p r row gs last is cut text (inr joins) =
@@ -298,19 +353,22 @@ starts-lines options bytes p r row gs last is cut text (inr joins) =
 
 -- Lines.
 
+-- what is read in front of a line, and what it opens behind that
+read-open : (options : ParseOptions) (p : Path) (c : Contained) (row : Row) → AreShapes c.change.stays c.change.closes p → row.change ≡ c.change →
+    enters row.change.opens (lefts (length row.change.closes) (reading options p)) ≡ reading options (open_path options p c)
+read-open options p c row shapes same = ap (λ (x : Change). enters x.opens (lefts (length x.closes) (reading options p))) same ∙ sym (reading-open options p c shapes)
+
 -- a line that is no text
-single-reads : (options : ParseOptions) (bytes : List ℕ) (p : Path) (quotes : Quoted) (row : Row) (gs : List Group) (last : Reading) (new : Path) (name : Name) (leaf : List Event) → quotes.closes ≤ depth_of p →
-    row.closes ≡ quotes.closes → row.opens ≡ quotes.opens → (a : Point) → Fronts bytes row.opens a row.first row.front →
-    ((e : Reading) → e ≡ reading options (open_path options p quotes) → read bytes e leaf ≡ reading options new) → Between (role name) → Reads options bytes new row.leaves gs last →
-    read bytes (lefts row.closes (reading options p)) ((row.front ++ leaf ++ tail_events name row) ++ groups_events bytes gs) ≡ last
-single-reads options bytes p quotes row gs last new name leaf le closes opens a fronts found between reads =
-    let start : Reading = lefts row.closes (reading options p) in
-    let begin : Reading = enters row.opens start in
-    let text = lefts-between row.closes (reading options p) refl refl in
-    let same : begin ≡ reading options (open_path options p quotes) =
-    ap (λ (k : ℕ). enters k start) opens ∙ ap (λ (k : ℕ). enters quotes.opens (lefts k (reading options p))) closes ∙ sym (reading-open options p quotes le) in
-    read-parts bytes start begin (reading options new) (lefts row.leaves (reading options new)) last row.front leaf (tail_events name row) (groups_events bytes gs)
-    (read-fronts bytes row.opens a row.first row.front start fronts text.0) (found begin same) (read-tail bytes name row (reading options new) between refl refl) reads
+single-reads : (options : ParseOptions) (bytes : List ℕ) (p : Path) (c : Contained) (row : Row) (gs : List Group) (last : Reading) (new : Path) (name : Name) (leaf : List Event) → AreShapes c.change.stays c.change.closes p →
+    row.change ≡ c.change → (a : Point) → Fronts bytes row.change.opens a row.first row.front →
+    ((e : Reading) → e ≡ reading options (open_path options p c) → read bytes e leaf ≡ reading options new) → Between (role name) → Reads options bytes new row.leaves gs last →
+    read bytes (lefts (length row.change.closes) (reading options p)) ((row.front ++ leaf ++ tail_events name row) ++ groups_events bytes gs) ≡ last
+single-reads options bytes p c row gs last new name leaf shapes change a fronts found between reads =
+    let start : Reading = lefts (length row.change.closes) (reading options p) in
+    let begin : Reading = enters row.change.opens start in
+    let text = lefts-between (length row.change.closes) (reading options p) refl refl in
+    read-parts bytes start begin (reading options new) (lefts (length row.leaves) (reading options new)) last row.front leaf (tail_events name row) (groups_events bytes gs)
+    (read-fronts bytes row.change.opens a row.first row.front start fronts text.0) (found begin (read-open options p c row shapes change)) (read-tail bytes name row (reading options new) between refl refl) reads
 
 -- the heading behind the indent of a line
 abbrev heading_with : List ℕ → Block
@@ -336,65 +394,64 @@ no-joins options bytes p row gs last none (inr joins) = let text = joins.text in
 
 -- One line, and what follows.
 row-means : (options : ParseOptions) (bytes : List ℕ) (p : Path) (a : Point) (line : List ℕ) (row : Row) (gs : List Group) (last : Reading) → IsBuilt options → IsPlain p →
-    f.IsLine options bytes (depth_of p) (is_going p) a line row → Follows options bytes (step options p (rest_from a line)) row gs last →
-    Means options bytes p (is_lazy (is_going p) row.opens row.kind) row (onto_groups row row.kind gs) last
-row-means options bytes p a line row gs last built plain is follows = go (goes_lazy options p quotes) refl
+    f.IsLine options bytes (containers_of p) (is_going p) a line row → Follows options bytes (step options p (rest_from a line)) row gs last →
+    Means options bytes p (is_lazy (is_going p) row.change.opens row.kind) row (onto_groups row row.kind gs) last
+row-means options bytes p a line row gs last built plain is follows = go (goes_lazy options p c) refl
   where
-    quotes : Quoted
-    quotes = quoted_at options p (rest_from a line)
+    c : Contained
+    c = contained_at options p (rest_from a line)
 
-    kind-is : row.kind ≡ line_kind options (rest_line quotes.rest)
+    kind-is : row.kind ≡ line_kind options (rest_line c.rest)
     kind-is = is.is.kind
 
-    stepped : (x : Bool) → goes_lazy options p quotes ≡ x → step options p (rest_from a line) ≡ cond x (longer p (kept quotes.rest ∷ [])) (new_path options p quotes)
-    stepped x e = step-quoted options p (rest_from a line) built plain ∙ ap (λ (t : Bool). cond t (longer p (kept quotes.rest ∷ [])) (new_path options p quotes)) e
+    stepped : (x : Bool) → goes_lazy options p c ≡ x → step options p (rest_from a line) ≡ cond x (longer (renewed c.change.stays p) (kept c.rest ∷ [])) (new_path options p c)
+    stepped x e = step-contained options p (rest_from a line) built plain ∙ ap (λ (t : Bool). cond t (longer (renewed c.change.stays p) (kept c.rest ∷ [])) (new_path options p c)) e
 
-    same : is_lazy (is_going p) row.opens row.kind ≡ goes_lazy options p quotes
-    same = ap (λ (k : ℕ). is_lazy (is_going p) k row.kind) is.opens ∙ ap (is_lazy (is_going p) quotes.opens) kind-is
+    same : is_lazy (is_going p) row.change.opens row.kind ≡ goes_lazy options p c
+    same = ap (λ (x : Change). is_lazy (is_going p) x.opens row.kind) is.change ∙ ap (is_lazy (is_going p) c.change.opens) kind-is
 
-    le : quotes.closes ≤ depth_of p
-    le = quoted-closes options p (rest_from a line)
+    shapes : AreShapes c.change.stays c.change.closes p
+    shapes = contained-shapes options (containers_of p) (is_going p) (rest_from a line)
 
     o : Path
-    o = open_path options p quotes
+    o = open_path options p c
 
     -- what the line leads to, by its kind
     to : RowKind → Path
-    to kind = with_spot o (λ bs. spot_by bs [] quotes.rest kind)
+    to kind = with_spot o (λ bs. spot_by bs [] c.rest kind)
 
     none : (spot o).leaf ≡ NoLeaf
-    none = open-none options p quotes
+    none = open-none options p c
 
     inside : row.kind ≢ HeadingRow → Roles Quiet row.inside
     inside h = (is.is.inside h).quiet
 
-    by : (kind : RowKind) → row.kind ≡ kind → Follows options bytes (to kind) row gs last → Reads options bytes p row.closes (onto_groups row kind gs) last
-    by BlankRow e further = subst (λ (k : RowKind). read bytes (lefts row.closes (reading options p)) (single_events_by bytes k row ++ groups_events bytes gs) ≡ last) (sym e)
-        (single-reads options bytes p quotes row gs last (to BlankRow) n.BlankLineEnding row.inside le is.closes is.opens a is.front
-        (λ s same. read-quiet bytes s row.inside (inside (λ (h : row.kind ≡ HeadingRow). let bad : BlankRow ≡ HeadingRow = sym e ∙ h in cc)) ∙ same ∙ sym (reading-with options o (λ bs. spot_by bs [] quotes.rest BlankRow) none))
+    by : (kind : RowKind) → row.kind ≡ kind → Follows options bytes (to kind) row gs last → Reads options bytes p row.change.closes (onto_groups row kind gs) last
+    by BlankRow e further = subst (λ (k : RowKind). read bytes (lefts (length row.change.closes) (reading options p)) (single_events_by bytes k row ++ groups_events bytes gs) ≡ last) (sym e)
+        (single-reads options bytes p c row gs last (to BlankRow) n.BlankLineEnding row.inside shapes is.change a is.front
+        (λ s same. read-quiet bytes s row.inside (inside (λ (h : row.kind ≡ HeadingRow). let bad : BlankRow ≡ HeadingRow = sym e ∙ h in cc)) ∙ same ∙ sym (reading-with options o (λ bs. spot_by bs [] c.rest BlankRow) none))
         tt (no-joins options bytes (to BlankRow) row gs last (ap is_text e) further))
-    by HeadingRow e further = subst (λ (k : RowKind). read bytes (lefts row.closes (reading options p)) (single_events_by bytes k row ++ groups_events bytes gs) ≡ last) (sym e)
-        (single-reads options bytes p quotes row gs last (to HeadingRow) n.LineEnding (around n.HeadingAtx row.first row.end (read_title bytes (row_title bytes row))) le is.closes is.opens a is.front
+    by HeadingRow e further = subst (λ (k : RowKind). read bytes (lefts (length row.change.closes) (reading options p)) (single_events_by bytes k row ++ groups_events bytes gs) ≡ last) (sym e)
+        (single-reads options bytes p c row gs last (to HeadingRow) n.LineEnding (around n.HeadingAtx row.first row.end (read_title bytes (row_title bytes row))) shapes is.change a is.front
         (λ s same.
         ap (λ (x : Reading). read bytes x (around n.HeadingAtx row.first row.end (read_title bytes (row_title bytes row)))) same
-        ∙ read-heading options bytes (rest_line quotes.rest) row (reading options o) is.is (cut-begun quotes.rest row.first is.cut) (heading-kind options (rest_line quotes.rest) (sym kind-is ∙ e)) refl refl
-        ∙ ap (λ (l : List ℕ). add_block (heading_with l) (reading options o)) (rest_line-trim quotes.rest)
-        ∙ sym (reading-with options o (λ bs. spot_by bs [] quotes.rest HeadingRow) none))
+        ∙ read-heading options bytes (rest_line c.rest) row (reading options o) is.is (cut-begun c.rest row.first is.cut) (heading-kind options (rest_line c.rest) (sym kind-is ∙ e)) refl refl
+        ∙ ap (λ (l : List ℕ). add_block (heading_with l) (reading options o)) (rest_line-trim c.rest)
+        ∙ sym (reading-with options o (λ bs. spot_by bs [] c.rest HeadingRow) none))
         tt (no-joins options bytes (to HeadingRow) row gs last (ap is_text e) further))
-    by BreakRow e further = subst (λ (k : RowKind). read bytes (lefts row.closes (reading options p)) (single_events_by bytes k row ++ groups_events bytes gs) ≡ last) (sym e)
-        (single-reads options bytes p quotes row gs last (to BreakRow) n.LineEnding (around n.ThematicBreak row.first row.end row.inside) le is.closes is.opens a is.front
+    by BreakRow e further = subst (λ (k : RowKind). read bytes (lefts (length row.change.closes) (reading options p)) (single_events_by bytes k row ++ groups_events bytes gs) ≡ last) (sym e)
+        (single-reads options bytes p c row gs last (to BreakRow) n.LineEnding (around n.ThematicBreak row.first row.end row.inside) shapes is.change a is.front
         (λ s same.
         ap (λ (x : Reading). read bytes x (around n.ThematicBreak row.first row.end row.inside)) same
         ∙ read-break bytes (reading options o) row.first row.end row.inside refl (inside (λ (h : row.kind ≡ HeadingRow). let bad : BreakRow ≡ HeadingRow = sym e ∙ h in cc))
-        ∙ sym (reading-with options o (λ bs. spot_by bs [] quotes.rest BreakRow) none))
+        ∙ sym (reading-with options o (λ bs. spot_by bs [] c.rest BreakRow) none))
         tt (no-joins options bytes (to BreakRow) row gs last (ap is_text e) further))
     by TextRow e further =
-        let begin : Reading = enters row.opens (lefts row.closes (reading options p)) in
-        let start : Reading = lefts row.closes (reading options p) in
-        let text = lefts-between row.closes (reading options p) refl refl in
-        let same : begin ≡ reading options o =
-        ap (λ (k : ℕ). enters k start) is.opens ∙ ap (λ (k : ℕ). enters quotes.opens (lefts k (reading options p))) is.closes ∙ sym (reading-open options p quotes le) in
-        let starts = starts-lines options bytes o quotes.rest row gs last is.is is.cut e (subst (λ (x : Path). Follows options bytes x row gs last) (sym (longer-with o (kept quotes.rest ∷ []) none)) further) in
+        let begin : Reading = enters row.change.opens (lefts (length row.change.closes) (reading options p)) in
+        let start : Reading = lefts (length row.change.closes) (reading options p) in
+        let text = lefts-between (length row.change.closes) (reading options p) refl refl in
+        let same : begin ≡ reading options o = read-open options p c row shapes is.change in
+        let starts = starts-lines options bytes o c.rest row gs last is.is is.cut e (subst (λ (x : Path). Follows options bytes x row gs last) (sym (longer-with o (kept c.rest ∷ []) none)) further) in
         let reads = starts.reads in
         let whole : List Event = around n.Paragraph row.first (last_row row starts.rows).end (read_lines bytes row starts.rows) in
         let tail : List Event = tail_events n.LineEnding (last_row row starts.rows) in
@@ -402,34 +459,35 @@ row-means options bytes p a line row gs last built plain is follows = go (goes_l
         ap (λ (l : List Group). read bytes start (groups_events bytes l)) starts.groups_are
         ∙ ap (read bytes start) (append_assoc (row.front ++ whole) tail (groups_events bytes starts.below))
         ∙ read-from bytes start new (row.front ++ whole) (tail ++ groups_events bytes starts.below)
-        (read-from bytes start begin row.front whole (read-fronts bytes row.opens a row.first row.front start is.front text.0)
+        (read-from bytes start begin row.front whole (read-fronts bytes row.change.opens a row.first row.front start is.front text.0)
         ∙ ap (λ (x : Reading). read bytes x whole) same
         ∙ read-lines bytes row starts.rows (reads.first ∷ reads.lines) (reading options o) reads.are refl
         ∙ sym (reading-longer options o reads.first reads.lines built none))
         ∙ reads.behind
 
-    go : (x : Bool) → goes_lazy options p quotes ≡ x → Means options bytes p (is_lazy (is_going p) row.opens row.kind) row (onto_groups row row.kind gs) last
+    go : (x : Bool) → goes_lazy options p c ≡ x → Means options bytes p (is_lazy (is_going p) row.change.opens row.kind) row (onto_groups row row.kind gs) last
     go true e =
-        let text : is_text row.kind ≡ true = ap is_text kind-is ∙ lazy-text (is_going p) quotes.opens (line_kind options (rest_line quotes.rest)) e in
+        let text : is_text row.kind ≡ true = ap is_text kind-is ∙ lazy-text (is_going p) c.change.opens (line_kind options (rest_line c.rest)) e in
         let is_row : row.kind ≡ TextRow = text-kind row.kind text in
         subst (λ (x : Bool). Means options bytes p x row (onto_groups row row.kind gs) last) (sym (same ∙ e))
         (subst (λ (k : RowKind). StartsLines options bytes p row (onto_groups row k gs) last) (sym is_row)
-        (starts-lines options bytes p quotes.rest row gs last is.is is.cut is_row (subst (λ (x : Path). Follows options bytes x row gs last) (stepped true e) follows)))
+        (starts-alike options bytes (renewed c.change.stays p) p row (onto_groups row TextRow gs) last (λ lines. reading-renewed options c.change.stays c.change.closes [] p lines shapes)
+        (starts-lines options bytes (renewed c.change.stays p) c.rest row gs last is.is is.cut is_row (subst (λ (x : Path). Follows options bytes x row gs last) (stepped true e) follows))))
     go false e =
         subst (λ (x : Bool). Means options bytes p x row (onto_groups row row.kind gs) last) (sym (same ∙ e))
-        (by row.kind refl (subst (λ (x : Path). Follows options bytes x row gs last) (stepped false e ∙ new-path options p quotes row.kind built (sym kind-is)) follows))
+        (by row.kind refl (subst (λ (x : Path). Follows options bytes x row gs last) (stepped false e ∙ new-path options p c row.kind built (sym kind-is)) follows))
 
 -- where nothing follows
-row-ends : (options : ParseOptions) (bytes : List ℕ) (p : Path) (a : Point) (line : List ℕ) (row : Row) → IsBuilt options → IsPlain p → f.IsLine options bytes (depth_of p) (is_going p) a line row →
-    Means options bytes p (is_lazy (is_going p) row.opens row.kind) row (groups (row ∷ [])) (lefts row.leaves (reading options (step options p (rest_from a line))))
+row-ends : (options : ParseOptions) (bytes : List ℕ) (p : Path) (a : Point) (line : List ℕ) (row : Row) → IsBuilt options → IsPlain p → f.IsLine options bytes (containers_of p) (is_going p) a line row →
+    Means options bytes p (is_lazy (is_going p) row.change.opens row.kind) row (groups (row ∷ [])) (lefts (length row.leaves) (reading options (step options p (rest_from a line))))
 row-ends options bytes p a line row built plain is =
-    row-means options bytes p a line row [] (lefts row.leaves (reading options (step options p (rest_from a line)))) built plain is (inl (record { apart = λ text. refl; reads = refl }))
+    row-means options bytes p a line row [] (lefts (length row.leaves) (reading options (step options p (rest_from a line)))) built plain is (inl (record { apart = λ text. refl; reads = refl }))
 
--- a line that does not go on a paragraph, but for the quotes that end behind it
-pub row-read : (options : ParseOptions) (bytes : List ℕ) (p : Path) (a : Point) (line : List ℕ) (row : Row) → IsBuilt options → IsPlain p → f.IsLine options bytes (depth_of p) (is_going p) a line row →
-    is_lazy (is_going p) row.opens row.kind ≡ false → read bytes (lefts row.closes (reading options p)) (groups_events bytes (groups (row ∷ []))) ≡ lefts row.leaves (reading options (step options p (rest_from a line)))
+-- a line that does not go on a paragraph, but for the containers that end behind it
+pub row-read : (options : ParseOptions) (bytes : List ℕ) (p : Path) (a : Point) (line : List ℕ) (row : Row) → IsBuilt options → IsPlain p → f.IsLine options bytes (containers_of p) (is_going p) a line row →
+    is_lazy (is_going p) row.change.opens row.kind ≡ false → read bytes (lefts (length row.change.closes) (reading options p)) (groups_events bytes (groups (row ∷ []))) ≡ lefts (length row.leaves) (reading options (step options p (rest_from a line)))
 row-read options bytes p a line row built plain is new =
-    subst (λ (x : Bool). Means options bytes p x row (groups (row ∷ [])) (lefts row.leaves (reading options (step options p (rest_from a line))))) new (row-ends options bytes p a line row built plain is)
+    subst (λ (x : Bool). Means options bytes p x row (groups (row ∷ [])) (lefts (length row.leaves) (reading options (step options p (rest_from a line))))) new (row-ends options bytes p a line row built plain is)
 
 -- Lines, one after another.
 
@@ -443,23 +501,23 @@ rests-behind : (p : Point) (lines : List (List ℕ)) → p.column ≡ 1 → rest
 rests-behind p [] e = refl
 rests-behind p (line ∷ lines) e = let first : p.column - 1 ≡ 0 = omega arith in ap (λ (k : ℕ). rest_at k line ∷ map (rest_at 0) lines) first
 
-abbrev First : ParseOptions → List ℕ → ℕ → Bool → Point → List (List ℕ) → List Row → Type 0
-First options bytes depth going p (line ∷ lines) (row ∷ rows) = f.IsLine options bytes depth going p line row
-First options bytes depth going p _ _ = ⊥
+abbrev First : ParseOptions → List ℕ → List Container → Bool → Point → List (List ℕ) → List Row → Type 0
+First options bytes cs going p (line ∷ lines) (row ∷ rows) = f.IsLine options bytes cs going p line row
+First options bytes cs going p _ _ = ⊥
 
-first-line : (options : ParseOptions) (bytes : List ℕ) (depth : ℕ) (going : Bool) (p : Point) (lines : List (List ℕ)) (rows : List Row) → f.AreRows options bytes depth going p lines rows → First options bytes depth going p lines rows
-first-line options bytes depth going p (line ∷ []) (row ∷ []) are = are.0
-first-line options bytes depth going p (line ∷ next ∷ lines) (row ∷ below ∷ rows) are = are.0
-first-line options bytes depth going p lines rows are = absurd are
+first-line : (options : ParseOptions) (bytes : List ℕ) (cs : List Container) (going : Bool) (p : Point) (lines : List (List ℕ)) (rows : List Row) → f.AreRows options bytes cs going p lines rows → First options bytes cs going p lines rows
+first-line options bytes cs going p (line ∷ []) (row ∷ []) are = are.0
+first-line options bytes cs going p (line ∷ next ∷ lines) (row ∷ below ∷ rows) are = are.0
+first-line options bytes cs going p lines rows are = absurd are
 
 -- where a line of text follows that goes on no paragraph, a new one begins
-not-joined : (row below : Row) (gs : List Group) → is_lazy true below.opens below.kind ≡ false → onto_groups row TextRow (onto_groups below below.kind gs) ≡ Lines row [] ∷ onto_groups below below.kind gs
+not-joined : (row below : Row) (gs : List Group) → is_lazy true below.change.opens below.kind ≡ false → onto_groups row TextRow (onto_groups below below.kind gs) ≡ Lines row [] ∷ onto_groups below below.kind gs
 not-joined row below gs lazy = go below.kind lazy
   where
-    by : (rows : List Row) (more : List Group) → (below.opens == 0) ≡ false → onto_lines row below rows more ≡ Lines row [] ∷ Lines below rows ∷ more
-    by rows more e = go (row.leaves == 0)
+    by : (rows : List Row) (more : List Group) → is_none below.change.opens ≡ false → onto_lines row below rows more ≡ Lines row [] ∷ Lines below rows ∷ more
+    by rows more e = go (is_none row.leaves)
       where
-        go : (x : Bool) → cond (x && (below.opens == 0)) (Lines row (below ∷ rows) ∷ more) (Lines row [] ∷ Lines below rows ∷ more) ≡ Lines row [] ∷ Lines below rows ∷ more
+        go : (x : Bool) → cond (x && is_none below.change.opens) (Lines row (below ∷ rows) ∷ more) (Lines row [] ∷ Lines below rows ∷ more) ≡ Lines row [] ∷ Lines below rows ∷ more
         go true = ap (λ (t : Bool). cond t (Lines row (below ∷ rows) ∷ more) (Lines row [] ∷ Lines below rows ∷ more)) e
         go false = refl
 
@@ -467,7 +525,7 @@ not-joined row below gs lazy = go below.kind lazy
     opens true e = cc
     opens false e = refl
 
-    onto : (gs : List Group) → (below.opens == 0) ≡ false → onto_groups row TextRow (onto_groups below TextRow gs) ≡ Lines row [] ∷ onto_groups below TextRow gs
+    onto : (gs : List Group) → is_none below.change.opens ≡ false → onto_groups row TextRow (onto_groups below TextRow gs) ≡ Lines row [] ∷ onto_groups below TextRow gs
     onto [] e = by [] [] e
     onto (Single next ∷ more) e = by [] (Single next ∷ more) e
     onto (Lines next rows ∷ more) e = join (goes_on below next)
@@ -476,69 +534,69 @@ not-joined row below gs lazy = go below.kind lazy
         join true = by (next ∷ rows) more e
         join false = by [] (Lines next rows ∷ more) e
 
-    go : (kind : RowKind) → is_lazy true below.opens kind ≡ false → onto_groups row TextRow (onto_groups below kind gs) ≡ Lines row [] ∷ onto_groups below kind gs
+    go : (kind : RowKind) → is_lazy true below.change.opens kind ≡ false → onto_groups row TextRow (onto_groups below kind gs) ≡ Lines row [] ∷ onto_groups below kind gs
     go BlankRow e = refl
     go HeadingRow e = refl
     go BreakRow e = refl
-    go TextRow e = onto gs (opens (below.opens == 0) e)
+    go TextRow e = onto gs (opens (is_none below.change.opens) e)
 
 -- what follows a line, by what is read of the lines below
 follows-below : (options : ParseOptions) (bytes : List ℕ) (p : Path) (row below : Row) (gs : List Group) (q : Point) (line : List ℕ) (last : Reading) → IsBuilt options → IsPlain p → is_going p ≡ is_text row.kind →
-    row.leaves ≡ below.closes → f.IsEnding bytes row.end q → f.IsLine options bytes (depth_of p) (is_going p) q line below →
-    (x : Bool) → is_lazy (is_going p) below.opens below.kind ≡ x → Means options bytes p x below (onto_groups below below.kind gs) last → Follows options bytes p row (onto_groups below below.kind gs) last
+    row.leaves ≡ below.change.closes → f.IsEnding bytes row.end q → f.IsLine options bytes (containers_of p) (is_going p) q line below →
+    (x : Bool) → is_lazy (is_going p) below.change.opens below.kind ≡ x → Means options bytes p x below (onto_groups below below.kind gs) last → Follows options bytes p row (onto_groups below below.kind gs) last
 follows-below options bytes p row below gs q line last built plain going leaves ending is true lazy means =
-    let quotes : Quoted = quoted_at options p (rest_from q line) in
-    let goes : goes_lazy options p quotes ≡ true = ap (is_lazy (is_going p) quotes.opens) (sym is.is.kind) ∙ ap (λ (k : ℕ). is_lazy (is_going p) k below.kind) (sym is.opens) ∙ lazy in
-    let none : below.opens ≡ 0 = lazy-opens (is_going p) below.opens below.kind lazy in
+    let c : Contained = contained_at options p (rest_from q line) in
+    let goes : goes_lazy options p c ≡ true = ap (is_lazy (is_going p) c.change.opens) (sym is.is.kind) ∙ ap (λ (x : Change). is_lazy (is_going p) x.opens below.kind) (sym is.change) ∙ lazy in
+    let none : below.change.opens ≡ [] = lazy-opens (is_going p) below.change.opens below.kind lazy in
     inr (record {
-      text = sym going ∙ lazy-going (is_going p) below.opens below.kind lazy;
+      text = sym going ∙ lazy-going (is_going p) below.change.opens below.kind lazy;
       next = below;
       starts = means;
-      leaves = leaves ∙ is.closes ∙ quoted-lazy options p (rest_from q line) goes;
+      leaves = leaves ∙ ap (λ (x : Change). x.closes) is.change ∙ contained-lazy options p (rest_from q line) goes;
       opens = none;
       after = q;
       ending = ending;
-      fronts = subst (λ (k : ℕ). Fronts bytes k q below.first below.front) none is.front;
+      fronts = subst (λ (cs : List Container). Fronts bytes cs q below.first below.front) none is.front;
     })
   where
-    lazy-going : (going : Bool) (many : ℕ) (kind : RowKind) → is_lazy going many kind ≡ true → going ≡ true
-    lazy-going true many kind e = refl
-    lazy-going false many kind e = cc
+    lazy-going : (going : Bool) (opens : List Container) (kind : RowKind) → is_lazy going opens kind ≡ true → going ≡ true
+    lazy-going true opens kind e = refl
+    lazy-going false opens kind e = cc
 follows-below options bytes p row below gs q line last built plain going leaves ending is false lazy means = inl (record {
-  apart = λ text. not-joined row below gs (ap (λ (x : Bool). is_lazy x below.opens below.kind) (sym (going ∙ ap is_text text)) ∙ lazy);
-  reads = ap (λ (k : ℕ). read bytes (lefts k (reading options p)) (groups_events bytes (onto_groups below below.kind gs))) leaves ∙ means;
+  apart = λ text. not-joined row below gs (ap (λ (x : Bool). is_lazy x below.change.opens below.kind) (sym (going ∙ ap is_text text)) ∙ lazy);
+  reads = ap (λ (cs : List Container). read bytes (lefts (length cs) (reading options p)) (groups_events bytes (onto_groups below below.kind gs))) leaves ∙ means;
 })
 
 -- what the first line is read as
 abbrev RowsMean : ParseOptions → List ℕ → Path → Reading → List Row → Type 0
 RowsMean options bytes p last [] = ⊥
-RowsMean options bytes p last (row ∷ rows) = Means options bytes p (is_lazy (is_going p) row.opens row.kind) row (groups (row ∷ rows)) last
+RowsMean options bytes p last (row ∷ rows) = Means options bytes p (is_lazy (is_going p) row.change.opens row.kind) row (groups (row ∷ rows)) last
 
--- how many quotes end behind the last of these lines
-abbrev pub last_leaves : List Row → ℕ
-last_leaves [] = 0
+-- the containers that end behind the last of these lines
+abbrev pub last_leaves : List Row → List Container
+last_leaves [] = []
 last_leaves (row ∷ []) = row.leaves
 last_leaves (row ∷ next ∷ rows) = last_leaves (next ∷ rows)
 
 -- the lines behind the first stand behind what it does
 rows-below : (options : ParseOptions) (bytes : List ℕ) (a : Path) (p : Point) (line next : List ℕ) (lines : List (List ℕ)) (row below : Row) (rows : List Row) → IsBuilt options → IsPlain a →
-    (are : f.AreRows options bytes (depth_of a) (is_going a) p (line ∷ next ∷ lines) (row ∷ below ∷ rows)) →
-    let b : Path = step options a (rest_from p line) in f.AreRows options bytes (depth_of b) (is_going b) are.2 (next ∷ lines) (below ∷ rows)
+    (are : f.AreRows options bytes (containers_of a) (is_going a) p (line ∷ next ∷ lines) (row ∷ below ∷ rows)) →
+    let b : Path = step options a (rest_from p line) in f.AreRows options bytes (containers_of b) (is_going b) are.2 (next ∷ lines) (below ∷ rows)
 rows-below options bytes a p line next lines row below rows built plain are =
     let r : Rest = rest_from p line in
     let b : Path = step options a r in
-    let depth : depth_of b ≡ f.depth_behind options (depth_of a) (is_going a) p line = depth-step options a r built plain in
+    let containers : containers_of b ≡ f.behind_line options (containers_of a) (is_going a) p line = containers-step options a r built plain in
     let going : is_going b ≡ is_text row.kind = going-step options a r built plain ∙ ap is_text (sym are.0.is.kind) in
-    subst (λ (d : ℕ). f.AreRows options bytes d (is_going b) are.2 (next ∷ lines) (below ∷ rows)) (sym depth)
-    (subst (λ (g : Bool). f.AreRows options bytes (f.depth_behind options (depth_of a) (is_going a) p line) g are.2 (next ∷ lines) (below ∷ rows)) (sym going) are.5)
+    subst (λ (cs : List Container). f.AreRows options bytes cs (is_going b) are.2 (next ∷ lines) (below ∷ rows)) (sym containers)
+    (subst (λ (g : Bool). f.AreRows options bytes (f.behind_line options (containers_of a) (is_going a) p line) g are.2 (next ∷ lines) (below ∷ rows)) (sym going) are.5)
 
--- what so many lines, and one more, come to, but for the quotes that end behind them
+-- what so many lines, and one more, come to, but for the containers that end behind them
 abbrev Came : ParseOptions → List ℕ → Path → ℕ → List Rest → List Row → Type 0
-Came options bytes a n rests rows = RowsMean options bytes a (lefts (last_leaves (take (suc n) rows)) (reading options (steps options a (take (suc n) rests)))) (take (suc n) rows)
+Came options bytes a n rests rows = RowsMean options bytes a (lefts (length (last_leaves (take (suc n) rows))) (reading options (steps options a (take (suc n) rests)))) (take (suc n) rows)
 
 -- The groups of the lines of a text, up to any of them, are read as what these lines do.
 rows-mean : (options : ParseOptions) (bytes : List ℕ) (a : Path) (p : Point) (n : ℕ) (lines : List (List ℕ)) (rows : List Row) → IsBuilt options → IsPlain a →
-    f.AreRows options bytes (depth_of a) (is_going a) p lines rows → Came options bytes a n (rests_from p lines) rows
+    f.AreRows options bytes (containers_of a) (is_going a) p lines rows → Came options bytes a n (rests_from p lines) rows
 rows-mean options bytes a p zero (line ∷ []) (row ∷ []) built plain are = row-ends options bytes a p line row built plain are.0
 rows-mean options bytes a p (suc n) (line ∷ []) (row ∷ []) built plain are = row-ends options bytes a p line row built plain are.0
 rows-mean options bytes a p zero (line ∷ next ∷ lines) (row ∷ below ∷ rows) built plain are = row-ends options bytes a p line row built plain are.0
@@ -551,45 +609,46 @@ rows-mean options bytes a p (suc n) (line ∷ next ∷ lines) (row ∷ below ∷
     let are_b = rows-below options bytes a p line next lines row below rows built plain are in
     let further : Came options bytes b n (rests_from q (next ∷ lines)) (below ∷ rows) = rows-mean options bytes b q n (next ∷ lines) (below ∷ rows) built plain_b are_b in
     let some : List Row = take n rows in
-    let last : Reading = lefts (last_leaves (below ∷ some)) (reading options (steps options b (take (suc n) (map (rest_at 0) (next ∷ lines))))) in
+    let last : Reading = lefts (length (last_leaves (below ∷ some))) (reading options (steps options b (take (suc n) (map (rest_at 0) (next ∷ lines))))) in
     row-means options bytes a p line row (groups (below ∷ some)) last built plain are.0
-    (follows-below options bytes b row below (groups some) q next last built plain_b going are.1 are.4 (first-line options bytes (depth_of b) (is_going b) q (next ∷ lines) (below ∷ rows) are_b)
-    (is_lazy (is_going b) below.opens below.kind) refl
+    (follows-below options bytes b row below (groups some) q next last built plain_b going are.1 are.4 (first-line options bytes (containers_of b) (is_going b) q (next ∷ lines) (below ∷ rows) are_b)
+    (is_lazy (is_going b) below.change.opens below.kind) refl
     (subst (λ (rests : List Rest). Came options bytes b n rests (below ∷ rows)) (rests-behind q (next ∷ lines) are.4.column) further))
 rows-mean options bytes a p n lines rows built plain are = absurd are
 
--- behind the last line of a text all quotes end
+-- behind the last line of a text all containers end
 all-leave : (options : ParseOptions) (bytes : List ℕ) (a : Path) (p : Point) (lines : List (List ℕ)) (rows : List Row) → IsBuilt options → IsPlain a →
-    f.AreRows options bytes (depth_of a) (is_going a) p lines rows → last_leaves rows ≡ depth_of (steps options a (rests_from p lines))
-all-leave options bytes a p (line ∷ []) (row ∷ []) built plain are = are.1 ∙ sym (depth-step options a (rest_from p line) built plain)
+    f.AreRows options bytes (containers_of a) (is_going a) p lines rows → last_leaves rows ≡ containers_of (steps options a (rests_from p lines))
+all-leave options bytes a p (line ∷ []) (row ∷ []) built plain are = are.1 ∙ sym (containers-step options a (rest_from p line) built plain)
 all-leave options bytes a p (line ∷ next ∷ lines) (row ∷ below ∷ rows) built plain are =
     let b : Path = step options a (rest_from p line) in
     all-leave options bytes b are.2 (next ∷ lines) (below ∷ rows) built (plain-step options a (rest_from p line) built plain) (rows-below options bytes a p line next lines row below rows built plain are)
-    ∙ ap (λ (rests : List Rest). depth_of (steps options b rests)) (rests-behind are.2 (next ∷ lines) are.4.column)
+    ∙ ap (λ (rests : List Rest). containers_of (steps options b rests)) (rests-behind are.2 (next ∷ lines) are.4.column)
 all-leave options bytes a p lines rows built plain are = absurd are
 
--- The events of a text, up to any of its lines, are read as what these lines come to, but for the quotes that end behind them.
-pub lines-read : (options : ParseOptions) (bytes : List ℕ) (p : Point) (n : ℕ) (lines : List (List ℕ)) (rows : List Row) → IsBuilt options → f.AreRows options bytes 0 false p lines rows →
-    read bytes unread (groups_events bytes (groups (take n rows))) ≡ lefts (last_leaves (take n rows)) (reading options (steps options (At (spot_of End)) (take n (rests_from p lines))))
+-- The events of a text, up to any of its lines, are read as what these lines come to, but for the containers that end behind them.
+pub lines-read : (options : ParseOptions) (bytes : List ℕ) (p : Point) (n : ℕ) (lines : List (List ℕ)) (rows : List Row) → IsBuilt options → f.AreRows options bytes [] false p lines rows →
+    read bytes unread (groups_events bytes (groups (take n rows))) ≡ lefts (length (last_leaves (take n rows))) (reading options (steps options (At (spot_of End)) (take n (rests_from p lines))))
 lines-read options bytes p zero lines rows built are = refl
-lines-read options bytes p (suc n) lines rows built are = go lines rows (first-line options bytes 0 false p lines rows are) (rows-mean options bytes (At (spot_of End)) p n lines rows built tt are)
+lines-read options bytes p (suc n) lines rows built are = go lines rows (first-line options bytes [] false p lines rows are) (rows-mean options bytes (At (spot_of End)) p n lines rows built tt are)
   where
-    -- no quote ends in front of the first line
-    none : (closes : ℕ) → closes ≤ 0 → lefts closes unread ≡ unread
-    none zero le = refl
-    none (suc k) le = absurd (omega arith)
+    -- no container ends in front of the first line
+    none : (stays closes : List Container) → map shape_of (stays ++ closes) ≡ [] → closes ≡ []
+    none [] [] e = refl
+    none [] (c ∷ closes) e = cc
+    none (c ∷ stays) closes e = cc
 
-    go : (ls : List (List ℕ)) (rs : List Row) → First options bytes 0 false p ls rs → Came options bytes (At (spot_of End)) n (rests_from p lines) rs →
-        read bytes unread (groups_events bytes (groups (take (suc n) rs))) ≡ lefts (last_leaves (take (suc n) rs)) (reading options (steps options (At (spot_of End)) (take (suc n) (rests_from p lines))))
+    go : (ls : List (List ℕ)) (rs : List Row) → First options bytes [] false p ls rs → Came options bytes (At (spot_of End)) n (rests_from p lines) rs →
+        read bytes unread (groups_events bytes (groups (take (suc n) rs))) ≡ lefts (length (last_leaves (take (suc n) rs))) (reading options (steps options (At (spot_of End)) (take (suc n) (rests_from p lines))))
     go (line ∷ ls) (row ∷ rs) is means =
-        let closes = quoted-closes options (At (spot_of End)) (rest_from p line) in
-        let same = is.closes in
-        ap (λ (r : Reading). read bytes r (groups_events bytes (groups (row ∷ take n rs)))) (sym (none row.closes (omega arith))) ∙ means
+        let c : Contained = contained_at options (At (spot_of End)) (rest_from p line) in
+        let first : row.change.closes ≡ [] = ap (λ (x : Change). x.closes) is.change ∙ none c.change.stays c.change.closes (contained-shapes options [] false (rest_from p line)) in
+        ap (λ (cs : List Container). read bytes (lefts (length cs) unread) (groups_events bytes (groups (row ∷ take n rs)))) (sym first) ∙ means
     go [] rs is means = absurd is
     go (line ∷ ls) [] is means = absurd is
 
 -- The events of a text are read as what its lines come to, with all of it closed.
-rows-final : (options : ParseOptions) (bytes : List ℕ) (p : Point) (lines : List (List ℕ)) (rows : List Row) → IsBuilt options → f.AreRows options bytes 0 false p lines rows →
+rows-final : (options : ParseOptions) (bytes : List ℕ) (p : Point) (lines : List (List ℕ)) (rows : List Row) → IsBuilt options → f.AreRows options bytes [] false p lines rows →
     read bytes unread (groups_events bytes (groups rows)) ≡ final options (steps options (At (spot_of End)) (rests_from p lines))
 rows-final options bytes p lines rows built are =
     let rests : List Rest = rests_from p lines in
@@ -597,12 +656,12 @@ rows-final options bytes p lines rows built are =
     let n : ℕ = length rows + length rests in
     ap (λ (rs : List Row). read bytes unread (groups_events bytes (groups rs))) (sym (take_all n rows (omega arith)))
     ∙ lines-read options bytes p n lines rows built are
-    ∙ ap₂ (λ (rs : List Row) (xs : List Rest). lefts (last_leaves rs) (reading options (steps options start xs))) (take_all n rows (omega arith)) (take_all n rests (omega arith))
-    ∙ ap (λ (k : ℕ). lefts k (reading options (steps options start rests))) (all-leave options bytes start p lines rows built tt are)
+    ∙ ap₂ (λ (rs : List Row) (xs : List Rest). lefts (length (last_leaves rs)) (reading options (steps options start xs))) (take_all n rows (omega arith)) (take_all n rests (omega arith))
+    ∙ ap (λ (cs : List Container). lefts (length cs) (reading options (steps options start rests))) (all-leave options bytes start p lines rows built tt are)
     ∙ lefts-all options [] (steps options start rests)
 
 -- So they spell it.
-pub spelled-rows : (options : ParseOptions) (bytes : List ℕ) (p : Point) (lines : List (List ℕ)) (rows : List Row) → IsBuilt options → f.AreRows options bytes 0 false p lines rows →
+pub spelled-rows : (options : ParseOptions) (bytes : List ℕ) (p : Point) (lines : List (List ℕ)) (rows : List Row) → IsBuilt options → f.AreRows options bytes [] false p lines rows →
     spelled (groups_events bytes (groups rows)) bytes ≡ closed options (steps options (At (spot_of End)) (rests_from p lines))
 unfolding spelled
 spelled-rows options bytes p lines rows built are = ap (λ (r : Reading). r.here) (rows-final options bytes p lines rows built are)
