@@ -1,10 +1,10 @@
 -- The innermost pairs of the events of a text lie side by side, from its first byte to its last, before its texts are read.
-use Rattle.std.proofs.Common.{◌≡◌, ◌≢◌, ℕ, zero, suc, Bool, true, false, cond, List, [], ◌∷◌, ◌++◌, length, take, drop, refl, ap, sym, ◌∙◌, subst, append_assoc, append-nil}
+use Rattle.std.proofs.Common.{◌≡◌, ◌≢◌, ℕ, Bool, true, false, cond, List, [], ◌∷◌, ◌++◌, length, take, drop, refl, ap, sym, ◌∙◌, subst, append_assoc, append-nil}
 use Rattle.std.specs.Prelude.{◌==◌, Option, Some, None}
 use Rattle.std.proofs.lemmas.Bool.{and_from, eq-eqb, eqb-true}
 use Rattle.md_engine.specs.declared.configuration.ParseOptions.{ParseOptions}
 use Rattle.md_engine.specs.declared.event.Event.{Event}
-use Rattle.md_engine.specs.declared.event.Kind.TheVariants.{Enter, Exit}
+use Rattle.md_engine.specs.declared.event.Kind.TheVariants.{Enter}
 use Rattle.md_engine.specs.declared.event.Name.{Name}
 use Rattle.md_engine.specs.declared.event.Name.TheVariants as n
 use Rattle.md_engine.specs.declared.event.Point.{Point}
@@ -13,7 +13,7 @@ use Rattle.md_leaves.specs.Heading.{heading_link}
 use Rattle.md_leaves.specs.HeadingRule.{Apart, Hashes, Run, Text, White, begun, closes, goes_on, opens}
 use Rattle.md_leaves.specs.HeadingText.{linked_text}
 use Rattle.md_leaves.specs.HeadingTitle.{Title, chunk_unless_empty, front_len, line_runs, text_of, title_of, unread_title}
-use Rattle.md_seam.specs.Inline.{Covers, Piece, pair_unless_empty, pieces, pieces_from}
+use Rattle.md_seam.specs.Inline.{Covers, pair_unless_empty, pieces}
 use Rattle.md_seam.specs.Nested.{around, enter, enter_link, exit, pair}
 use Rattle.md_seam.specs.Places.{first_point, past_byte, past_text, same_place}
 use Rattle.md_seam.specs.Preamble.{has_mark}
@@ -27,7 +27,7 @@ use Rattle.markdown_blocks.specs.Fronted.{contained, rest_from, rest_line}
 use Rattle.markdown_blocks.specs.Rows.{BlankRow, BreakRow, Group, HeadingRow, Lines, Row, RowKind, Single, TextRow, behind_row, ending_events, goes_on as joins_on, groups, is_text, last_row, onto_groups, row_line, row_title, tail_events}
 use Rattle.markdown_blocks.specs.Unread.{linked_lines, titled_group, titled_groups, titled_row_by}
 use Rattle.markdown_blocks.proofs.JoinedLemmas.{behind-is, behind-none}
-use Rattle.markdown_blocks.proofs.PiecesLemmas.{Ends, Follows, Shut, Tiled, follows-append, follows-tiled, shut-exit, tiled-append, tiled-around, tiled-enter, tiled-none, tiled-pair, tiled-two, tiled-unless_empty, tiled-within}
+use Rattle.markdown_blocks.proofs.PiecesLemmas.{Follows, Shut, Tiled, follows-append, follows-tiled, shut-exit, tiled-append, tiled-around, tiled-enter, tiled-none, tiled-pair, tiled-two, tiled-unless_empty, tiled-within}
 use Rattle.markdown_blocks.proofs.FrontFacts.{Behind, Begins, Fronts, Goes, IsFurther, IsOpening, IsPrefix}
 use Rattle.markdown_blocks.proofs.RowFacts.{AreRows, IsLine, IsRow, behind_line}
 use Rattle.markdown_blocks.proofs.TitleNests.{back_bytes, blank-no_heading, break-no_heading, either, line-end-is, text-end-is, text_begin, text_end}
@@ -142,7 +142,7 @@ prefix-some bytes p q es is none = go (same_place p is.marker) (sym is.events �
     go true h = cc
     go false h = cc
 
--- so does what stands in front of the content of a container
+-- what stands in front of the content of a container covers what it takes, and where the container opens it has events
 further-tiled : (bytes : List ℕ) (c : Container) (p q : Point) (es : List Event) → IsFurther bytes c p q es → Tiled p q es
 further-tiled bytes InQuote p q es is = prefix-tiled bytes p q es is
 further-tiled bytes c p q es is = absurd is
@@ -160,7 +160,7 @@ begun-tiled : (name : Name) (p q : Point) (xs ys : List Event) → xs ≢ [] →
 begun-tiled name p q [] ys some h = absurd (some refl)
 begun-tiled name p q (e ∷ xs) ys some h = tiled-within (enter name p) e q (xs ++ ys) refl h
 
--- what stands in front of a line
+-- so what stands in front of a line covers it
 fronts-tiled : (bytes : List ℕ) (opens : List Container) (p q : Point) (es : List Event) → Fronts bytes opens p q es → Tiled p q es
 fronts-tiled bytes opens p q es (Behind at) = tiled-none at at (same-refl at)
 fronts-tiled bytes opens first last es (Goes c same p q r xs ys is more) = tiled-append p q r xs ys (further-tiled bytes c p q xs is) (fronts-tiled bytes same q r ys more)
