@@ -50,10 +50,10 @@ abbrev rows_of : ParseOptions → List ℕ → List Row
 rows_of options bytes = text_rows options bytes (body_point bytes)
 
 text-quiet : (options : ParseOptions) (bytes : List ℕ) (p : Point) → EachNoContent (text_rows options bytes p)
-text-quiet options bytes p = rows_at-no_content options (suc (length (text_cells bytes options p))) 0 false (text_cells bytes options p) p
+text-quiet options bytes p = rows_at-no_content options (suc (length (text_cells bytes options p))) [] false (text_cells bytes options p) p
 
-text-are : (options : ParseOptions) (bytes : List ℕ) → IsBuilt options → length bytes < 2 ^ 61 → AreRows options bytes 0 false (body_point bytes) (lines_of bytes) (rows_of options bytes)
-text-are options bytes built small = fresh-rows options bytes (body_point bytes) built.code_indented small (body-index bytes) (body-vs bytes) (body-column bytes)
+text-are : (options : ParseOptions) (bytes : List ℕ) → IsBuilt options → length bytes < 2 ^ 61 → AreRows options bytes [] false (body_point bytes) (lines_of bytes) (rows_of options bytes)
+text-are options bytes built small = fresh-rows options bytes (body_point bytes) built small (body-index bytes) (body-vs bytes) (body-column bytes)
 
 -- The events of a text, once flow and content were read.
 content-are : (options : ParseOptions) (bytes : List ℕ) → IsBuilt options → length bytes < 2 ^ 61 → (found : Found) (new : World) → (flow : FlowReads resolved_as bytes options (body_point bytes) found new) →
@@ -68,7 +68,7 @@ content-are options bytes built small found new flow = go flow.reads
         let resolves : Resolves flow.at h.more flow.mid = h.resolved in
         let here : Substituted wants_content (content_readings bytes options) [] 0 (joined flow.at.events) flow.mid.events =
         subst (λ (x : Setting). Substituted wants_content (content_readings x.bytes x.options) [] 0 (joined flow.at.events) flow.mid.events) flow.setting resolves.events in
-        content-read options bytes 0 false (body_point bytes) (lines_of bytes) rows (text-are options bytes built small) (text-quiet options bytes (body_point bytes))
+        content-read options bytes [] false (body_point bytes) (lines_of bytes) rows (text-are options bytes built small) (text-quiet options bytes (body_point bytes))
         wants_content (content_readings bytes options) refl refl (content-reads options options bytes small) flow.mid.events
         (subst (λ (l : List Event). Substituted wants_content (content_readings bytes options) [] 0 (joined l) flow.mid.events) flow.events here)
 
@@ -92,7 +92,7 @@ titles-are options bytes built small found new flow = go flow.sets
     go (inr h) =
         ap (λ (w : World). w.events) h.resolved.1
         ∙ ap headings_resolved before
-        ∙ headings-set options bytes 0 false (body_point bytes) (lines_of bytes) rows (text-are options bytes built small) (text-quiet options bytes (body_point bytes))
+        ∙ headings-set options bytes [] false (body_point bytes) (lines_of bytes) rows (text-are options bytes built small) (text-quiet options bytes (body_point bytes))
 
 -- And then texts were read.
 pub events-are : (options : ParseOptions) (bytes : List ℕ) → IsBuilt options → length bytes < 2 ^ 61 → (found : Found) (new : World) → FlowReads resolved_as bytes options (body_point bytes) found new →
@@ -100,11 +100,11 @@ pub events-are : (options : ParseOptions) (bytes : List ℕ) → IsBuilt options
     events ≡ groups_events bytes (groups (text_rows options bytes (body_point bytes)))
 events-are options bytes built small found new flow wants reads wanted text events substituted =
     let titled : new.events ≡ titled_groups bytes (groups (rows_of options bytes)) = titles-are options bytes built small found new flow in
-    text-read options bytes 0 false (body_point bytes) (lines_of bytes) (rows_of options bytes) (text-are options bytes built small) (text-quiet options bytes (body_point bytes)) wants reads wanted text events
+    text-read options bytes [] false (body_point bytes) (lines_of bytes) (rows_of options bytes) (text-are options bytes built small) (text-quiet options bytes (body_point bytes)) wants reads wanted text events
     (subst (λ (l : List Event). Substituted wants reads [] 0 l events) titled substituted)
 
 text-unlinked : (options : ParseOptions) (bytes : List ℕ) → EachUnlinked (rows_of options bytes)
-text-unlinked options bytes = rows_at-unlinked options (suc (length (text_cells bytes options (body_point bytes)))) 0 false (text_cells bytes options (body_point bytes)) (body_point bytes)
+text-unlinked options bytes = rows_at-unlinked options (suc (length (text_cells bytes options (body_point bytes)))) [] false (text_cells bytes options (body_point bytes)) (body_point bytes)
 
 -- With what was read in the place of its chunks, the block list of a text tiles it.
 tiles-are : (options : ParseOptions) (bytes : List ℕ) → IsBuilt options → length bytes < 2 ^ 61 → IsTrue (are_placed bytes (mark_events bytes ++ titled_groups bytes (groups (rows_of options bytes)))) →
@@ -113,15 +113,15 @@ tiles-are options bytes built small placed =
     let p : Point = body_point bytes in
     let lines : List (List ℕ) = lines_of bytes in
     let rows : List Row = rows_of options bytes in
-    let are : AreRows options bytes 0 false p lines rows = text-are options bytes built small in
+    let are : AreRows options bytes [] false p lines rows = text-are options bytes built small in
     let fills = text-filled options bytes p lines are in
     record {
       blocks = mark_events bytes ++ titled_groups bytes (groups rows);
       block_list = record {
         nested = blocks-nested options bytes lines rows are;
         placed = placed;
-        lines = blocks-stand options bytes 0 false p lines rows are (text-quiet options bytes p) (text-unlinked options bytes);
-        chunks = blocks-chunks options bytes 0 false p lines rows are (text-quiet options bytes p) (text-unlinked options bytes);
+        lines = blocks-stand options bytes [] false p lines rows are (text-quiet options bytes p) (text-unlinked options bytes);
+        chunks = blocks-chunks options bytes [] false p lines rows are (text-quiet options bytes p) (text-unlinked options bytes);
       };
       covers = blocks-cover options bytes lines rows are;
       lists = fills.lists;
@@ -144,7 +144,7 @@ text-reads options bytes built utf8 small events is =
     let lines : List (List ℕ) = lines_of bytes in
     let rows : List Row = rows_of options bytes in
     let body : List Event = groups_events bytes (groups rows) in
-    let are : AreRows options bytes 0 false p lines rows = text-are options bytes built small in
+    let are : AreRows options bytes [] false p lines rows = text-are options bytes built small in
     let nests : Nests bytes p (groups rows) = rows-nest options bytes p lines rows are in
     let spells : spelled body bytes ≡ tree options bytes = tree-rows options built bytes rows are in
     subst (λ (l : List Event). Reads options bytes (mark_events bytes ++ titled_groups bytes (groups rows)) (mark_events bytes ++ l)) (sym is) (record {

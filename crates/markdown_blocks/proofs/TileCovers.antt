@@ -1,10 +1,10 @@
 -- The innermost pairs of the events of a text lie side by side, from its first byte to its last, before its texts are read.
-use Rattle.std.proofs.Common.{◌≡◌, ◌≢◌, ℕ, zero, suc, Bool, true, false, cond, List, [], ◌∷◌, ◌++◌, length, take, drop, refl, ap, sym, ◌∙◌, subst, append_assoc, append-nil}
+use Rattle.std.proofs.Common.{◌≡◌, ◌≢◌, ℕ, Bool, true, false, cond, List, [], ◌∷◌, ◌++◌, length, take, drop, refl, ap, sym, ◌∙◌, subst, append_assoc, append-nil}
 use Rattle.std.specs.Prelude.{◌==◌, Option, Some, None}
 use Rattle.std.proofs.lemmas.Bool.{and_from, eq-eqb, eqb-true}
 use Rattle.md_engine.specs.declared.configuration.ParseOptions.{ParseOptions}
 use Rattle.md_engine.specs.declared.event.Event.{Event}
-use Rattle.md_engine.specs.declared.event.Kind.TheVariants.{Enter, Exit}
+use Rattle.md_engine.specs.declared.event.Kind.TheVariants.{Enter}
 use Rattle.md_engine.specs.declared.event.Name.{Name}
 use Rattle.md_engine.specs.declared.event.Name.TheVariants as n
 use Rattle.md_engine.specs.declared.event.Point.{Point}
@@ -13,21 +13,23 @@ use Rattle.md_leaves.specs.Heading.{heading_link}
 use Rattle.md_leaves.specs.HeadingRule.{Apart, Hashes, Run, Text, White, begun, closes, goes_on, opens}
 use Rattle.md_leaves.specs.HeadingText.{linked_text}
 use Rattle.md_leaves.specs.HeadingTitle.{Title, chunk_unless_empty, front_len, line_runs, text_of, title_of, unread_title}
-use Rattle.md_seam.specs.Inline.{Covers, Piece, pair_unless_empty, pieces, pieces_from}
+use Rattle.md_seam.specs.Inline.{Covers, pair_unless_empty, pieces}
 use Rattle.md_seam.specs.Nested.{around, enter, enter_link, exit, pair}
 use Rattle.md_seam.specs.Places.{first_point, past_byte, past_text, same_place}
 use Rattle.md_seam.specs.Preamble.{has_mark}
 use Rattle.md_seam.specs.Rest.{is_white}
+use Rattle.md_seam.specs.State.{Container, InQuote}
 use Rattle.md_seam.specs.Tiles.{end_point}
 use Rattle.md_seam.proofs.InlineLemmas.{same-refl}
+use Rattle.markdown_blocks.specs.Change.{container_name, ends_of}
 use Rattle.markdown_blocks.specs.Document.{body_point, mark_end, mark_events}
-use Rattle.markdown_blocks.specs.Fronted.{quoted, rest_from, rest_line}
-use Rattle.markdown_blocks.specs.Rows.{BlankRow, BreakRow, Group, HeadingRow, Lines, Row, RowKind, Single, TextRow, behind_row, ending_events, goes_on as joins_on, groups, is_text, last_row, onto_groups, quote_ends, row_line, row_title, tail_events}
+use Rattle.markdown_blocks.specs.Fronted.{contained, rest_from, rest_line}
+use Rattle.markdown_blocks.specs.Rows.{BlankRow, BreakRow, Group, HeadingRow, Lines, Row, RowKind, Single, TextRow, behind_row, ending_events, goes_on as joins_on, groups, is_text, last_row, onto_groups, row_line, row_title, tail_events}
 use Rattle.markdown_blocks.specs.Unread.{linked_lines, titled_group, titled_groups, titled_row_by}
 use Rattle.markdown_blocks.proofs.JoinedLemmas.{behind-is, behind-none}
-use Rattle.markdown_blocks.proofs.PiecesLemmas.{Ends, Follows, Shut, Tiled, follows-append, follows-tiled, shut-exit, tiled-append, tiled-around, tiled-enter, tiled-none, tiled-pair, tiled-two, tiled-unless_empty, tiled-within}
-use Rattle.markdown_blocks.proofs.FrontFacts.{Behind, Begins, Fronts, Goes, IsPrefix}
-use Rattle.markdown_blocks.proofs.RowFacts.{AreRows, IsLine, IsRow, depth_behind}
+use Rattle.markdown_blocks.proofs.PiecesLemmas.{Follows, Shut, Tiled, follows-append, follows-tiled, shut-exit, tiled-append, tiled-around, tiled-enter, tiled-none, tiled-pair, tiled-two, tiled-unless_empty, tiled-within}
+use Rattle.markdown_blocks.proofs.FrontFacts.{Behind, Begins, Fronts, Goes, IsFurther, IsOpening, IsPrefix}
+use Rattle.markdown_blocks.proofs.RowFacts.{AreRows, IsLine, IsRow, behind_line}
 use Rattle.markdown_blocks.proofs.TitleNests.{back_bytes, blank-no_heading, break-no_heading, either, line-end-is, text-end-is, text_begin, text_end}
 
 -- The runs of a piece of a line cover it: behind an enter, they shut it.
@@ -119,9 +121,9 @@ ending-tiled name row = go row.after
     go None = tiled-none row.end row.end (same-refl row.end)
     go (Some q) = tiled-pair name row.end q
 
--- Quotes.
+-- Containers.
 
--- a prefix covers what it takes, and so do the prefixes in front of a line
+-- a prefix covers what it takes
 prefix-tiled : (bytes : List ℕ) (p q : Point) (es : List Event) → IsPrefix bytes p q es → Tiled p q es
 prefix-tiled bytes p q es is =
     let indent : List Event = pair_unless_empty n.SpaceOrTab p is.marker in
@@ -140,33 +142,42 @@ prefix-some bytes p q es is none = go (same_place p is.marker) (sym is.events �
     go true h = cc
     go false h = cc
 
--- the begin of a quote in front of events
-begun-tiled : (p q : Point) (xs ys : List Event) → xs ≢ [] → Tiled p q (xs ++ ys) → Tiled p q (enter n.BlockQuote p ∷ xs ++ ys)
-begun-tiled p q [] ys some h = absurd (some refl)
-begun-tiled p q (e ∷ xs) ys some h = tiled-within (enter n.BlockQuote p) e q (xs ++ ys) refl h
+-- what stands in front of the content of a container covers what it takes, and where the container opens it has events
+further-tiled : (bytes : List ℕ) (c : Container) (p q : Point) (es : List Event) → IsFurther bytes c p q es → Tiled p q es
+further-tiled bytes InQuote p q es is = prefix-tiled bytes p q es is
+further-tiled bytes c p q es is = absurd is
 
-fronts-tiled : (bytes : List ℕ) (opens : ℕ) (p q : Point) (es : List Event) → Fronts bytes opens p q es → Tiled p q es
+opening-tiled : (bytes : List ℕ) (c : Container) (p q : Point) (es : List Event) → IsOpening bytes c p q es → Tiled p q es
+opening-tiled bytes InQuote p q es is = prefix-tiled bytes p q es is
+opening-tiled bytes c p q es is = absurd is
+
+opening-some : (bytes : List ℕ) (c : Container) (p q : Point) (es : List Event) → IsOpening bytes c p q es → es ≢ []
+opening-some bytes InQuote p q es is = prefix-some bytes p q es is
+opening-some bytes c p q es is = absurd is
+
+-- the begin of a container in front of events
+begun-tiled : (name : Name) (p q : Point) (xs ys : List Event) → xs ≢ [] → Tiled p q (xs ++ ys) → Tiled p q (enter name p ∷ xs ++ ys)
+begun-tiled name p q [] ys some h = absurd (some refl)
+begun-tiled name p q (e ∷ xs) ys some h = tiled-within (enter name p) e q (xs ++ ys) refl h
+
+-- so what stands in front of a line covers it
+fronts-tiled : (bytes : List ℕ) (opens : List Container) (p q : Point) (es : List Event) → Fronts bytes opens p q es → Tiled p q es
 fronts-tiled bytes opens p q es (Behind at) = tiled-none at at (same-refl at)
-fronts-tiled bytes opens first last es (Goes same p q r xs ys is more) = tiled-append p q r xs ys (prefix-tiled bytes p q xs is) (fronts-tiled bytes same q r ys more)
-fronts-tiled bytes opens first last es (Begins before p q r xs ys is more) =
-    begun-tiled p r xs ys (prefix-some bytes p q xs is) (tiled-append p q r xs ys (prefix-tiled bytes p q xs is) (fronts-tiled bytes before q r ys more))
+fronts-tiled bytes opens first last es (Goes c same p q r xs ys is more) = tiled-append p q r xs ys (further-tiled bytes c p q xs is) (fronts-tiled bytes same q r ys more)
+fronts-tiled bytes opens first last es (Begins c before p q r xs ys is more) =
+    begun-tiled (container_name c) p r xs ys (opening-some bytes c p q xs is) (tiled-append p q r xs ys (opening-tiled bytes c p q xs is) (fronts-tiled bytes before q r ys more))
 
--- the ends of quotes cover nothing
-ends-cover : (size : ℕ) (p : Point) → Follows p p (quote_ends size p)
-ends-cover zero p = record { ends = refl; covers = same-refl p }
-ends-cover (suc size) p = record { ends = ends size; covers = subst (λ (l : List Piece). Covers p l p) (sym (none size)) (same-refl p) }
-  where
-    ends : (size : ℕ) → Ends Exit (quote_ends size p)
-    ends zero = refl
-    ends (suc size) = ends size
+-- the end of a container covers nothing, nor do the ends of more
+end-covers : (name : Name) (p : Point) → Follows p p (exit name p ∷ [])
+end-covers name p = record { ends = refl; covers = same-refl p }
 
-    none : (size : ℕ) → pieces_from (exit n.BlockQuote p) (quote_ends size p) ≡ []
-    none zero = refl
-    none (suc size) = none size
+ends-cover : (cs : List Container) (p : Point) → Follows p p (ends_of cs p)
+ends-cover [] p = record { ends = refl; covers = same-refl p }
+ends-cover (c ∷ cs) p = follows-append p p p (ends_of cs p) (exit (container_name c) p ∷ []) (ends-cover cs p) (end-covers (container_name c) p)
 
 tail-covers : (name : Name) (row : Row) → Follows row.end (behind_row row) (tail_events name row)
 tail-covers name row =
-    follows-append row.end row.end (behind_row row) (quote_ends row.leaves row.end) (ending_events name row) (ends-cover row.leaves row.end) (follows-tiled row.end (behind_row row) (ending_events name row) (ending-tiled name row))
+    follows-append row.end row.end (behind_row row) (ends_of row.leaves row.end) (ending_events name row) (ends-cover row.leaves row.end) (follows-tiled row.end (behind_row row) (ending_events name row) (ending-tiled name row))
 
 -- Groups.
 
@@ -225,19 +236,19 @@ onto-laid bytes row p end (Lines next rows ∷ gs) front c more TextRow e = join
     joins false = (front, chunk-tiled row.first row.end, more)
 
 -- The groups of the lines of a text.
-groups-laid : (options : ParseOptions) (bytes : List ℕ) (depth : ℕ) (going : Bool) (p : Point) (lines : List (List ℕ)) (rows : List Row) → AreRows options bytes depth going p lines rows → Laid bytes p (end_point bytes) (groups rows)
-groups-laid options bytes depth going p (line ∷ []) (row ∷ []) are =
-    let is : IsLine options bytes depth going p line row = are.0 in
+groups-laid : (options : ParseOptions) (bytes : List ℕ) (open_before : List Container) (going : Bool) (p : Point) (lines : List (List ℕ)) (rows : List Row) → AreRows options bytes open_before going p lines rows → Laid bytes p (end_point bytes) (groups rows)
+groups-laid options bytes open_before going p (line ∷ []) (row ∷ []) are =
+    let is : IsLine options bytes open_before going p line row = are.0 in
     let at_end : same_place row.end (end_point bytes) ≡ true = and_from _ _ (eq-eqb row.end.index (length bytes) are.3) (eq-eqb row.end.vs 0 is.is.end_whole) in
     let behind : same_place (behind_row row) (end_point bytes) ≡ true = subst (λ (q : Point). same_place q (end_point bytes) ≡ true) (sym (behind-none row are.2)) at_end in
-    onto-laid bytes row p (end_point bytes) [] (fronts-tiled bytes row.opens p row.first row.front is.front) (covered options bytes (rest_line (quoted options depth going (rest_from p line)).rest) row is.is) behind row.kind refl
-groups-laid options bytes depth going p (line ∷ next ∷ lines) (row ∷ below ∷ rows) are =
-    let is : IsLine options bytes depth going p line row = are.0 in
+    onto-laid bytes row p (end_point bytes) [] (fronts-tiled bytes row.change.opens p row.first row.front is.front) (covered options bytes (rest_line (contained options open_before going (rest_from p line)).rest) row is.is) behind row.kind refl
+groups-laid options bytes open_before going p (line ∷ next ∷ lines) (row ∷ below ∷ rows) are =
+    let is : IsLine options bytes open_before going p line row = are.0 in
     let end : Point = end_point bytes in
-    onto-laid bytes row p end (groups (below ∷ rows)) (fronts-tiled bytes row.opens p row.first row.front is.front) (covered options bytes (rest_line (quoted options depth going (rest_from p line)).rest) row is.is)
+    onto-laid bytes row p end (groups (below ∷ rows)) (fronts-tiled bytes row.change.opens p row.first row.front is.front) (covered options bytes (rest_line (contained options open_before going (rest_from p line)).rest) row is.is)
     (subst (λ (q : Point). Laid bytes q end (groups (below ∷ rows))) (sym (behind-is row are.2 are.3))
-    (groups-laid options bytes (depth_behind options depth going p line) (is_text row.kind) are.2 (next ∷ lines) (below ∷ rows) are.5)) row.kind refl
-groups-laid options bytes depth going p lines rows are = absurd are
+    (groups-laid options bytes (behind_line options open_before going p line) (is_text row.kind) are.2 (next ∷ lines) (below ∷ rows) are.5)) row.kind refl
+groups-laid options bytes open_before going p lines rows are = absurd are
 
 -- They cover it.
 laid-covers : (bytes : List ℕ) (p end : Point) (gs : List Group) → Laid bytes p end gs → Follows p end (titled_groups bytes gs)
@@ -257,8 +268,8 @@ mark-tiled bytes = go (has_mark bytes)
     go true = tiled-pair n.ByteOrderMark first_point mark_end
     go false = tiled-none first_point first_point refl
 
-pub blocks-cover : (options : ParseOptions) (bytes : List ℕ) (lines : List (List ℕ)) (rows : List Row) → AreRows options bytes 0 false (body_point bytes) lines rows →
+pub blocks-cover : (options : ParseOptions) (bytes : List ℕ) (lines : List (List ℕ)) (rows : List Row) → AreRows options bytes [] false (body_point bytes) lines rows →
     Covers first_point (pieces (mark_events bytes ++ titled_groups bytes (groups rows))) (end_point bytes)
 blocks-cover options bytes lines rows are =
     (follows-append first_point (body_point bytes) (end_point bytes) (mark_events bytes) (titled_groups bytes (groups rows)) (follows-tiled first_point (body_point bytes) (mark_events bytes) (mark-tiled bytes))
-    (laid-covers bytes (body_point bytes) (end_point bytes) (groups rows) (groups-laid options bytes 0 false (body_point bytes) lines rows are))).covers
+    (laid-covers bytes (body_point bytes) (end_point bytes) (groups rows) (groups-laid options bytes [] false (body_point bytes) lines rows are))).covers

@@ -23,14 +23,16 @@ use Rattle.md_seam.specs.Inline.{Fills, Part, in_order, pieces, plain_chunk, pla
 use Rattle.md_seam.specs.Nested.{around, enter, exit, pair}
 use Rattle.md_seam.specs.Places.{at_or_before}
 use Rattle.md_seam.specs.Preamble.{has_mark}
+use Rattle.md_seam.specs.State.{Container}
 use Rattle.md_seam.specs.Tiles.{EachRead, chunks, filled, filled_from, first_list, further_lists, part_at, part_kind, part_of, parts}
 use Rattle.md_seam.proofs.InlineLemmas.{plain-fills, before-text}
 use Rattle.md_seam.proofs.NestedLemmas.{at_or_before-refl, at_or_before-trans}
 use Rattle.md_seam.proofs.NestsLemmas.{part-none, together-append}
+use Rattle.markdown_blocks.specs.Change.{ends_of}
 use Rattle.markdown_blocks.specs.Document.{body_point, mark_end, mark_events}
 use Rattle.markdown_blocks.specs.FlowReads.{text_cells, text_rows}
 use Rattle.markdown_blocks.specs.Parsed.{reads_plain}
-use Rattle.markdown_blocks.specs.Rows.{BlankRow, BreakRow, Group, HeadingRow, Lines, Row, RowKind, Single, TextRow, behind_row, chunks_of, ending_events, group_events, groups, groups_events, held_at, last_row, quote_ends, read_lines, read_text, read_title, row_title, single_events_by, tail_events}
+use Rattle.markdown_blocks.specs.Rows.{BlankRow, BreakRow, Group, HeadingRow, Lines, Row, RowKind, Single, TextRow, behind_row, chunks_of, ending_events, group_events, groups, groups_events, held_at, last_row, read_lines, read_text, read_title, row_title, single_events_by, tail_events}
 use Rattle.markdown_blocks.specs.Unread.{linked, linked_lines, titled_group, titled_groups, titled_row_by, unread_paragraph}
 use Rattle.markdown_blocks.proofs.FrontLemmas.{fronts-order}
 use Rattle.markdown_blocks.proofs.FrontParts.{ends-no_parts, ends-unlinked, fronts-no_parts, fronts-unlinked}
@@ -194,11 +196,11 @@ fill-ending bytes name row other = go row.after
 -- what stands in a line, with what stands in front of it, and behind it or a further line
 fill-line : (bytes : List ℕ) (name : Name) (row last : Row) (xs zs : List Event) → part_kind name ≡ None → HasFront bytes row → Fill bytes xs zs → Fill bytes (row.front ++ xs ++ tail_events name last) (row.front ++ zs ++ tail_events name last)
 fill-line bytes name row last xs zs other front h =
-    let ends : List Event = quote_ends last.leaves last.end in
+    let ends : List Event = ends_of last.leaves last.end in
     let ending : List Event = ending_events name last in
     fill-append bytes (row.front ++ xs) (row.front ++ zs) (ends ++ ending) (ends ++ ending)
     (fill-append bytes row.front row.front xs zs
-    (fill-same bytes row.front (fronts-unlinked bytes row.opens front.0 row.first row.front front.1) (fronts-no_parts bytes row.opens front.0 row.first row.front front.1)) h)
+    (fill-same bytes row.front (fronts-unlinked bytes row.change.opens front.0 row.first row.front front.1) (fronts-no_parts bytes row.change.opens front.0 row.first row.front front.1)) h)
     (fill-append bytes ends ends ending ending (fill-same bytes ends (ends-unlinked last.leaves last.end) (ends-no_parts last.leaves last.end)) (fill-ending bytes name last other))
 
 fill-inside : (bytes : List ℕ) (row : Row) → NoLinks row.inside → IsInside row → Fill bytes row.inside row.inside
@@ -252,7 +254,7 @@ paragraph-order options bytes row (next ∷ rows) h =
     and_from (at_or_before row.first row.first && at_or_before row.first q) (in_order q (chunks_of next rows))
     (and_from (at_or_before row.first row.first) (at_or_before row.first q) (at_or_before-refl row.first) ends)
     (subst (λ (x : Point). in_order x (chunks_of next rows) ≡ true) (sym behind)
-    (order-from h.3 next.first (chunks_of next rows) (fronts-order bytes 0 h.3 next.first next.front h.6) (paragraph-order options bytes next rows h.7)))
+    (order-from h.3 next.first (chunks_of next rows) (fronts-order bytes [] h.3 next.first next.front h.6) (paragraph-order options bytes next rows h.7)))
 
 -- what is read of the lines of a paragraph, with what stands in front of each
 lines-filled : (options : ParseOptions) (bytes : List ℕ) (row : Row) (rows : List Row) → IsParagraph options bytes row rows → Filled bytes (chunks_of row rows) (linked_lines n.Data text_link row rows) (read_lines bytes row rows)
@@ -265,7 +267,7 @@ lines-filled options bytes row (next ∷ rows) h ys more =
     let lists : List (List Event) = plain_chunks bytes (chunks_of next rows) ++ more in
     let rest : List Event = filled_from false ys more in
     ap (λ (l : List Event). chunk ++ filled_from false l lists) (append_assoc front lines ys)
-    ∙ ap (λ (l : List Event). chunk ++ l) (passes-filled front (lines ++ ys) lists (fronts-unlinked bytes 0 h.3 next.first front h.6))
+    ∙ ap (λ (l : List Event). chunk ++ l) (passes-filled front (lines ++ ys) lists (fronts-unlinked bytes [] h.3 next.first front h.6))
     ∙ ap (λ (l : List Event). chunk ++ (front ++ l)) (lines-filled options bytes next rows h.7 ys more)
     ∙ sym (append_assoc chunk front (read ++ rest))
     ∙ sym (append_assoc (chunk ++ front) read rest)
@@ -297,20 +299,20 @@ fill-mark bytes = go (has_mark bytes)
     go false = fill-same bytes [] tt tt
 
 -- The same with a mark in front.
-pub blocks-filled : (options : ParseOptions) (bytes : List ℕ) (depth : ℕ) (going : Bool) (p : Point) (lines : List (List ℕ)) (rows : List Row) → AreRows options bytes depth going p lines rows → EachNoContent rows → EachUnlinked rows →
+pub blocks-filled : (options : ParseOptions) (bytes : List ℕ) (open_before : List Container) (going : Bool) (p : Point) (lines : List (List ℕ)) (rows : List Row) → AreRows options bytes open_before going p lines rows → EachNoContent rows → EachUnlinked rows →
     IsFilled bytes (mark_events bytes ++ titled_groups bytes (groups rows)) (mark_events bytes ++ groups_events bytes (groups rows))
-blocks-filled options bytes depth going p lines rows are quiet unlinked =
+blocks-filled options bytes open_before going p lines rows are quiet unlinked =
     let mark : List Event = mark_events bytes in
     fill-all bytes (mark ++ titled_groups bytes (groups rows)) (mark ++ groups_events bytes (groups rows))
     (fill-append bytes mark mark (titled_groups bytes (groups rows)) (groups_events bytes (groups rows)) (fill-mark bytes)
-    (fill-groups options bytes (groups rows) (groups-are options bytes depth going p lines rows are quiet) (groups-unlinked rows unlinked)))
+    (fill-groups options bytes (groups rows) (groups-are options bytes open_before going p lines rows are quiet) (groups-unlinked rows unlinked)))
 
 -- So it is with the lines that flow reads.
-pub text-filled : (options : ParseOptions) (bytes : List ℕ) (p : Point) (lines : List (List ℕ)) → AreRows options bytes 0 false p lines (text_rows options bytes p) →
+pub text-filled : (options : ParseOptions) (bytes : List ℕ) (p : Point) (lines : List (List ℕ)) → AreRows options bytes [] false p lines (text_rows options bytes p) →
     IsFilled bytes (mark_events bytes ++ titled_groups bytes (groups (text_rows options bytes p))) (mark_events bytes ++ groups_events bytes (groups (text_rows options bytes p)))
 text-filled options bytes p lines are =
     let cells : List Cell = text_cells bytes options p in
-    blocks-filled options bytes 0 false p lines (text_rows options bytes p) are (rows_at-no_content options (suc (length cells)) 0 false cells p) (rows_at-unlinked options (suc (length cells)) 0 false cells p)
+    blocks-filled options bytes [] false p lines (text_rows options bytes p) are (rows_at-no_content options (suc (length cells)) [] false cells p) (rows_at-unlinked options (suc (length cells)) [] false cells p)
 
 -- The empty text has no events.
 
