@@ -61,28 +61,28 @@ line-stands options bytes g h r p a line row built plain before is open_so going
 abbrev IsLeft : List Container → Bool → Path → List Row → Type 0
 IsLeft cs going p rows = (containers_of p ≡ open_after cs rows) × (is_going p ≡ text_after going rows)
 
-line-left : (options : ParseOptions) (bytes : List ℕ) (a : Path) (p : Point) (line : List ℕ) (row : Row) → IsBuilt options → IsPlain a → f.IsLine options bytes (containers_of a) (is_going a) p line row →
+step-left : (options : ParseOptions) (bytes : List ℕ) (a : Path) (p : Point) (line : List ℕ) (row : Row) → IsBuilt options → IsPlain a → f.IsLine options bytes (containers_of a) (is_going a) p line row →
     IsLeft (containers_of a) (is_going a) (step options a (rest_from p line)) (row ∷ [])
-line-left options bytes a p line row built plain is =
+step-left options bytes a p line row built plain is =
     let r : Rest = rest_from p line in
     (containers-step options a r built plain ∙ ap open_behind (sym is.change), going-step options a r built plain ∙ ap is_text (sym is.is.kind))
 
-lines-left : (options : ParseOptions) (bytes : List ℕ) (a : Path) (p : Point) (n : ℕ) (lines : List (List ℕ)) (rows : List Row) → IsBuilt options → IsPlain a → f.AreRows options bytes (containers_of a) (is_going a) p lines rows →
+steps-left : (options : ParseOptions) (bytes : List ℕ) (a : Path) (p : Point) (n : ℕ) (lines : List (List ℕ)) (rows : List Row) → IsBuilt options → IsPlain a → f.AreRows options bytes (containers_of a) (is_going a) p lines rows →
     IsLeft (containers_of a) (is_going a) (steps options a (take n (rests_from p lines))) (take n rows)
-lines-left options bytes a p zero lines rows built plain are = (refl, refl)
-lines-left options bytes a p (suc zero) (line ∷ []) (row ∷ []) built plain are = line-left options bytes a p line row built plain are.0
-lines-left options bytes a p (suc (suc n)) (line ∷ []) (row ∷ []) built plain are = line-left options bytes a p line row built plain are.0
-lines-left options bytes a p (suc n) (line ∷ next ∷ lines) (row ∷ below ∷ rows) built plain are =
+steps-left options bytes a p zero lines rows built plain are = (refl, refl)
+steps-left options bytes a p (suc zero) (line ∷ []) (row ∷ []) built plain are = step-left options bytes a p line row built plain are.0
+steps-left options bytes a p (suc (suc n)) (line ∷ []) (row ∷ []) built plain are = step-left options bytes a p line row built plain are.0
+steps-left options bytes a p (suc n) (line ∷ next ∷ lines) (row ∷ below ∷ rows) built plain are =
     let r : Rest = rest_from p line in
     let b : Path = step options a r in
     let q : Point = are.2 in
-    let here = line-left options bytes a p line row built plain are.0 in
-    let more = lines-left options bytes b q n (next ∷ lines) (below ∷ rows) built (plain-step options a r built plain) (rows-below options bytes a p line next lines row below rows built plain are) in
-    let same : List Rest → Path = λ rests. steps options b (take n rests) in (
-      sym (ap (λ (rests : List Rest). containers_of (same rests)) (rests-behind q (next ∷ lines) are.4.column)) ∙ more.0 ∙ ap (λ (cs : List Container). open_after cs (take n (below ∷ rows))) here.0,
-      sym (ap (λ (rests : List Rest). is_going (same rests)) (rests-behind q (next ∷ lines) are.4.column)) ∙ more.1 ∙ ap (λ (x : Bool). text_after x (take n (below ∷ rows))) here.1,
+    let first = step-left options bytes a p line row built plain are.0 in
+    let more = steps-left options bytes b q n (next ∷ lines) (below ∷ rows) built (plain-step options a r built plain) (rows-below options bytes a p line next lines row below rows built plain are) in
+    let to : List Rest → Path = λ rests. steps options b (take n rests) in (
+      sym (ap (λ (rests : List Rest). containers_of (to rests)) (rests-behind q (next ∷ lines) are.4.column)) ∙ more.0 ∙ ap (λ (cs : List Container). open_after cs (take n (below ∷ rows))) first.0,
+      sym (ap (λ (rests : List Rest). is_going (to rests)) (rests-behind q (next ∷ lines) are.4.column)) ∙ more.1 ∙ ap (λ (x : Bool). text_after x (take n (below ∷ rows))) first.1,
     )
-lines-left options bytes a p (suc n) lines rows built plain are = absurd are
+steps-left options bytes a p (suc n) lines rows built plain are = absurd are
 
 -- What was read of so many lines of a text, but for the containers that end behind them, stands for what they come to: where the
 -- flags hold the containers of this path, and whether a paragraph is open.
@@ -119,7 +119,7 @@ lines-stand options bytes p n built small index whole column more =
     let are : f.AreRows options bytes [] false p lines rows = fresh-rows options bytes p built small index whole column in
     let some : n < length rows = let same = as-many options bytes [] false p lines rows are in omega arith in
     let left : Left options (text_cells bytes options p) (here (fresh bytes options p)) n rows = flow-left options (text_cells bytes options p) (here (fresh bytes options p)) n refl refl refl refl refl refl refl some in
-    let open_so = lines-left options bytes (At (spot_of End)) p n lines rows built tt are in
+    let open_so = steps-left options bytes (At (spot_of End)) p n lines rows built tt are in
     let all = flags-stand options bytes p n lines rows left.here.flags built are
     (subst (AreOpen left.here.flags.containers) (left.containers_are ∙ sym open_so.0) left.are_open)
     (left.interrupt ∙ left.going_is ∙ sym open_so.1) in
