@@ -1,5 +1,5 @@
--- What the events of a text are read as, where of the leaves only paragraphs, headings and breaks may be on: what its lines do to the
--- containers and the paragraph that are open.
+-- What the events of a text are read as, where of the leaves only paragraphs, headings and breaks may be on: what its lines do to
+-- the containers and the paragraph that are open.
 use Rattle.std.proofs.Common.{◌≡◌, ◌≢◌, ℕ, zero, suc, ◌+◌, ◌-◌, Bool, true, false, cond, ◌&&◌, List, [], ◌∷◌, ◌++◌, length, map, take, drop, refl, ap, ap₂, sym, ◌∙◌, subst, append_assoc, take_all, inl, inr, ◌⊎◌, arith}
 use Rattle.std.specs.Prelude.{Option, Some, None}
 use Rattle.md_engine.specs.declared.configuration.ParseOptions.{ParseOptions}
@@ -64,8 +64,8 @@ lefts-all options outer (Within before container p) =
     ∙ ap (λ (r : Reading). left r.outer r) (lefts-all options (around_of container before ∷ outer) p)
     ∙ ap (λ (b : Block). record { outer = outer; here = then_block before b; leaf = None; text = None }) (shape-block container (closed options p))
 
--- The containers of a path are read as these, of which some stay and the others close. One that stays may have changed, but for what the
--- events tell.
+-- The containers of a path are read as these, of which some stay and the others close. One that stays may have changed, but for
+-- what the events tell.
 abbrev AreShapes : List Container → List Container → Path → Type 0
 AreShapes stays closes p = map shape_of (stays ++ closes) ≡ map shape_of (containers_of p)
 
@@ -497,7 +497,7 @@ rests_from p [] = []
 rests_from p (line ∷ lines) = rest_from p line ∷ map (rest_at 0) lines
 
 -- behind an ending each begins at the first column
-rests-behind : (p : Point) (lines : List (List ℕ)) → p.column ≡ 1 → rests_from p lines ≡ map (rest_at 0) lines
+pub rests-behind : (p : Point) (lines : List (List ℕ)) → p.column ≡ 1 → rests_from p lines ≡ map (rest_at 0) lines
 rests-behind p [] e = refl
 rests-behind p (line ∷ lines) e = let first : p.column - 1 ≡ 0 = omega arith in ap (λ (k : ℕ). rest_at k line ∷ map (rest_at 0) lines) first
 
@@ -579,7 +579,7 @@ last_leaves (row ∷ []) = row.leaves
 last_leaves (row ∷ next ∷ rows) = last_leaves (next ∷ rows)
 
 -- the lines behind the first stand behind what it does
-rows-below : (options : ParseOptions) (bytes : List ℕ) (a : Path) (p : Point) (line next : List ℕ) (lines : List (List ℕ)) (row below : Row) (rows : List Row) → IsBuilt options → IsPlain a →
+pub rows-below : (options : ParseOptions) (bytes : List ℕ) (a : Path) (p : Point) (line next : List ℕ) (lines : List (List ℕ)) (row below : Row) (rows : List Row) → IsBuilt options → IsPlain a →
     (are : f.AreRows options bytes (containers_of a) (is_going a) p (line ∷ next ∷ lines) (row ∷ below ∷ rows)) →
     let b : Path = step options a (rest_from p line) in f.AreRows options bytes (containers_of b) (is_going b) are.2 (next ∷ lines) (below ∷ rows)
 rows-below options bytes a p line next lines row below rows built plain are =
