@@ -77,11 +77,11 @@ lazy-opens false (c ∷ cs) kind e = cc
 
 -- Quotes alone open yet.
 
-pub item-off : (options : ParseOptions) (interrupting : Bool) (r : Rest) → options.constructs.list_item ≡ false → opens_item options interrupting r ≡ None
+item-off : (options : ParseOptions) (interrupting : Bool) (r : Rest) → options.constructs.list_item ≡ false → opens_item options interrupting r ≡ None
 unfolding opens_item
 item-off options interrupting r off = rw off refl
 
-pub footnote-off : (options : ParseOptions) (r : Rest) → options.constructs.gfm_footnote_definition ≡ false → opens_footnote options r ≡ None
+footnote-off : (options : ParseOptions) (r : Rest) → options.constructs.gfm_footnote_definition ≡ false → opens_footnote options r ≡ None
 unfolding opens_footnote
 footnote-off options r off = rw off refl
 
@@ -100,7 +100,7 @@ abbrev pub IsQuoteTaken : Option Taken → Type 0
 IsQuoteTaken None = Unit {0}
 IsQuoteTaken (Some t) = t.container ≡ InQuote
 
-pub taken-quote : (options : ParseOptions) (r : Rest) → IsQuoteTaken (quote_taken options r)
+taken-quote : (options : ParseOptions) (r : Rest) → IsQuoteTaken (quote_taken options r)
 unfolding quote_taken
 taken-quote options r = go (has_small_indent options r && begins_with 62 (behind_indent r).bytes)
   where

@@ -2,7 +2,6 @@
 -- left of it.
 use Rattle.std.proofs.Common.{◌≡◌, ℕ, zero, suc, ◌+◌, ◌^◌, ◌<◌, ◌≤◌, Bool, true, false, cond, ◌&&◌, List, [], ◌∷◌, ◌++◌, length, drop, slice_range, Option, Some, None, refl, sym, ap, ap₂, ◌∙◌, subst, arith, append_assoc}
 use Rattle.std.specs.Prelude.{IsTrue, ◌==◌, slice_get}
-use Rattle.std.specs.Option.{option_or}
 use Rattle.std.proofs.lemmas.Bool.{eqb-true}
 use Rattle.std.proofs.lemmas.Bool.Decides.{nat_tests}
 use Rattle.std.proofs.lemmas.List.{length-append}
@@ -16,7 +15,7 @@ use Rattle.md_engine.specs.Meaning.{Cell}
 use Rattle.md_containers.specs.QuoteRule.{behind_end, behind_events, behind_rest, has_marker, marker_end, marker_events, marker_rest, prefix_end, prefix_events, prefix_rest, takes_prefix}
 use Rattle.md_containers.proofs.QuoteLines.{quote-container, quote-no_ending}
 use Rattle.md_seam.specs.Ahead.{begins_white, white_end, white_rest}
-use Rattle.md_seam.specs.Containers.{Taken, continues, opens, opens_footnote, opens_item, opens_quote, quote_taken}
+use Rattle.md_seam.specs.Containers.{Taken, continues, opens, opens_quote, quote_taken}
 use Rattle.md_seam.specs.Inline.{pair_unless_empty}
 use Rattle.md_seam.specs.Lines.{begins_with}
 use Rattle.md_seam.specs.Nested.{enter, exit, pair}
@@ -35,6 +34,7 @@ use Rattle.markdown_blocks.specs.Change.{change_by, container_name, interrupts, 
 use Rattle.markdown_blocks.specs.Fronted.{Contained, Prefixed, contained, contained_behind, contained_by, contained_of, no_prefix, one_more, prefixes_new, prefixes_on, rest_line}
 use Rattle.markdown_blocks.specs.Parsed.{IsBuilt}
 use Rattle.markdown_blocks.specs.Rows.{Front, Held, Passed, goes_at, held_at, held_behind, held_by, in_front, is_lazy, line_kind, new_front, no_front, opens_at, quote_new, quote_on, row_kind, went_front}
+use Rattle.markdown_blocks.proofs.ContainedLemmas.{quote-alone}
 use Rattle.markdown_blocks.proofs.FrontFacts.{Behind, Begins, Fronts, Goes, IsFurther, IsOpening, IsPrefix}
 use Rattle.markdown_blocks.proofs.LineKinds.{no_limit}
 use Rattle.markdown_blocks.proofs.RestRows.{kind-rest}
@@ -468,24 +468,6 @@ quote-opens options interrupting line text past r stop p off is h k short = on o
     on false = tt
 
 -- No other container opens.
-
-item-off : (options : ParseOptions) (interrupting : Bool) (r : Rest) → options.constructs.list_item ≡ false → opens_item options interrupting r ≡ None
-unfolding opens_item
-item-off options interrupting r off = rw off refl
-
-footnote-off : (options : ParseOptions) (r : Rest) → options.constructs.gfm_footnote_definition ≡ false → opens_footnote options r ≡ None
-unfolding opens_footnote
-footnote-off options r off = rw off refl
-
-quote-alone : (options : ParseOptions) (interrupting : Bool) (r : Rest) → IsBuilt options → opens options interrupting r ≡ opens_quote options r
-quote-alone options interrupting r built =
-    ap (λ (o : Option Taken). option_or (opens_quote options r) (option_or o (opens_footnote options r))) (item-off options interrupting r built.list_item)
-    ∙ ap (λ (o : Option Taken). option_or (opens_quote options r) o) (footnote-off options r built.gfm_footnote_definition)
-    ∙ go (opens_quote options r)
-  where
-    go : (o : Option Taken) → option_or o None ≡ o
-    go None = refl
-    go (Some t) = refl
 
 -- All containers.
 

@@ -6,7 +6,7 @@ use Rattle.md_engine.specs.declared.event.Point.{Point}
 use Rattle.md_engine.specs.declared.state.Name.{Name as StateName}
 use Rattle.md_engine.specs.declared.state.Name.TheVariants as s
 use Rattle.md_engine.specs.declared.state.State.{State}
-use Rattle.md_engine.specs.Run.{Calls, Leaves, Runs, Step}
+use Rattle.md_engine.specs.Run.{Runs, Step}
 use Rattle.md_engine.specs.Run.Runs.{Stays, ThenCalls, ThenLeaves}
 use Rattle.md_engine.specs.World.{World, looks}
 use Rattle.md_seam.specs.Preamble.{rest_at}

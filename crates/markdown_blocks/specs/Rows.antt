@@ -1,5 +1,5 @@
 -- The lines of a text as they are read, where block quotes, headings and breaks may be on, and the events of each.
-use Rattle.std.specs.Prelude.{ℕ, zero, suc, ◌+◌, ◌-◌, Bool, true, false, ◌&&◌, ◌==◌, length, if◌then◌else◌, List, [], ◌∷◌, ◌++◌, slice_range, Option, Some, None}
+use Rattle.std.specs.Prelude.{ℕ, zero, suc, Bool, true, false, ◌&&◌, length, if◌then◌else◌, List, [], ◌∷◌, ◌++◌, slice_range, Option, Some, None}
 use Rattle.md_engine.specs.declared.configuration.ParseOptions.{ParseOptions}
 use Rattle.md_engine.specs.declared.event.Event.{Event}
 use Rattle.md_engine.specs.declared.event.Name.{Name}
