@@ -97,3 +97,16 @@ pub runs-setting : (T : Step) (is_end : Bool) (s : State) (w : World) (s' : Stat
 runs-setting T is_end s w s' w' Stays = refl
 runs-setting T is_end s w s' w' (ThenLeaves t v t' v' r l) = leaves-setting t t' v v' l ∙ runs-setting T is_end s w t v r
 runs-setting T is_end s w s' w' (ThenCalls t v t' v' r c) = c.setting ∙ runs-setting T is_end s w t v r
+
+-- what may be called before the end of a text may be called at its end
+pub runs-at_end : (T : Step) (s : State) (w : World) (s' : State) (w' : World) → Runs T false s w s' w' → Runs T true s w s' w'
+runs-at_end T s w s' w' Stays = Stays
+runs-at_end T s w s' w' (ThenLeaves t v t' v' r l) = ThenLeaves t v t' v' (runs-at_end T s w t v r) l
+runs-at_end T s w s' w' (ThenCalls t v t' v' r c) =
+    ThenCalls t v t' v' (runs-at_end T s w t v r) (record { name = c.name; names = c.names; may = inl refl; step = c.step; fine = c.fine; setting = c.setting; within = c.within })
+
+-- a run goes on from where another has come
+pub runs-append : (T : Step) (is_end : Bool) (s : State) (w : World) (t : State) (v : World) (t' : State) (v' : World) → Runs T is_end s w t v → Runs T is_end t v t' v' → Runs T is_end s w t' v'
+runs-append T is_end s w t v t' v' first Stays = first
+runs-append T is_end s w t v t' v' first (ThenLeaves x y x' y' r l) = ThenLeaves x y x' y' (runs-append T is_end s w t v x y first r) l
+runs-append T is_end s w t v t' v' first (ThenCalls x y x' y' r c) = ThenCalls x y x' y' (runs-append T is_end s w t v x y first r) c
