@@ -1,14 +1,16 @@
 -- What stands between two lines while flow reads a text: whenever a line has been fed, what the tokenizer holds stands for what is
 -- open by the line definition.
-use Rattle.std.specs.Prelude.{◌≡◌, ℕ, zero, suc, ◌+◌, ◌<◌, Bool, ◌==◌, if◌then◌else◌, List, [], ◌∷◌, length, map, take, drop, Option, Some}
+use Rattle.std.specs.Prelude.{◌≡◌, ℕ, zero, suc, ◌+◌, ◌<◌, ◌≤◌, Bool, ◌==◌, if◌then◌else◌, List, [], ◌∷◌, length, map, take, drop, Option, Some}
 use Rattle.md_engine.specs.declared.configuration.ParseOptions.{ParseOptions}
 use Rattle.md_engine.specs.declared.event.Point.{Point}
+use Rattle.md_engine.specs.declared.resolve.Name.{Name as ResolveName}
 use Rattle.md_engine.specs.declared.state.Name.{Name as StateName}
 use Rattle.md_engine.specs.declared.state.Name.TheVariants as s
 use Rattle.md_engine.specs.declared.state.State.{State}
+use Rattle.md_engine.specs.declared.state.State.TheVariants.{Next}
 use Rattle.md_engine.specs.Run.{Runs, Step}
 use Rattle.md_engine.specs.Run.Runs.{Stays, ThenCalls, ThenLeaves}
-use Rattle.md_engine.specs.World.{World, looks}
+use Rattle.md_engine.specs.World.{World, fresh, looks, reads_to}
 use Rattle.md_seam.specs.Preamble.{rest_at}
 use Rattle.md_seam.specs.Rest.{Rest}
 use Rattle.md_seam.specs.Spelled.{Reading, left, read, unread}
@@ -17,8 +19,10 @@ use Rattle.md_seam.specs.Step.{spot_of, steps}
 use Rattle.md_seam.specs.Texts.{split_lines}
 use Rattle.md_seam.specs.Tree.{End}
 use Rattle.markdown_blocks.specs.Fronted.{rest_from}
+use Rattle.markdown_blocks.specs.Parsed.{IsBuilt}
 use Rattle.markdown_blocks.specs.Rows.{Row, groups, groups_events, rows_events}
 use Rattle.markdown_blocks.specs.Stands.{StandsFor}
+use Rattle.markdown_blocks.specs.States.{FlowStep}
 use Rattle.markdown_blocks.specs.TextRows.{text_rows}
 
 -- how many lines a call of a state feeds: one where it takes the ending of a line
@@ -71,3 +75,22 @@ pub record StandsBehind (bytes : List ℕ) (options : ParseOptions) (p : Point) 
   pub reads : read bytes unread (groups_events bytes (groups (take n (text_rows options bytes p)))) ≡ lefts (length (last_leaves (take n (text_rows options bytes p)))) reading
   -- and with the flags it stands for what these lines come to
   pub stands : StandsFor options w.flags reading (path_behind options bytes p n)
+
+-- where flow begins to read all of a text, from a point on
+abbrev pub flow_begins : List ℕ → ParseOptions → Point → World
+flow_begins bytes options p = reads_to (fresh bytes options p) (length bytes)
+
+-- at the begin of a line
+abbrev pub line_begins : State
+line_begins = Next s.DocumentContainerExistingBefore
+
+-- Flow has read a text, from a point on, and has come to this.
+pub record FlowRan (bytes : List ℕ) (options : ParseOptions) (p : Point) (end : State) (at : World) : Type 0 where
+  -- whether two names of resolvers are the same
+  pub is_name : ResolveName → ResolveName → Bool
+  pub run : Runs (FlowStep is_name) true line_begins (flow_begins bytes options p) end at
+  -- all lines were fed but the last, which ends where the text does,
+  pub lines : suc (fed (FlowStep is_name) true line_begins (flow_begins bytes options p) end at run) ≡ length (text_rows options bytes p)
+  -- and whenever one had been fed, what the tokenizer held stood for what is open behind the lines so far
+  pub stands : IsBuilt options → p.index ≤ length bytes → p.vs ≡ 0 → 1 ≤ p.column → (t : State) (v : World) (t' : State) (v' : World) (before : Runs (FlowStep is_name) true line_begins (flow_begins bytes options p) t v) (call : Calls (FlowStep is_name) true t v t' v') →
+      feeds call.name (looks v) ≡ 1 → StandsBehind bytes options p (suc (fed (FlowStep is_name) true line_begins (flow_begins bytes options p) t v before)) v'

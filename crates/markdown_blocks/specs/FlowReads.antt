@@ -3,9 +3,11 @@ use Rattle.std.specs.Prelude.{◌≡◌, ◌≢◌, ◌⊎◌, ℕ, List, [], �
 use Rattle.md_engine.specs.declared.configuration.ParseOptions.{ParseOptions}
 use Rattle.md_engine.specs.declared.event.Point.{Point}
 use Rattle.md_engine.specs.declared.resolve.Name.TheVariants.{Content, HeadingAtx}
+use Rattle.md_engine.specs.declared.state.State.{State}
 use Rattle.md_engine.specs.Found.{Found, nothing, with_found}
 use Rattle.md_engine.specs.Run.{Resolution}
 use Rattle.md_engine.specs.World.{World}
+use Rattle.markdown_blocks.specs.Fed.{FlowRan}
 use Rattle.markdown_blocks.specs.Rows.{HeadingRow, Row, TextRow, rows_events}
 pub use Rattle.markdown_blocks.specs.TextRows.{text_cells, text_rows, text_setting}
 
@@ -45,8 +47,13 @@ pub record SetsHeadings (R : Resolution) (at : World) (was : Found) (found : Fou
 
 -- flow has read a text from a point to its end, and then its resolvers ran: that of content, and then that of headings
 pub record FlowReads (R : Resolution) (bytes : List ℕ) (options : ParseOptions) (p : Point) (found : Found) (new : World) : Type 0 where
-  -- before the resolvers
+  -- its states have come to this,
+  pub end : State
+  pub ended : World
+  pub ran : FlowRan bytes options p end ended
+  -- which is what is there before the resolvers
   pub at : World
+  pub at_is : at ≡ record ended { resolvers = [] }
   pub events : at.events ≡ rows_events (text_rows options bytes p)
   pub setting : at.setting ≡ text_setting bytes options p
   pub frames : at.frames ≡ []
