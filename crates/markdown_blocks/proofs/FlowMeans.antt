@@ -1,5 +1,5 @@
 -- Each state of flow takes one step of what flow means.
-use Rattle.std.proofs.Common.{◌≡◌, ℕ, Bool, true, false, nat_eq, List, [], ◌∷◌, ◌++◌, length, take, Option, Some, None, refl, sym, ◌∙◌, ap, arith, append_assoc}
+use Rattle.std.proofs.Common.{◌≡◌, ◌⊎◌, inl, inr, ℕ, Bool, true, false, cond, nat_eq, List, [], ◌∷◌, ◌++◌, length, take, Option, Some, None, refl, sym, ◌∙◌, ap, subst, arith, append_assoc}
 use Rattle.std.proofs.lemmas.List.{take_all}
 use Rattle.md_engine.specs.declared.configuration.ParseOptions.{ParseOptions}
 use Rattle.md_engine.specs.declared.event.Event.{Event}
@@ -32,11 +32,12 @@ use Rattle.md_leaves.proofs.BreakSteps as break
 use Rattle.md_leaves.proofs.HeadingSteps as heading
 use Rattle.md_seam.specs.Ahead.{HasWhite}
 use Rattle.md_seam.specs.Nested.{enter, exit, pair}
-use Rattle.md_seam.specs.Went.{entered, exited, taken}
+use Rattle.md_seam.specs.Went.{Went, entered, exited, taken}
 use Rattle.md_seam.proofs.SpacesGoods.{does-stands}
 use Rattle.md_seam.proofs.WhiteSteps.{white_after_steps, white_inside_steps, white_start_steps}
+use Rattle.markdown_blocks.specs.Fed.{feeds}
 use Rattle.markdown_blocks.specs.Flow.{after_went, before_content_went, before_heading_atx_went, before_thematic_break_went, blank_line_after_went, blank_line_before_went, containers_after_went, existing_after_went, existing_before_code, flow_end_code, flow_end_went, goes_on_with, new_after_went, new_before_went, start_went}
-use Rattle.markdown_blocks.specs.FlowRule.{HasFlow, Rule, behind_containers, blank_ended, continues_at, ended, ended_to, existing_by, flow_at, flow_behaves, line_ended, line_then, new_of, quote_opened, tried}
+use Rattle.markdown_blocks.specs.FlowRule.{HasFlow, Rule, behind_containers, blank_ended, continues_at, ended, ended_to, existing_by, flow_at, flow_behaves, flow_behaves_by, line_ended, line_then, new_of, quote_opened, tried}
 use Rattle.markdown_blocks.specs.LineFlags as flags
 use Rattle.markdown_blocks.specs.LineFlags.{ending_name, next_container, next_line, went_on}
 use Rattle.markdown_blocks.specs.States.{FlowStep, flow_table_scheme, flow_went}
@@ -60,32 +61,30 @@ resumed B feed w ok nok Fails y z a b = refl
 -- Containers.
 
 -- a container is asked by its own prefix
-asked : (B : Behaviour) (options : ParseOptions) → HasFlow B options → (k : ContainerKind) (cells : List Cell) (h : Here) → continues_at options k cells h ≡ B (goes_on_with k) cells h
-asked B options has kind.BlockQuote cells h = sym (has.quote.cont_start cells h)
+asked : (B : Behaviour) (options : ParseOptions) (next : Rule) → HasFlow B options next → (k : ContainerKind) (cells : List Cell) (h : Here) → continues_at options k cells h ≡ B (goes_on_with k) cells h
+asked B options next has kind.BlockQuote cells h = sym (has.quote.cont_start cells h)
 
-existing_before_steps : (B : Behaviour) (feed : Feed) (w : World) (options : ParseOptions) (o : Option Container) → HasFlow B options → next_container w.flags ≡ o →
+existing_before_steps : (B : Behaviour) (feed : Feed) (w : World) (options : ParseOptions) (next : Rule) (o : Option Container) → HasFlow B options next → next_container w.flags ≡ o →
     Steps B feed (Next n.DocumentContainerExistingBefore) w (existing_before_code w o).to (existing_before_code w o).world
-existing_before_steps B feed w options None has e =
+existing_before_steps B feed w options next None has e =
     passes B feed _ _ w w refl refl
-    (has.existing_before _ _ ∙ line_by_container options (flow_at options) (feed w.point) (here w)
-    ∙ ap (λ (o : Option Container). existing_by options (flow_at options) (line_then options (flow_at options)) o (feed w.point) (here w)) e ∙ sym (has.new_before _ _))
-existing_before_steps B feed w options (Some c) has e =
+    (has.existing_before _ _ ∙ line_by_container options next (feed w.point) (here w)
+    ∙ ap (λ (o : Option Container). existing_by options next (line_then options next) o (feed w.point) (here w)) e ∙ sym (has.new_before _ _))
+existing_before_steps B feed w options next (Some c) has e =
     let f : Frame = frame_here (Next n.DocumentContainerExistingAfter) (Next n.DocumentContainerNewBefore) w in
-    let next : Rule = flow_at options in
     begins_only B feed _ _ w (existing_before_code w (Some c)).world f refl refl
     (has.existing_before _ _ ∙ line_by_container options next (feed w.point) (here w)
     ∙ ap (λ (o : Option Container). existing_by options next (line_then options next) o (feed w.point) (here w)) e
     ∙ resumed B feed w (Next n.DocumentContainerExistingAfter) (Next n.DocumentContainerNewBefore) (continues_at options c.kind (feed w.point) (here w))
     (λ rest k. line_then options next rest (record k { flags = went_on k.flags })) (λ s g. new_of options next (feed w.point) (record (here w) { scratch = s; flags = g })) has.existing_after (λ s g. has.new_before _ _)
-    ∙ ap (resume B feed w.events f) (asked B options has c.kind _ _))
+    ∙ ap (resume B feed w.events f) (asked B options next has c.kind _ _))
 
-existing_after_steps : (B : Behaviour) (feed : Feed) (w : World) (options : ParseOptions) → HasFlow B options → Steps B feed (Next n.DocumentContainerExistingAfter) w (existing_after_went w).to (existing_after_went w).world
-existing_after_steps B feed w options has = passes B feed _ _ w (existing_after_went w).world refl refl (has.existing_after _ _ ∙ sym (has.existing_before _ _))
+existing_after_steps : (B : Behaviour) (feed : Feed) (w : World) (options : ParseOptions) (next : Rule) → HasFlow B options next → Steps B feed (Next n.DocumentContainerExistingAfter) w (existing_after_went w).to (existing_after_went w).world
+existing_after_steps B feed w options next has = passes B feed _ _ w (existing_after_went w).world refl refl (has.existing_after _ _ ∙ sym (has.existing_before _ _))
 
-new_before_steps : (B : Behaviour) (feed : Feed) (w : World) (options : ParseOptions) → HasFlow B options → Steps B feed (Next n.DocumentContainerNewBefore) w (new_before_went w).to (new_before_went w).world
-new_before_steps B feed w options has =
+new_before_steps : (B : Behaviour) (feed : Feed) (w : World) (options : ParseOptions) (next : Rule) → HasFlow B options next → Steps B feed (Next n.DocumentContainerNewBefore) w (new_before_went w).to (new_before_went w).world
+new_before_steps B feed w options next has =
     let f : Frame = frame_here (Next n.DocumentContainerNewAfter) (Next n.DocumentContainersAfter) w in
-    let next : Rule = flow_at options in
     begins_only B feed _ _ w (new_before_went w).world f refl refl
     (has.new_before _ _ ∙ new_by_container options next (feed w.point) (here w)
     ∙ resumed B feed w (Next n.DocumentContainerNewAfter) (Next n.DocumentContainersAfter) (quote_at options (feed w.point) (here w))
@@ -93,85 +92,97 @@ new_before_steps B feed w options has =
     ∙ ap (resume B feed w.events f) (sym (has.quote.start _ _)))
 
 -- where containers end no attempt is around, so none goes back to events before these ends
-new_after_steps : (B : Behaviour) (feed : Feed) (w : World) (options : ParseOptions) → HasFlow B options → w.frames ≡ [] → Steps B feed (Next n.DocumentContainerNewAfter) w (new_after_went w).to (new_after_went w).world
-new_after_steps B feed w options has none = changes B feed _ _ w (new_after_went w).world none none (has.new_after _ _ ∙ sym (has.new_before _ _))
+new_after_steps : (B : Behaviour) (feed : Feed) (w : World) (options : ParseOptions) (next : Rule) → HasFlow B options next → w.frames ≡ [] → Steps B feed (Next n.DocumentContainerNewAfter) w (new_after_went w).to (new_after_went w).world
+new_after_steps B feed w options next has none = changes B feed _ _ w (new_after_went w).world none none (has.new_after _ _ ∙ sym (has.new_before _ _))
 
-containers_after_steps : (B : Behaviour) (feed : Feed) (w : World) (options : ParseOptions) → HasFlow B options → Steps B feed (Next n.DocumentContainersAfter) w (containers_after_went w).to (containers_after_went w).world
-containers_after_steps B feed w options has = passes B feed _ _ w (containers_after_went w).world refl refl (has.containers_after _ _ ∙ sym (has.start _ _))
+containers_after_steps : (B : Behaviour) (feed : Feed) (w : World) (options : ParseOptions) (next : Rule) → HasFlow B options next → Steps B feed (Next n.DocumentContainersAfter) w (containers_after_went w).to (containers_after_went w).world
+containers_after_steps B feed w options next has = passes B feed _ _ w (containers_after_went w).world refl refl (has.containers_after _ _ ∙ sym (has.start _ _))
 
 -- The leaf of a line.
 
-start_steps : (B : Behaviour) (feed : Feed) (w : World) (options : ParseOptions) → HasFlow B options → Steps B feed (Next n.FlowStart) w (start_went w).to (start_went w).world
-start_steps B feed w options has = passes B feed _ _ w w refl refl (has.start _ _ ∙ sym (has.blank_line_before _ _))
+start_steps : (B : Behaviour) (feed : Feed) (w : World) (options : ParseOptions) (next : Rule) → HasFlow B options next → Steps B feed (Next n.FlowStart) w (start_went w).to (start_went w).world
+start_steps B feed w options next has = passes B feed _ _ w w refl refl (has.start _ _ ∙ sym (has.blank_line_before _ _))
 
-blank_line_before_steps : (B : Behaviour) (feed : Feed) (w : World) (options : ParseOptions) → HasFlow B options →
+blank_line_before_steps : (B : Behaviour) (feed : Feed) (w : World) (options : ParseOptions) (next : Rule) → HasFlow B options next →
     Steps B feed (Next n.FlowBlankLineBefore) w (blank_line_before_went w).to (blank_line_before_went w).world
-blank_line_before_steps B feed w options has =
+blank_line_before_steps B feed w options next has =
     let f : Frame = frame_here (Next n.FlowBlankLineAfter) (Next n.FlowBeforeHeadingAtx) w in
     begins_only B feed _ _ w (blank_line_before_went w).world f refl refl
     (has.blank_line_before _ _
-    ∙ resumed B feed w (Next n.FlowBlankLineAfter) (Next n.FlowBeforeHeadingAtx) (blank_at (feed w.point) (here w)) (blank_ended (flow_at options)) _ has.blank_line_after (λ s g. has.before_heading_atx _ _)
+    ∙ resumed B feed w (Next n.FlowBlankLineAfter) (Next n.FlowBeforeHeadingAtx) (blank_at (feed w.point) (here w)) (blank_ended next) _ has.blank_line_after (λ s g. has.before_heading_atx _ _)
     ∙ ap (resume B feed w.events f) (sym (has.blank.start _ _)))
 
-before_heading_atx_steps : (B : Behaviour) (feed : Feed) (w : World) (options : ParseOptions) → HasFlow B options →
+before_heading_atx_steps : (B : Behaviour) (feed : Feed) (w : World) (options : ParseOptions) (next : Rule) → HasFlow B options next →
     Steps B feed (Next n.FlowBeforeHeadingAtx) w (before_heading_atx_went w).to (before_heading_atx_went w).world
-before_heading_atx_steps B feed w options has =
+before_heading_atx_steps B feed w options next has =
     let f : Frame = frame_here (Next n.FlowAfter) (Next n.FlowBeforeThematicBreak) w in
     begins_only B feed _ _ w (before_heading_atx_went w).world f refl refl
     (has.before_heading_atx _ _
-    ∙ resumed B feed w (Next n.FlowAfter) (Next n.FlowBeforeThematicBreak) (heading_at options (feed w.point) (here w)) (line_ended (flow_at options)) _ has.behind (λ s g. has.before_thematic_break _ _)
+    ∙ resumed B feed w (Next n.FlowAfter) (Next n.FlowBeforeThematicBreak) (heading_at options (feed w.point) (here w)) (line_ended next) _ has.behind (λ s g. has.before_thematic_break _ _)
     ∙ ap (resume B feed w.events f) (sym (has.heading.start _ _)))
 
-before_thematic_break_steps : (B : Behaviour) (feed : Feed) (w : World) (options : ParseOptions) → HasFlow B options →
+before_thematic_break_steps : (B : Behaviour) (feed : Feed) (w : World) (options : ParseOptions) (next : Rule) → HasFlow B options next →
     Steps B feed (Next n.FlowBeforeThematicBreak) w (before_thematic_break_went w).to (before_thematic_break_went w).world
-before_thematic_break_steps B feed w options has =
+before_thematic_break_steps B feed w options next has =
     let f : Frame = frame_here (Next n.FlowAfter) (Next n.FlowBeforeContent) w in
     begins_only B feed _ _ w (before_thematic_break_went w).world f refl refl
     (has.before_thematic_break _ _
-    ∙ resumed B feed w (Next n.FlowAfter) (Next n.FlowBeforeContent) (break_at options (feed w.point) (here w)) (line_ended (flow_at options)) _ has.behind (λ s g. has.before_content _ _)
+    ∙ resumed B feed w (Next n.FlowAfter) (Next n.FlowBeforeContent) (break_at options (feed w.point) (here w)) (line_ended next) _ has.behind (λ s g. has.before_content _ _)
     ∙ ap (resume B feed w.events f) (sym (has.break.start _ _)))
 
-before_content_steps : (B : Behaviour) (feed : Feed) (w : World) (options : ParseOptions) → HasFlow B options → Steps B feed (Next n.FlowBeforeContent) w (before_content_went w).to (before_content_went w).world
-before_content_steps B feed w options has =
+before_content_steps : (B : Behaviour) (feed : Feed) (w : World) (options : ParseOptions) (next : Rule) → HasFlow B options next → Steps B feed (Next n.FlowBeforeContent) w (before_content_went w).to (before_content_went w).world
+before_content_steps B feed w options next has =
     let f : Frame = frame_here (Next n.FlowAfter) Nok w in
     begins_only B feed _ _ w (before_content_went w).world f refl refl
     (has.before_content _ _
-    ∙ resumed B feed w (Next n.FlowAfter) Nok (chunk_at (feed w.point) (here w)) (line_ended (flow_at options)) Refuses has.behind (λ s g. refl)
+    ∙ resumed B feed w (Next n.FlowAfter) Nok (chunk_at (feed w.point) (here w)) (line_ended next) Refuses has.behind (λ s g. refl)
     ∙ ap (resume B feed w.events f) (sym (has.chunk.start _ _)))
 
-blank_line_after_steps : (B : Behaviour) (feed : Feed) (w : World) (options : ParseOptions) → HasFlow B options → Steps B feed (Next n.FlowBlankLineAfter) w (blank_line_after_went w).to (blank_line_after_went w).world
-blank_line_after_steps B feed w options has = passes B feed _ _ w (blank_line_after_went w).world refl refl (has.blank_line_after _ _ ∙ sym (has.flow_end _ _))
+blank_line_after_steps : (B : Behaviour) (feed : Feed) (w : World) (options : ParseOptions) (next : Rule) → HasFlow B options next → Steps B feed (Next n.FlowBlankLineAfter) w (blank_line_after_went w).to (blank_line_after_went w).world
+blank_line_after_steps B feed w options next has = passes B feed _ _ w (blank_line_after_went w).world refl refl (has.blank_line_after _ _ ∙ sym (has.flow_end _ _))
 
-after_steps : (B : Behaviour) (feed : Feed) (w : World) (options : ParseOptions) → HasFlow B options → Steps B feed (Next n.FlowAfter) w (after_went w).to (after_went w).world
-after_steps B feed w options has = passes B feed _ _ w w refl refl (has.behind _ _ ∙ sym (has.flow_end _ _))
+after_steps : (B : Behaviour) (feed : Feed) (w : World) (options : ParseOptions) (next : Rule) → HasFlow B options next → Steps B feed (Next n.FlowAfter) w (after_went w).to (after_went w).world
+after_steps B feed w options next has = passes B feed _ _ w w refl refl (has.behind _ _ ∙ sym (has.flow_end _ _))
 
 -- The end of a line.
 
+-- either no ending is taken, or the state behind it means what the rule does
+abbrev GoesOn : Behaviour → Rule → ℕ → Type 0
+GoesOn B next size = (size ≡ 0) ⊎ ((cells : List Cell) (h : Here) → next cells h ≡ B n.DocumentContainerExistingBefore cells h)
+
+-- behind an ending that is taken here
+abbrev behind_ending : World → World
+behind_ending v = record (exited (taken (entered v (ending_name v.flags.blank))) (ending_name v.flags.blank)) { flags = next_line (length v.events) v.flags }
+
+-- and what is left behind it is what the rule makes of the rest
+ending_left : (feed : Feed) (v : World) (next : Rule) (b : ℕ) → nat_eq b 10 ≡ true → ended next (ahead feed v (Some b)) (here v) ≡ next (feed (behind_ending v).point) (here (behind_ending v))
+ending_left feed v next b e =
+    let q = after v.setting v.point in
+    let name = ending_name v.flags.blank in
+    let split : v.events ++ enter name v.point ∷ [] ++ exit name q ∷ [] ≡ v.events ++ pair name v.point q = append_assoc v.events (enter name v.point ∷ []) (exit name q ∷ []) in
+    rw e (ap (λ (x : List Event). next (feed q) (record { events = x; point = q; scratch = v.scratch; flags = next_line (length v.events) v.flags })) (sym split))
+
 -- where containers ended that did not go on
-flow_end_code_steps : (B : Behaviour) (feed : Feed) (w v : World) (options : ParseOptions) (o : Option ℕ) → HasFlow B options → w.frames ≡ [] → v.frames ≡ [] → feed v.point ≡ ahead feed v o →
-    goes B (Next n.DocumentFlowEnd) (feed w.point) (here w) ≡ ended (flow_at options) (ahead feed v o) (here v) →
+flow_end_code_steps : (B : Behaviour) (feed : Feed) (w v : World) (options : ParseOptions) (next : Rule) (o : Option ℕ) → HasFlow B options next → w.frames ≡ [] → v.frames ≡ [] → feed v.point ≡ ahead feed v o → GoesOn B next (feeds n.DocumentFlowEnd o) →
+    goes B (Next n.DocumentFlowEnd) (feed w.point) (here w) ≡ ended next (ahead feed v o) (here v) →
     Steps B feed (Next n.DocumentFlowEnd) w (flow_end_code v o).to (flow_end_code v o).world
-flow_end_code_steps B feed w v options None has none also next is =
-    changes B feed _ _ w (flow_end_code v None).world none also (is ∙ ap (Accepts (ended_to 0 (length v.events) (here v))) (sym next))
-flow_end_code_steps B feed w v options (Some b) has none also next is = go (nat_eq b 10) refl
+flow_end_code_steps B feed w v options next None has none also sees on is =
+    changes B feed _ _ w (flow_end_code v None).world none also (is ∙ ap (Accepts (ended_to 0 (length v.events) (here v))) (sym sees))
+flow_end_code_steps B feed w v options next (Some b) has none also sees on is = go (nat_eq b 10) refl on
   where
-    go : (x : Bool) → nat_eq b 10 ≡ x → Steps B feed (Next n.DocumentFlowEnd) w (flow_end_code v (Some b)).to (flow_end_code v (Some b)).world
-    go true e =
-        let q = after v.setting v.point in
-        let name = ending_name v.flags.blank in
-        let split : v.events ++ enter name v.point ∷ [] ++ exit name q ∷ [] ≡ v.events ++ pair name v.point q = append_assoc v.events (enter name v.point ∷ []) (exit name q ∷ []) in
-        let ending : World = record (exited (taken (entered v name)) name) { flags = next_line (length v.events) v.flags } in
-        rw e (changes B feed _ (Next n.DocumentContainerExistingBefore) w ending none also
-        (is ∙ rw e (ap (λ (x : List Event). flow_at options (feed q) (record { events = x; point = q; scratch = v.scratch; flags = next_line (length v.events) v.flags })) (sym split))
-        ∙ flow_by_line options (feed q) (here ending) ∙ sym (has.existing_before _ _)))
-    go false e = rw e (changes B feed _ Nok w v none also (is ∙ rw e refl))
+    go : (x : Bool) → nat_eq b 10 ≡ x → GoesOn B next (cond x 1 0) → Steps B feed (Next n.DocumentFlowEnd) w (flow_end_code v (Some b)).to (flow_end_code v (Some b)).world
+    go true e (inl none_fed) = absurd (omega (arith, none_fed))
+    go true e (inr meets) =
+        rw e (changes B feed _ (Next n.DocumentContainerExistingBefore) w (behind_ending v) none also (is ∙ ending_left feed v next b e ∙ meets _ _))
+    go false e on = rw e (changes B feed _ Nok w v none also (is ∙ rw e refl))
 
-flow_end_steps : (B : Behaviour) (feed : Feed) (w : World) (options : ParseOptions) → HasFlow B options → Sees feed w → w.frames ≡ [] → Steps B feed (Next n.DocumentFlowEnd) w (flow_end_went w).to (flow_end_went w).world
-flow_end_steps B feed w options has s none =
-    flow_end_code_steps B feed w (closed w (flags.stays w.flags) w.flags.line_end) options w.current has none none s.next (has.flow_end _ _ ∙ ap (λ (x : List Cell). line_ended (flow_at options) x (here w)) s.next)
+flow_end_steps : (B : Behaviour) (feed : Feed) (w : World) (options : ParseOptions) (next : Rule) → HasFlow B options next → Sees feed w → w.frames ≡ [] → GoesOn B next (feeds n.DocumentFlowEnd w.current) →
+    Steps B feed (Next n.DocumentFlowEnd) w (flow_end_went w).to (flow_end_went w).world
+flow_end_steps B feed w options next has s none on =
+    flow_end_code_steps B feed w (closed w (flags.stays w.flags) w.flags.line_end) options next w.current has none none s.next on (has.flow_end _ _ ∙ ap (λ (x : List Cell). line_ended next x (here w)) s.next)
 
-flow_has : (options : ParseOptions) → HasFlow (flow_behaves options) options
-flow_has options = record {
+flow_has : (options : ParseOptions) (next : Rule) → HasFlow (flow_behaves_by options next) options next
+flow_has options next = record {
   blank = record { white = white; start = λ _ _. refl; behind = λ _ _. refl };
   heading = record { white = white; start = λ _ _. refl; before = λ _ _. refl; sequence_open = λ _ _. refl; at_break = λ _ _. refl; sequence_further = λ _ _. refl; text = λ _ _. refl };
   break = record { white = white; start = λ _ _. refl; before = λ _ _. refl; at_break = λ _ _. refl; sequence = λ _ _. refl };
@@ -192,61 +203,96 @@ flow_has options = record {
   flow_end = λ _ _. refl;
 }
   where
-    white : HasWhite (flow_behaves options)
+    white : HasWhite (flow_behaves_by options next)
     white = record { start = λ _ _. refl; inside = λ _ _. refl; behind = λ _ _. refl }
 
-flow_steps : (is_name : ResolveName → ResolveName → Bool) (feed : Feed) (name : StateName) (w : World) → Sees feed w → stands flow_table_scheme w (Next name) →
-    Steps (flow_behaves w.setting.options) feed (Next name) w (flow_went is_name name w).to (flow_went is_name name w).world
-flow_steps is_name feed name w s at = go name at
+-- each state takes one step of what it means
+each_steps : (is_name : ResolveName → ResolveName → Bool) (feed : Feed) (next : Rule) (name : StateName) (w : World) → Sees feed w → stands flow_table_scheme w (Next name) →
+    GoesOn (flow_behaves_by w.setting.options next) next (feeds name w.current) →
+    Steps (flow_behaves_by w.setting.options next) feed (Next name) w (flow_went is_name name w).to (flow_went is_name name w).world
+each_steps is_name feed next name w s at on = go name at on
   where
     B : Behaviour
-    B = flow_behaves w.setting.options
+    B = flow_behaves_by w.setting.options next
 
-    has : HasFlow B w.setting.options
-    has = flow_has w.setting.options
+    has : HasFlow B w.setting.options next
+    has = flow_has w.setting.options next
 
-    go : (name : StateName) → stands flow_table_scheme w (Next name) → Steps B feed (Next name) w (flow_went is_name name w).to (flow_went is_name name w).world
-    go n.BlankLineStart at = blank_start_steps B feed w _ has.blank s at.0 refl
-    go n.BlankLineAfter at = blank_after_steps B feed w _ has.blank s refl
-    go n.BlockQuoteStart at = quote_start_steps B feed w _ has.quote refl
-    go n.BlockQuoteContStart at = quote_cont_start_steps B feed w _ has.quote s refl
-    go n.BlockQuoteContBefore at = quote_cont_before_steps B _ feed w _ has.quote s refl
-    go n.BlockQuoteContAfter at = quote_cont_after_steps B _ feed w _ has.quote s refl
-    go n.ContentChunkStart at = chunk_start_steps B feed w has.chunk
-    go n.ContentChunkInside at = chunk_inside_steps B feed (is_name r.Content) w _ has.chunk s refl
-    go n.DocumentContainerExistingBefore at = existing_before_steps B feed w _ _ has refl
-    go n.DocumentContainerExistingAfter at = existing_after_steps B feed w _ has
-    go n.DocumentContainerNewBefore at = new_before_steps B feed w _ has
-    go n.DocumentContainerNewAfter at = new_after_steps B feed w _ has (outermost-frames flow_table_scheme w.frames at.1)
-    go n.DocumentContainersAfter at = containers_after_steps B feed w _ has
-    go n.DocumentFlowEnd at = flow_end_steps B feed w _ has s (outermost-frames flow_table_scheme w.frames at.1)
-    go n.FlowStart at = start_steps B feed w _ has
-    go n.FlowBlankLineBefore at = blank_line_before_steps B feed w _ has
-    go n.FlowBeforeHeadingAtx at = before_heading_atx_steps B feed w _ has
-    go n.FlowBeforeThematicBreak at = before_thematic_break_steps B feed w _ has
-    go n.FlowBeforeContent at = before_content_steps B feed w _ has
-    go n.FlowBlankLineAfter at = blank_line_after_steps B feed w _ has
-    go n.FlowAfter at = after_steps B feed w _ has
-    go n.HeadingAtxStart at = heading.heading_start_steps B feed w _ _ has.heading s refl refl
-    go n.HeadingAtxBefore at = heading.heading_before_steps B _ feed w _ has.heading s at.0 refl
-    go n.HeadingAtxSequenceOpen at = heading.sequence_open_steps B _ feed w _ _ _ has.heading s at.0.rest at.0.size refl refl refl
-    go n.HeadingAtxAtBreak at = heading.heading_at_break_steps B _ feed (is_name r.HeadingAtx) w _ _ _ has.heading s refl refl refl
-    go n.HeadingAtxSequenceFurther at = heading.sequence_further_steps B _ feed w _ _ has.heading s at.0 refl refl
-    go n.HeadingAtxData at = heading.data_steps B _ feed w _ _ has.heading s at.0 refl refl
-    go n.SpaceOrTabStart at = white_start_steps B feed w _ has.blank.white s refl
-    go n.SpaceOrTabInside at = white_inside_steps B feed w _ _ has.blank.white s refl refl
-    go n.SpaceOrTabAfter at = white_after_steps B feed w _ has.blank.white refl
-    go n.ThematicBreakStart at = break.start_steps B feed w _ _ has.break s refl refl
-    go n.ThematicBreakBefore at = break.before_steps B _ feed w has.break s at.0
-    go n.ThematicBreakAtBreak at = break.at_break_steps B _ feed w _ _ has.break s at.0.marker refl refl
-    go n.ThematicBreakSequence at = break.sequence_steps B _ feed w _ _ has.break s at.0.rest at.0.marker refl refl
-    go name at = absurd at
+    go : (name : StateName) → stands flow_table_scheme w (Next name) → GoesOn B next (feeds name w.current) → Steps B feed (Next name) w (flow_went is_name name w).to (flow_went is_name name w).world
+    go n.BlankLineStart at on = blank_start_steps B feed w _ has.blank s at.0 refl
+    go n.BlankLineAfter at on = blank_after_steps B feed w _ has.blank s refl
+    go n.BlockQuoteStart at on = quote_start_steps B feed w _ has.quote refl
+    go n.BlockQuoteContStart at on = quote_cont_start_steps B feed w _ has.quote s refl
+    go n.BlockQuoteContBefore at on = quote_cont_before_steps B _ feed w _ has.quote s refl
+    go n.BlockQuoteContAfter at on = quote_cont_after_steps B _ feed w _ has.quote s refl
+    go n.ContentChunkStart at on = chunk_start_steps B feed w has.chunk
+    go n.ContentChunkInside at on = chunk_inside_steps B feed (is_name r.Content) w _ has.chunk s refl
+    go n.DocumentContainerExistingBefore at on = existing_before_steps B feed w _ _ _ has refl
+    go n.DocumentContainerExistingAfter at on = existing_after_steps B feed w _ _ has
+    go n.DocumentContainerNewBefore at on = new_before_steps B feed w _ _ has
+    go n.DocumentContainerNewAfter at on = new_after_steps B feed w _ _ has (outermost-frames flow_table_scheme w.frames at.1)
+    go n.DocumentContainersAfter at on = containers_after_steps B feed w _ _ has
+    go n.DocumentFlowEnd at on = flow_end_steps B feed w _ _ has s (outermost-frames flow_table_scheme w.frames at.1) on
+    go n.FlowStart at on = start_steps B feed w _ _ has
+    go n.FlowBlankLineBefore at on = blank_line_before_steps B feed w _ _ has
+    go n.FlowBeforeHeadingAtx at on = before_heading_atx_steps B feed w _ _ has
+    go n.FlowBeforeThematicBreak at on = before_thematic_break_steps B feed w _ _ has
+    go n.FlowBeforeContent at on = before_content_steps B feed w _ _ has
+    go n.FlowBlankLineAfter at on = blank_line_after_steps B feed w _ _ has
+    go n.FlowAfter at on = after_steps B feed w _ _ has
+    go n.HeadingAtxStart at on = heading.heading_start_steps B feed w _ _ has.heading s refl refl
+    go n.HeadingAtxBefore at on = heading.heading_before_steps B _ feed w _ has.heading s at.0 refl
+    go n.HeadingAtxSequenceOpen at on = heading.sequence_open_steps B _ feed w _ _ _ has.heading s at.0.rest at.0.size refl refl refl
+    go n.HeadingAtxAtBreak at on = heading.heading_at_break_steps B _ feed (is_name r.HeadingAtx) w _ _ _ has.heading s refl refl refl
+    go n.HeadingAtxSequenceFurther at on = heading.sequence_further_steps B _ feed w _ _ has.heading s at.0 refl refl
+    go n.HeadingAtxData at on = heading.data_steps B _ feed w _ _ has.heading s at.0 refl refl
+    go n.SpaceOrTabStart at on = white_start_steps B feed w _ has.blank.white s refl
+    go n.SpaceOrTabInside at on = white_inside_steps B feed w _ _ has.blank.white s refl refl
+    go n.SpaceOrTabAfter at on = white_after_steps B feed w _ has.blank.white refl
+    go n.ThematicBreakStart at on = break.start_steps B feed w _ _ has.break s refl refl
+    go n.ThematicBreakBefore at on = break.before_steps B _ feed w has.break s at.0
+    go n.ThematicBreakAtBreak at on = break.at_break_steps B _ feed w _ _ has.break s at.0.marker refl refl
+    go n.ThematicBreakSequence at on = break.sequence_steps B _ feed w _ _ has.break s at.0.rest at.0.marker refl refl
+    go name at on = absurd at
 
--- each state of flow takes one step of what flow means
+-- whatever follows behind the line, a call that takes no ending is one step of what flow means
+pub flow-steps-by : (is_name : ResolveName → ResolveName → Bool) (feed : Feed) (next : Rule) (name : StateName) (w : World) → Sees feed w → stands flow_table_scheme w (Next name) → feeds name w.current ≡ 0 →
+    Steps (flow_behaves_by w.setting.options next) feed (Next name) w (flow_went is_name name w).to (flow_went is_name name w).world
+flow-steps-by is_name feed next name w s at none = each_steps is_name feed next name w s at (inl none)
+
+-- an ending is taken with no attempt around, and then the rule goes on
+pub record Takes (next : Rule) (feed : Feed) (w : World) (to : State) (new : World) : Type 0 where
+  pub frames : w.frames ≡ []
+  pub to_is : to ≡ Next n.DocumentContainerExistingBefore
+  pub still : new.frames ≡ []
+  pub goes_on : goes (flow_behaves_by w.setting.options next) (Next n.DocumentFlowEnd) (feed w.point) (here w) ≡ next (feed new.point) (here new)
+
+pub ending-taken : (is_name : ResolveName → ResolveName → Bool) (feed : Feed) (next : Rule) (w : World) → Sees feed w → stands flow_table_scheme w (Next n.DocumentFlowEnd) → w.current ≡ Some 10 →
+    Takes next feed w (flow_went is_name n.DocumentFlowEnd w).to (flow_went is_name n.DocumentFlowEnd w).world
+ending-taken is_name feed next w s at is = subst P (sym (ap (flow_end_code v) is)) taken_here
+  where
+    v : World
+    v = closed w (flags.stays w.flags) w.flags.line_end
+
+    P : Went → Type 0
+    P x = Takes next feed w x.to x.world
+
+    none : w.frames ≡ []
+    none = outermost-frames flow_table_scheme w.frames at.1
+
+    taken_here : Takes next feed w (Next n.DocumentContainerExistingBefore) (behind_ending v)
+    taken_here = record {
+      frames = none;
+      to_is = refl;
+      still = none;
+      goes_on = ap (λ (x : List Cell). line_ended next x (here w)) (s.next ∙ ap (ahead feed w) is) ∙ ending_left feed v next 10 refl;
+    }
+
+-- each state of flow takes one step of what flow means: behind a line all further lines follow
 pub flow_means : (is_name : ResolveName → ResolveName → Bool) (options : ParseOptions) (is_end : Bool) → MeansAt (FlowStep is_name) flow_table_scheme options (flow_behaves options) is_end
 flow_means is_name options is_end feed name w to new f called step =
     steps-as (flow_behaves options) feed (Next name) _ to (reading w) _ new step.to_is step.new_is
-    (rw (sym called.options) (flow_steps is_name feed name (reading w) (sees feed w is_end f called.may) called.stands))
+    (rw (sym called.options) (each_steps is_name feed (flow_at w.setting.options) name (reading w) (sees feed w is_end f called.may) called.stands (inr (flow_by_line w.setting.options))))
 
 -- and comes to where the table stands
 pub flow_stands : (is_name : ResolveName → ResolveName → Bool) → StandsOn (FlowStep is_name) flow_table_scheme

@@ -106,60 +106,65 @@ flow_lines options (suc n) cells h = line_then options (flow_lines options n) ce
 unfoldable pub flow_at : ParseOptions → Rule
 flow_at options cells h = flow_lines options (suc (length cells)) cells h
 
-pub record HasFlow (B : Behaviour) (options : ParseOptions) : Type 0 where
+-- what is left at each state of flow, by a rule for what follows behind the line
+pub record HasFlow (B : Behaviour) (options : ParseOptions) (next : Rule) : Type 0 where
   pub blank : HasBlank B
   pub heading : HasHeading B options
   pub break : HasBreak B options
   pub chunk : HasChunk B
   pub quote : HasQuote B options
-  pub existing_before : (cells : List Cell) (h : Here) → B s.DocumentContainerExistingBefore cells h ≡ line_then options (flow_at options) cells h
-  pub existing_after : (cells : List Cell) (h : Here) → B s.DocumentContainerExistingAfter cells h ≡ line_then options (flow_at options) cells (record h { flags = went_on h.flags })
-  pub new_before : (cells : List Cell) (h : Here) → B s.DocumentContainerNewBefore cells h ≡ new_of options (flow_at options) cells h
-  pub new_after : (cells : List Cell) (h : Here) → B s.DocumentContainerNewAfter cells h ≡ new_of options (flow_at options) cells (quote_opened h)
-  pub containers_after : (cells : List Cell) (h : Here) → B s.DocumentContainersAfter cells h ≡ behind_containers options (flow_at options) cells h
-  pub start : (cells : List Cell) (h : Here) → B s.FlowStart cells h ≡ leaf_of options (flow_at options) cells h
-  pub blank_line_before : (cells : List Cell) (h : Here) → B s.FlowBlankLineBefore cells h ≡ leaf_of options (flow_at options) cells h
-  pub blank_line_after : (cells : List Cell) (h : Here) → B s.FlowBlankLineAfter cells h ≡ blank_ended (flow_at options) cells h
-  pub before_heading_atx : (cells : List Cell) (h : Here) → B s.FlowBeforeHeadingAtx cells h ≡ nonblank_of options (flow_at options) cells h
-  pub before_thematic_break : (cells : List Cell) (h : Here) → B s.FlowBeforeThematicBreak cells h ≡ break_of options (flow_at options) cells h
-  pub before_content : (cells : List Cell) (h : Here) → B s.FlowBeforeContent cells h ≡ content_of (flow_at options) cells h
-  pub behind : (cells : List Cell) (h : Here) → B s.FlowAfter cells h ≡ line_ended (flow_at options) cells h
-  pub flow_end : (cells : List Cell) (h : Here) → B s.DocumentFlowEnd cells h ≡ line_ended (flow_at options) cells h
+  pub existing_before : (cells : List Cell) (h : Here) → B s.DocumentContainerExistingBefore cells h ≡ line_then options next cells h
+  pub existing_after : (cells : List Cell) (h : Here) → B s.DocumentContainerExistingAfter cells h ≡ line_then options next cells (record h { flags = went_on h.flags })
+  pub new_before : (cells : List Cell) (h : Here) → B s.DocumentContainerNewBefore cells h ≡ new_of options next cells h
+  pub new_after : (cells : List Cell) (h : Here) → B s.DocumentContainerNewAfter cells h ≡ new_of options next cells (quote_opened h)
+  pub containers_after : (cells : List Cell) (h : Here) → B s.DocumentContainersAfter cells h ≡ behind_containers options next cells h
+  pub start : (cells : List Cell) (h : Here) → B s.FlowStart cells h ≡ leaf_of options next cells h
+  pub blank_line_before : (cells : List Cell) (h : Here) → B s.FlowBlankLineBefore cells h ≡ leaf_of options next cells h
+  pub blank_line_after : (cells : List Cell) (h : Here) → B s.FlowBlankLineAfter cells h ≡ blank_ended next cells h
+  pub before_heading_atx : (cells : List Cell) (h : Here) → B s.FlowBeforeHeadingAtx cells h ≡ nonblank_of options next cells h
+  pub before_thematic_break : (cells : List Cell) (h : Here) → B s.FlowBeforeThematicBreak cells h ≡ break_of options next cells h
+  pub before_content : (cells : List Cell) (h : Here) → B s.FlowBeforeContent cells h ≡ content_of next cells h
+  pub behind : (cells : List Cell) (h : Here) → B s.FlowAfter cells h ≡ line_ended next cells h
+  pub flow_end : (cells : List Cell) (h : Here) → B s.DocumentFlowEnd cells h ≡ line_ended next cells h
 
--- what is left at each state of flow
+-- the same as a function
+abbrev pub flow_behaves_by : ParseOptions → Rule → Behaviour
+flow_behaves_by options next s.BlankLineStart cells h = blank_at cells h
+flow_behaves_by options next s.BlankLineAfter cells h = after_blank cells h
+flow_behaves_by options next s.ContentChunkStart cells h = chunk_at cells h
+flow_behaves_by options next s.ContentChunkInside cells h = inside_chunk cells h
+flow_behaves_by options next s.BlockQuoteStart cells h = quote_at options cells h
+flow_behaves_by options next s.BlockQuoteContStart cells h = prefix_at options cells h
+flow_behaves_by options next s.BlockQuoteContBefore cells h = at_marker cells h
+flow_behaves_by options next s.BlockQuoteContAfter cells h = behind_marker cells h
+flow_behaves_by options next s.DocumentContainerExistingBefore cells h = line_then options next cells h
+flow_behaves_by options next s.DocumentContainerExistingAfter cells h = line_then options next cells (record h { flags = went_on h.flags })
+flow_behaves_by options next s.DocumentContainerNewBefore cells h = new_of options next cells h
+flow_behaves_by options next s.DocumentContainerNewAfter cells h = new_of options next cells (quote_opened h)
+flow_behaves_by options next s.DocumentContainersAfter cells h = behind_containers options next cells h
+flow_behaves_by options next s.DocumentFlowEnd cells h = line_ended next cells h
+flow_behaves_by options next s.FlowStart cells h = leaf_of options next cells h
+flow_behaves_by options next s.FlowBlankLineBefore cells h = leaf_of options next cells h
+flow_behaves_by options next s.FlowBeforeHeadingAtx cells h = nonblank_of options next cells h
+flow_behaves_by options next s.FlowBeforeThematicBreak cells h = break_of options next cells h
+flow_behaves_by options next s.FlowBeforeContent cells h = content_of next cells h
+flow_behaves_by options next s.FlowBlankLineAfter cells h = blank_ended next cells h
+flow_behaves_by options next s.FlowAfter cells h = line_ended next cells h
+flow_behaves_by options next s.HeadingAtxStart cells h = heading_at options cells h
+flow_behaves_by options next s.HeadingAtxBefore cells h = before_opening cells h
+flow_behaves_by options next s.HeadingAtxSequenceOpen cells h = in_opening cells h
+flow_behaves_by options next s.HeadingAtxAtBreak cells h = heading.at_break cells h
+flow_behaves_by options next s.HeadingAtxSequenceFurther cells h = in_heading Hashes cells h
+flow_behaves_by options next s.HeadingAtxData cells h = in_heading Text cells h
+flow_behaves_by options next s.SpaceOrTabStart cells h = white_at cells h
+flow_behaves_by options next s.SpaceOrTabInside cells h = inside_white cells h
+flow_behaves_by options next s.SpaceOrTabAfter cells h = after_white cells h
+flow_behaves_by options next s.ThematicBreakStart cells h = break_at options cells h
+flow_behaves_by options next s.ThematicBreakBefore cells h = before_marker cells h
+flow_behaves_by options next s.ThematicBreakAtBreak cells h = at_break cells h
+flow_behaves_by options next s.ThematicBreakSequence cells h = in_break Marks cells h
+flow_behaves_by options next _ cells h = Refuses h.scratch h.flags
+
+-- where all further lines follow behind it
 abbrev pub flow_behaves : ParseOptions → Behaviour
-flow_behaves options s.BlankLineStart cells h = blank_at cells h
-flow_behaves options s.BlankLineAfter cells h = after_blank cells h
-flow_behaves options s.ContentChunkStart cells h = chunk_at cells h
-flow_behaves options s.ContentChunkInside cells h = inside_chunk cells h
-flow_behaves options s.BlockQuoteStart cells h = quote_at options cells h
-flow_behaves options s.BlockQuoteContStart cells h = prefix_at options cells h
-flow_behaves options s.BlockQuoteContBefore cells h = at_marker cells h
-flow_behaves options s.BlockQuoteContAfter cells h = behind_marker cells h
-flow_behaves options s.DocumentContainerExistingBefore cells h = line_then options (flow_at options) cells h
-flow_behaves options s.DocumentContainerExistingAfter cells h = line_then options (flow_at options) cells (record h { flags = went_on h.flags })
-flow_behaves options s.DocumentContainerNewBefore cells h = new_of options (flow_at options) cells h
-flow_behaves options s.DocumentContainerNewAfter cells h = new_of options (flow_at options) cells (quote_opened h)
-flow_behaves options s.DocumentContainersAfter cells h = behind_containers options (flow_at options) cells h
-flow_behaves options s.DocumentFlowEnd cells h = line_ended (flow_at options) cells h
-flow_behaves options s.FlowStart cells h = leaf_of options (flow_at options) cells h
-flow_behaves options s.FlowBlankLineBefore cells h = leaf_of options (flow_at options) cells h
-flow_behaves options s.FlowBeforeHeadingAtx cells h = nonblank_of options (flow_at options) cells h
-flow_behaves options s.FlowBeforeThematicBreak cells h = break_of options (flow_at options) cells h
-flow_behaves options s.FlowBeforeContent cells h = content_of (flow_at options) cells h
-flow_behaves options s.FlowBlankLineAfter cells h = blank_ended (flow_at options) cells h
-flow_behaves options s.FlowAfter cells h = line_ended (flow_at options) cells h
-flow_behaves options s.HeadingAtxStart cells h = heading_at options cells h
-flow_behaves options s.HeadingAtxBefore cells h = before_opening cells h
-flow_behaves options s.HeadingAtxSequenceOpen cells h = in_opening cells h
-flow_behaves options s.HeadingAtxAtBreak cells h = heading.at_break cells h
-flow_behaves options s.HeadingAtxSequenceFurther cells h = in_heading Hashes cells h
-flow_behaves options s.HeadingAtxData cells h = in_heading Text cells h
-flow_behaves options s.SpaceOrTabStart cells h = white_at cells h
-flow_behaves options s.SpaceOrTabInside cells h = inside_white cells h
-flow_behaves options s.SpaceOrTabAfter cells h = after_white cells h
-flow_behaves options s.ThematicBreakStart cells h = break_at options cells h
-flow_behaves options s.ThematicBreakBefore cells h = before_marker cells h
-flow_behaves options s.ThematicBreakAtBreak cells h = at_break cells h
-flow_behaves options s.ThematicBreakSequence cells h = in_break Marks cells h
-flow_behaves options _ cells h = Refuses h.scratch h.flags
+flow_behaves options = flow_behaves_by options (flow_at options)
