@@ -12,21 +12,21 @@ use Rattle.md_engine.specs.declared.resolve.Name.TheVariants as r
 use Rattle.md_engine.specs.declared.state.Name.{Name as StateName}
 use Rattle.md_engine.specs.declared.state.Name.TheVariants as s
 use Rattle.md_engine.specs.declared.state.State.{State}
-use Rattle.md_engine.specs.declared.state.State.TheVariants.{Next}
+use Rattle.md_engine.specs.declared.state.State.TheVariants.{Error, Ok, Nok, Next, Retry}
 use Rattle.md_engine.specs.declared.tokenizer.Container.{Container}
 use Rattle.md_engine.specs.declared.tokenizer.ContainerKind.{ContainerKind}
 use Rattle.md_engine.specs.declared.tokenizer.ContainerKind.TheVariants as kind
 use Rattle.md_engine.specs.declared.tokenizer.Frame.{Frame}
 use Rattle.md_engine.specs.Ends.{ends_at, name_of, point_of, put}
 use Rattle.md_engine.specs.Found.{Found, nothing, with_found}
-use Rattle.md_engine.specs.Meaning.{Accepts, comes_to, here}
-use Rattle.md_engine.specs.Run.{Flushes, Resolution, Resolved, Runs, goes_back, left, plain, reading}
+use Rattle.md_engine.specs.Meaning.{Accepts, comes_to, goes, here}
+use Rattle.md_engine.specs.Run.{Flushes, IsEnd, Resolution, Resolved, Runs, goes_back, left, plain, reading}
 use Rattle.md_engine.specs.Run.Resolved.{More, NoneYet}
 use Rattle.md_engine.specs.Run.Runs.{Stays, ThenCalls, ThenLeaves}
 use Rattle.md_engine.specs.Scheme.{stands}
 use Rattle.md_engine.specs.TextFeed.{text_feed}
 use Rattle.md_engine.specs.World.{Setting, World, closed, closed_events, fresh, reads_to, registered, registered_before}
-use Rattle.md_engine.proofs.Keeps.{runs-setting}
+use Rattle.md_engine.proofs.Keeps.{runs-append, runs-at_end, runs-setting}
 use Rattle.md_containers.specs.Quote as quote
 use Rattle.md_content.specs.Chunks.{chunk_inside_code, content_link}
 use Rattle.md_seam.specs.Nested.{around, enter_link, exit}
@@ -38,6 +38,7 @@ use Rattle.md_seam.specs.Spaces as spaces
 use Rattle.md_seam.specs.Spaces.{ends_line, is_current, sees_white}
 use Rattle.md_seam.specs.Went.{entered, exited, taken}
 use Rattle.markdown_blocks.specs.Flow as flow
+use Rattle.markdown_blocks.specs.Fed.{FlowRan}
 use Rattle.markdown_blocks.specs.FlowReads.{FlowReads, NoHeading, NoText, ReadsContent, ReadsNone, SetsHeadings, SetsNone, text_cells, text_rows, text_setting}
 use Rattle.markdown_blocks.specs.LineFlags.{ending_name, next_container, stays}
 use Rattle.markdown_blocks.specs.Resolved.{resolved_as}
@@ -46,7 +47,8 @@ use Rattle.markdown_blocks.specs.Rows.{HeadingRow, Row, RowKind, TextRow, leaf_e
 use Rattle.markdown_blocks.specs.States.{FlowStep, flow_table_scheme, flow_went}
 use Rattle.markdown_blocks.proofs.FlowLemmas.{flow_by_line}
 use Rattle.markdown_blocks.proofs.FlowRows.{flow_at-rows}
-use Rattle.markdown_blocks.proofs.FlowRuns.{flow_outcome, flow_push}
+use Rattle.markdown_blocks.proofs.FlowRuns.{flow_flush, flow_outcome, flow_push}
+use Rattle.markdown_blocks.proofs.StandsLemmas.{flow-ran}
 
 -- Events without the end of a part.
 
@@ -487,6 +489,24 @@ flow-reads is_name R bytes options p end at found new small run f c h ch hc =
         let P : Setting → Type 0 = λ y. flow_at y.options (text_cells bytes options p) (here (fresh bytes options p)) ≡ Accepts (here f.at) [] in
         subst P kept (flow_outcome is_name R end at true found new (text_cells bytes options p) (here (fresh bytes options p)) limit pushed.1 means f)
 
+    -- the run of a push and a flush, which ends with the text
+    ends : (e : State) → IsEnd e → goes (flow_behaves at.setting.options) e (text_feed at.setting f.at.point) (here f.at) ≡ Accepts (here f.at) [] → (e ≡ Ok) × (text_feed at.setting f.at.point ≡ [])
+    ends Ok t e = (refl, cc)
+    ends Nok t e = cc
+    ends Error t e = absurd t
+    ends (Next name) t e = absurd t
+    ends (Retry name) t e = absurd t
+
+    ran_so : FlowRan bytes options p f.end f.at
+    ran_so =
+        let same : flow_at at.setting.options (text_cells bytes options p) (here (fresh bytes options p)) ≡ goes (flow_behaves at.setting.options) f.end (text_feed at.setting f.at.point) (here f.at) =
+        sym means ∙ flow_flush is_name R end at true found new limit pushed.1 f in
+        let comes : goes (flow_behaves at.setting.options) f.end (text_feed at.setting f.at.point) (here f.at) ≡ Accepts (here f.at) [] =
+        sym same ∙ flow_outcome is_name R end at true found new (text_cells bytes options p) (here (fresh bytes options p)) limit pushed.1 means f in
+        let done = ends f.end f.ends comes in
+        flow-ran is_name bytes options p f.end f.at small (runs-append (FlowStep is_name) true (Next s.DocumentContainerExistingBefore) (reads_to (fresh bytes options p) (length bytes)) end at f.end f.at (runs-at_end (FlowStep is_name) (Next s.DocumentContainerExistingBefore) (reads_to (fresh bytes options p) (length bytes)) end at run) f.runs)
+        done.0 f.none_left (ap (λ (x : Setting). text_feed x f.at.point) (sym kept) ∙ done.1)
+
     events : f.at.events ≡ rows_events (text_rows options bytes p)
     events = flow_at-rows options (text_cells bytes options p) (here (fresh bytes options p)) (here f.at) [] refl refl refl refl refl refl refl out
 
@@ -499,7 +519,11 @@ flow-reads is_name R bytes options p end at found new small run f c h ch hc =
         let P : List Event → Type 0 = λ es. Others is_no_content es in
         let Q : List Event → Type 0 = λ es. Others is_no_heading es in
         record {
+          end = f.end;
+          ended = f.at;
+          ran = ran_so;
           at = record f.at { resolvers = [] };
+          at_is = refl;
           events = events;
           setting = setting;
           frames = f.none_left;

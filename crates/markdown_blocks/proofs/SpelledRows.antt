@@ -19,6 +19,7 @@ use Rattle.md_seam.proofs.BlocksLemmas.{read-break}
 use Rattle.md_seam.proofs.RestCells.{Cut}
 use Rattle.md_seam.proofs.SpelledLemmas.{Between, Quiet, QuietOrPrefix, Roles, read-between, read-from, read-prefixes, read-quiet}
 use Rattle.markdown_blocks.specs.Change.{Change, container_name, ends_of, is_none}
+use Rattle.markdown_blocks.specs.Fed.{last_leaves, lefts, rests_from}
 use Rattle.markdown_blocks.specs.Fronted.{Contained, cut_tab, rest_from, rest_line}
 use Rattle.markdown_blocks.specs.Parsed.{IsBuilt}
 use Rattle.markdown_blocks.specs.Rows.{BlankRow, BreakRow, Group, HeadingRow, Lines, Row, RowKind, Single, TextRow, ending_events, goes_on, groups, groups_events, is_lazy, is_text, last_row, line_kind, onto_groups, onto_lines, read_lines, read_title, row_title, single_events_by, tail_events}
@@ -32,11 +33,6 @@ use Rattle.markdown_blocks.proofs.SpelledHeadings.{Begun, Whole, WithTab, read-h
 use Rattle.markdown_blocks.proofs.SpelledParagraphs.{IsRead, further-roles, prefix-roles, read-lines, read-more, read-one}
 
 -- The ends and begins of containers.
-
--- so many containers end
-abbrev pub lefts : ℕ → Reading → Reading
-lefts zero r = r
-lefts (suc size) r = lefts size (left r.outer r)
 
 lefts-one : (size : ℕ) (r : Reading) → lefts (suc size) r ≡ left (lefts size r).outer (lefts size r)
 lefts-one zero r = refl
@@ -491,11 +487,6 @@ row-read options bytes p a line row built plain is new =
 
 -- Lines, one after another.
 
--- what is left of each line, of which the first begins at this point
-abbrev pub rests_from : Point → List (List ℕ) → List Rest
-rests_from p [] = []
-rests_from p (line ∷ lines) = rest_from p line ∷ map (rest_at 0) lines
-
 -- behind an ending each begins at the first column
 pub rests-behind : (p : Point) (lines : List (List ℕ)) → p.column ≡ 1 → rests_from p lines ≡ map (rest_at 0) lines
 rests-behind p [] e = refl
@@ -571,12 +562,6 @@ follows-below options bytes p row below gs q line last built plain going leaves 
 abbrev RowsMean : ParseOptions → List ℕ → Path → Reading → List Row → Type 0
 RowsMean options bytes p last [] = ⊥
 RowsMean options bytes p last (row ∷ rows) = Means options bytes p (is_lazy (is_going p) row.change.opens row.kind) row (groups (row ∷ rows)) last
-
--- the containers that end behind the last of these lines
-abbrev pub last_leaves : List Row → List Container
-last_leaves [] = []
-last_leaves (row ∷ []) = row.leaves
-last_leaves (row ∷ next ∷ rows) = last_leaves (next ∷ rows)
 
 -- the lines behind the first stand behind what it does
 pub rows-below : (options : ParseOptions) (bytes : List ℕ) (a : Path) (p : Point) (line next : List ℕ) (lines : List (List ℕ)) (row below : Row) (rows : List Row) → IsBuilt options → IsPlain a →

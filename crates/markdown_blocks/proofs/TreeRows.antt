@@ -23,6 +23,7 @@ use Rattle.md_seam.specs.Tree.{Block, Blocks, Break, End, Heading, More, Paragra
 use Rattle.md_seam.proofs.LinesLemmas.{without_ending-onto}
 use Rattle.markdown_blocks.specs.Change.{change_by, interrupts, others_of}
 use Rattle.markdown_blocks.specs.Document.{body_point, mark_end}
+use Rattle.markdown_blocks.specs.Fed.{rests_from}
 use Rattle.markdown_blocks.specs.Fronted.{Contained, Prefixed, contained, no_prefix, one_more, prefixes_new, prefixes_on, rest_line}
 use Rattle.markdown_blocks.specs.Outlined.{are_shallow, is_shallow}
 use Rattle.markdown_blocks.specs.Parsed.{IsBuilt}
@@ -34,7 +35,7 @@ use Rattle.markdown_blocks.proofs.LineKinds.{heading-kind}
 use Rattle.markdown_blocks.proofs.LineSteps.{behind_path, contained_at, fresh-found, goes_lazy, kept_to, longer, new_line, new_path, plain-step, renewed, shut-lines, spot_by, step-contained, step-new, stepped_on}
 use Rattle.markdown_blocks.proofs.MarkLemmas.{without-mark}
 use Rattle.markdown_blocks.proofs.RowFacts as f
-use Rattle.markdown_blocks.proofs.SpelledRows.{rests_from, spelled-rows}
+use Rattle.markdown_blocks.proofs.SpelledRows.{spelled-rows}
 
 -- Simple trees.
 
