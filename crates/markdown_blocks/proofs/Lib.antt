@@ -21,6 +21,7 @@ pub mod RowLemmas
 pub mod LeafRows
 pub mod FlowRows
 pub mod LinesLeft
+pub mod LinesFed
 pub mod FlowReads
 pub mod SubstitutedLemmas
 pub mod JoinedLemmas
