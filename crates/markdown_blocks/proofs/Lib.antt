@@ -20,7 +20,6 @@ pub mod FrontRows
 pub mod RowLemmas
 pub mod LeafRows
 pub mod FlowRows
-pub mod LinesLeft
 pub mod LinesFed
 pub mod FlowReads
 pub mod SubstitutedLemmas

@@ -1,19 +1,348 @@
--- Whenever flow has fed a line of a text, the tokenizer holds what the rows of the text say.
-use Rattle.std.proofs.Common.{◌≡◌, ℕ, suc, ◌^◌, ◌<◌, Bool, true, false, List, [], length, take}
+-- Whenever a run of flow has fed a line, the tokenizer holds what the rows of the text say.
+--
+-- What is left of one line is a behaviour too, whose rule stops where the next line begins. So each call comes to what the line comes
+-- to, up to the call that takes the ending of the line; there the next line begins.
+use Rattle.std.proofs.Common.{◌≡◌, ◌^◌, ◌<◌, ◌⊎◌, inl, inr, ℕ, zero, suc, ◌+◌, Bool, true, false, cond, nat_eq, List, [], ◌∷◌, ◌++◌, length, take, drop, Option, Some, None, refl, sym, ◌∙◌, ap, subst, arith, append_assoc, append-nil, length-drop}
+use Rattle.std.proofs.lemmas.Bool.{eqb-true}
 use Rattle.md_engine.specs.declared.configuration.ParseOptions.{ParseOptions}
+use Rattle.md_engine.specs.declared.event.Event.{Event}
 use Rattle.md_engine.specs.declared.event.Point.{Point}
 use Rattle.md_engine.specs.declared.resolve.Name.{Name as ResolveName}
+use Rattle.md_engine.specs.declared.state.Name.{Name as StateName}
+use Rattle.md_engine.specs.declared.state.Name.TheVariants as s
 use Rattle.md_engine.specs.declared.state.State.{State}
-use Rattle.md_engine.specs.declared.state.State.TheVariants.{Ok}
-use Rattle.md_engine.specs.Run.{Calls, Runs}
+use Rattle.md_engine.specs.declared.state.State.TheVariants.{Next, Ok}
+use Rattle.md_engine.specs.declared.tokenizer.Frame.{Frame}
+use Rattle.md_engine.specs.Meaning.{Accepts, Behaviour, Cell, Feed, Follows, Here, Outcome, Refuses, Steps, comes_to, goes, here, resume_all}
+use Rattle.md_engine.specs.Run.{Calls, Leaves, Runs, plain, reading}
+use Rattle.md_engine.specs.Run.Runs.{Stays, ThenCalls, ThenLeaves}
+use Rattle.md_engine.specs.Scheme.{stands}
 use Rattle.md_engine.specs.TextFeed.{text_feed}
-use Rattle.md_engine.specs.World.{World, looks}
+use Rattle.md_engine.specs.World.{Setting, World, looks}
+use Rattle.md_engine.proofs.Falls.{leaves_stands}
+use Rattle.md_engine.proofs.Keeps.{leaves-keep, plain-same, runs-setting, steps-keep}
+use Rattle.md_engine.proofs.StepOf.{sees, steps-as}
+use Rattle.md_engine.proofs.TextFeed.{text-follows}
+use Rattle.md_seam.specs.Ahead.{from_ending}
+use Rattle.md_seam.specs.Nested.{pair}
+use Rattle.md_seam.specs.State.{Container}
+use Rattle.markdown_blocks.specs.Change.{ends_of, open_behind}
 use Rattle.markdown_blocks.specs.Fed.{fed, feeds, flow_begins, line_begins, not_left}
-use Rattle.markdown_blocks.specs.Rows.{rows_events}
+use Rattle.markdown_blocks.specs.FlowRule.{Rule, ended, flow_behaves_by, line_then}
+use Rattle.markdown_blocks.specs.LineFlags.{ending_name}
+use Rattle.markdown_blocks.specs.Rows.{Held, Row, closes_before, held_at, is_text, onto_rows, row_events, row_kind, row_of, rows_at, rows_events}
 use Rattle.markdown_blocks.specs.Stands.{AreOpen}
-use Rattle.markdown_blocks.specs.States.{FlowStep}
-use Rattle.markdown_blocks.specs.TextRows.{text_rows, text_setting}
-use Rattle.markdown_blocks.proofs.LinesLeft.{open_after, text_after}
+use Rattle.markdown_blocks.specs.States.{FlowStep, flow_table_scheme, flow_went}
+use Rattle.markdown_blocks.specs.TextRows.{text_cells, text_rows, text_setting}
+use Rattle.markdown_blocks.proofs.FlowLemmas.{from_ending-shrinks}
+use Rattle.markdown_blocks.proofs.FlowMeans.{Takes, ending-taken, flow-steps-by, flow_stands}
+use Rattle.markdown_blocks.proofs.FlowRows.{Begins, Done, held-shorter, leaving, line-done, next-begins, next_here, no-closes, row-adds, rows_below, text-begins}
+
+-- Behind some lines.
+
+-- which containers are open,
+abbrev pub open_after : List Container → List Row → List Container
+open_after cs [] = cs
+open_after cs (row ∷ rows) = open_after (open_behind row.change) rows
+
+-- and whether the last was text
+abbrev pub text_after : Bool → List Row → Bool
+text_after going [] = going
+text_after going (row ∷ rows) = text_after (is_text row.kind) rows
+
+-- the last of them says both
+open-last : (cs : List Container) (rows : List Row) (row : Row) → open_after cs (rows ++ row ∷ []) ≡ open_behind row.change
+open-last cs [] row = refl
+open-last cs (first ∷ rows) row = open-last (open_behind first.change) rows row
+
+text-last : (going : Bool) (rows : List Row) (row : Row) → text_after going (rows ++ row ∷ []) ≡ is_text row.kind
+text-last going [] row = refl
+text-last going (first ∷ rows) row = text-last (is_text first.kind) rows row
+
+-- no container has ended behind it yet
+not_left-last : (rows : List Row) (row : Row) → not_left (rows ++ row ∷ []) ≡ rows ++ leaving [] row ∷ []
+not_left-last [] row = refl
+not_left-last (first ∷ []) row = refl
+not_left-last (first ∷ next ∷ rows) row = ap (λ (l : List Row). first ∷ l) (not_left-last (next ∷ rows) row)
+
+-- the events of lines are those of each
+events-append : (xs ys : List Row) → rows_events (xs ++ ys) ≡ rows_events xs ++ rows_events ys
+events-append [] ys = refl
+events-append (x ∷ xs) ys = ap (λ (es : List Event). row_events x ++ es) (events-append xs ys) ∙ sym (append_assoc (row_events x) (rows_events xs) (rows_events ys))
+
+-- with one line more
+take-next : (n : ℕ) (all : List Row) (row : Row) (below : List Row) → drop n all ≡ row ∷ below → take (suc n) all ≡ take n all ++ row ∷ []
+take-next zero [] row below e = cc
+take-next zero (first ∷ all) row below e = let same : first ≡ row = cc in ap (λ (r : Row). r ∷ []) same
+take-next (suc n) [] row below e = cc
+take-next (suc n) (first ∷ all) row below e = ap (λ (l : List Row). first ∷ l) (take-next n all row below e)
+
+drop-next : (n : ℕ) (all : List Row) (row : Row) (below : List Row) → drop n all ≡ row ∷ below → drop (suc n) all ≡ below
+drop-next zero [] row below e = cc
+drop-next zero (first ∷ all) row below e = cc
+drop-next (suc n) [] row below e = cc
+drop-next (suc n) (first ∷ all) row below e = drop-next n all row below e
+
+-- One line.
+
+-- the rule that stops in front of a line, and tells what is left there: it adds a cell, so it is told from the end of the text
+abbrev line_stop : Rule
+line_stop cells h = Accepts h (record { byte = 0; after = h.point; line = record { start = 0; lazy = false; pierce = false } } ∷ cells)
+
+-- what is known where it has stopped
+abbrev AtStop : (List Cell → Here → Type 0) → Outcome → Type 0
+AtStop P (Accepts h (c ∷ cells)) = P cells h
+AtStop P _ = ⊥
+
+-- at the ending of a line, or at the end
+abbrev AtEnding : List Cell → Type 0
+AtEnding [] = Unit {0}
+AtEnding (c ∷ cs) = nat_eq c.byte 10 ≡ true
+
+from_ending-at : (cells : List Cell) → AtEnding (from_ending cells)
+from_ending-at [] = tt
+from_ending-at (c ∷ cs) = go (nat_eq c.byte 10) refl (from_ending-at cs)
+  where
+    go : (x : Bool) → nat_eq c.byte 10 ≡ x → AtEnding (from_ending cs) → AtEnding (cond x (c ∷ cs) (from_ending cs))
+    go true e h = e
+    go false e h = h
+
+-- A line begins at this place, where these cells are left and so many of all lines are before it.
+record LineAt (options : ParseOptions) (all : List Row) (n : ℕ) (left : List Cell) (h : Here) : Type 0 where
+  -- what was added in front of the ending before it, and from there on, and what is open
+  front : List Event
+  tail : List Event
+  point : Point
+  containers : List Container
+  going : Bool
+  begins : Begins front tail point containers going h
+  -- the further lines are read from here on
+  size : ℕ
+  fits : length left < size
+  rows : drop n all ≡ rows_at options size containers going left h.point
+  -- the events of the lines before it, with the ends of the containers that the line closes, and without them
+  read : front ++ (ends_of (closes_before containers (drop n all)) point ++ tail) ≡ rows_events (take n all)
+  events : h.events ≡ rows_events (not_left (take n all))
+  -- what these lines leave open
+  containers_are : containers ≡ open_after [] (take n all)
+  going_is : going ≡ text_after false (take n all)
+
+regroup : (front ends tail more : List Event) → front ++ (ends ++ (tail ++ more)) ≡ (front ++ (ends ++ tail)) ++ more
+regroup front ends tail more = simp append_assoc
+
+-- where the line has come to the begin of another, that is the next
+line-next : (options : ParseOptions) (all : List Row) (n : ℕ) (left : List Cell) (h : Here) → LineAt options all n left h → (rest : List Cell) (new : Here) → line_then options line_stop left h ≡ line_stop rest new → LineAt options all (suc n) rest new
+line-next options all n left h l rest new is = by l.size l.fits l.rows
+  where
+    x : Held
+    x = held_at options l.containers l.going left h.point
+
+    d : Done line_stop options l.front l.tail l.point (held_at options l.containers l.going left h.point) (line_then options line_stop left h)
+    d = line-done options line_stop l.front l.tail l.point l.containers l.going left h l.begins
+
+    behind : List Container
+    behind = open_behind (held_at options l.containers l.going left h.point).change
+
+    text : Bool
+    text = is_text (row_kind options (held_at options l.containers l.going left h.point).cells)
+
+    -- behind the line, with the ends of these containers
+    added : (c : Cell) (xs : List Cell) (below : List Row) (ls : List Container) → from_ending x.cells ≡ c ∷ xs → drop n all ≡ row_of options x below ∷ below →
+        d.new.events ++ (ends_of ls d.new.point ++ pair (ending_name d.new.flags.blank) d.new.point c.after) ≡ rows_events (take n all ++ leaving ls (row_of options x below) ∷ [])
+    added c xs below ls e rows =
+        let tail : List Event = pair (ending_name d.new.flags.blank) d.new.point c.after in
+        let row : List Event = row_events (leaving ls (row_of options x below)) in
+        ap (λ (es : List Event). d.new.events ++ (ends_of ls d.new.point ++ es)) (sym (append-nil tail))
+        ∙ row-adds line_stop options l.front l.tail l.point x (line_then options line_stop left h) d ls (c ∷ xs) below [] e
+        ∙ regroup l.front (ends_of x.change.closes l.point) l.tail (row ++ [])
+        ∙ ap (λ (rs : List Row). (l.front ++ (ends_of (closes_before l.containers rs) l.point ++ l.tail)) ++ (row ++ [])) (sym rows)
+        ∙ ap (λ (es : List Event). es ++ (row ++ [])) l.read
+        ∙ sym (events-append (take n all) (leaving ls (row_of options x below) ∷ []))
+
+    by : (size : ℕ) → length left < size → drop n all ≡ rows_at options size l.containers l.going left h.point → LineAt options all (suc n) rest new
+    by zero fits rows = absurd (omega arith)
+    by (suc m) fits rows = go (from_ending x.cells) refl (from_ending-at x.cells) (omega (arith, from_ending-shrinks x.cells, held-shorter options l.containers l.going left h.point)) rows
+      where
+        go : (ls : List Cell) → from_ending x.cells ≡ ls → AtEnding ls → length ls < suc m → drop n all ≡ onto_rows options x (rows_below options m behind text ls) → LineAt options all (suc n) rest new
+        go [] e stops short rows =
+            let none : line_stop rest new ≡ ended line_stop [] d.new = sym is ∙ d.is ∙ ap (λ (cells : List Cell). ended line_stop cells d.new) e in
+            absurd (subst (AtStop (λ cells k. Unit {0})) none tt)
+        go (c ∷ xs) e stops short rows =
+            let below : List Row = rows_at options m behind text xs c.after in
+            let row : Row = row_of options x below in
+            let taken : take (suc n) all ≡ take n all ++ row ∷ [] = take-next n all row below rows in
+            let dropped : drop (suc n) all ≡ below = drop-next n all row below rows in
+            let tail : List Event = pair (ending_name d.new.flags.blank) d.new.point c.after in
+            let stopped : line_stop xs (next_here c d.new) ≡ line_stop rest new =
+            sym (d.is ∙ ap (λ (cells : List Cell). ended line_stop cells d.new) e ∙ ap (λ (y : Bool). cond y (line_stop xs (next_here c d.new)) (Refuses d.new.scratch d.new.flags)) stops) ∙ is in
+            subst (AtStop (LineAt options all (suc n))) stopped (record {
+              front = d.new.events;
+              tail = tail;
+              point = d.new.point;
+              containers = behind;
+              going = text;
+              begins = next-begins behind text c d.new d.rest d.interrupt d.containers;
+              size = m;
+              fits = omega arith;
+              rows = dropped;
+              read = ap (λ (rs : List Row). d.new.events ++ (ends_of (closes_before behind rs) d.new.point ++ tail)) dropped ∙ added c xs below (closes_before behind below) e rows ∙ ap rows_events (sym taken);
+              events = added c xs below [] e rows ∙ ap rows_events (sym (not_left-last (take n all) row)) ∙ ap (λ (rs : List Row). rows_events (not_left rs)) (sym taken);
+              containers_are = sym (ap (open_after []) taken ∙ open-last [] (take n all) row);
+              going_is = sym (ap (text_after false) taken ∙ text-last false (take n all) row);
+            })
+
+-- where a line begins there are more lines than before it
+is-further : (options : ParseOptions) (all : List Row) (n size : ℕ) (cs : List Container) (going : Bool) (left : List Cell) (p : Point) → length left < size → drop n all ≡ rows_at options size cs going left p → n < length all
+is-further options all n zero cs going left p fits rows = absurd (omega arith)
+is-further options all n (suc m) cs going left p fits rows =
+    let many = ap length rows in
+    omega (arith, many, length-drop n all)
+
+-- Calls.
+
+-- a call feeds a line or none
+none-or-ending : (name : StateName) (o : Option ℕ) → (feeds name o ≡ 0) ⊎ ((name ≡ s.DocumentFlowEnd) × (o ≡ Some 10))
+none-or-ending s.DocumentFlowEnd None = inl refl
+none-or-ending s.DocumentFlowEnd (Some b) = go (nat_eq b 10) refl
+  where
+    go : (x : Bool) → nat_eq b 10 ≡ x → (let lines : ℕ = cond x 1 0 in lines ≡ 0) ⊎ ((s.DocumentFlowEnd ≡ s.DocumentFlowEnd) × (Some b ≡ Some 10))
+    go true e = inr (refl, ap (λ (c : ℕ). Some c) (eqb-true b 10 e))
+    go false e = inl refl
+none-or-ending name o = inl refl
+
+-- So many of all lines were fed; the tokenizer comes to what is left of the line that it reads.
+record Within (options : ParseOptions) (feed : Feed) (all : List Row) (n : ℕ) (t : State) (v : World) : Type 0 where
+  at : stands flow_table_scheme v (plain t)
+  left : List Cell
+  begin : Here
+  line : LineAt options all n left begin
+  comes : comes_to (flow_behaves_by options line_stop) feed t v ≡ line_then options line_stop left begin
+
+-- a line was fed: no attempt is around, and the next begins
+record Behind (options : ParseOptions) (feed : Feed) (all : List Row) (n : ℕ) (t : State) (v : World) : Type 0 where
+  to : t ≡ Next s.DocumentContainerExistingBefore
+  frames : v.frames ≡ []
+  line : LineAt options all n (feed v.point) (here v)
+
+-- an attempt is left
+within-leaves : (options : ParseOptions) (feed : Feed) (all : List Row) (n : ℕ) (t : State) (v : World) (t' : State) (v' : World) → Within options feed all n t v → Leaves t v t' v' → Within options feed all n t' v'
+within-leaves options feed all n t v t' v' w l = record {
+  at = leaves_stands flow_table_scheme v v' t t' l w.at;
+  left = w.left;
+  begin = w.begin;
+  line = w.line;
+  comes = sym (leaves-keep (flow_behaves_by options line_stop) feed t t' v v' l) ∙ w.comes;
+}
+
+-- where a state is called
+comes-called : (options : ParseOptions) (feed : Feed) (all : List Row) (n : ℕ) (t : State) (v : World) (name : StateName) → plain t ≡ Next name → (w : Within options feed all n t v) →
+    comes_to (flow_behaves_by options line_stop) feed (Next name) v ≡ line_then options line_stop w.left w.begin
+comes-called options feed all n t v name names w =
+    let B = flow_behaves_by options line_stop in
+    ap (λ (x : State). comes_to B feed x v) (sym names) ∙ plain-same B feed v t ∙ w.comes
+
+-- a call that feeds no line
+within-calls : (is_name : ResolveName → ResolveName → Bool) (options : ParseOptions) (feed : Feed) (all : List Row) (n : ℕ) (t : State) (v : World) (t' : State) (v' : World) → Follows feed v.setting true → v.setting.options ≡ options → Within options feed all n t v →
+    (c : Calls (FlowStep is_name) true t v t' v') → feeds c.name (looks v) ≡ 0 → Within options feed all n t' v'
+within-calls is_name options feed all n t v t' v' f o w c none = record {
+  at = flow_stands is_name c.name v t' v' stood c.step;
+  left = w.left;
+  begin = w.begin;
+  line = w.line;
+  comes = sym (steps-keep (flow_behaves_by options line_stop) feed (Next c.name) t' (reading v) v' c.within (subst P o steps)) ∙ comes-called options feed all n t v c.name c.names w;
+}
+  where
+    Q : State → Type 0
+    Q x = stands flow_table_scheme v x
+
+    stood : stands flow_table_scheme v (Next c.name)
+    stood = subst Q c.names w.at
+
+    P : ParseOptions → Type 0
+    P x = Steps (flow_behaves_by x line_stop) feed (Next c.name) (reading v) t' v'
+
+    steps : Steps (flow_behaves_by v.setting.options line_stop) feed (Next c.name) (reading v) t' v'
+    steps =
+        steps-as (flow_behaves_by v.setting.options line_stop) feed (Next c.name) (flow_went is_name c.name (reading v)).to t' (reading v) (flow_went is_name c.name (reading v)).world v' c.step.to_is c.step.new_is
+        (flow-steps-by is_name feed line_stop c.name (reading v) (sees feed v true f c.may) stood none)
+
+-- the call that takes an ending
+behind-calls : (is_name : ResolveName → ResolveName → Bool) (options : ParseOptions) (feed : Feed) (all : List Row) (n : ℕ) (t : State) (v : World) (t' : State) (v' : World) → Follows feed v.setting true → v.setting.options ≡ options → Within options feed all n t v →
+    Calls (FlowStep is_name) true t v t' v' → plain t ≡ Next s.DocumentFlowEnd → FlowStep is_name s.DocumentFlowEnd (reading v) t' v' → looks v ≡ Some 10 → Behind options feed all (suc n) t' v'
+behind-calls is_name options feed all n t v t' v' f o w c names step ten = record {
+  to = step.to_is ∙ taken.to_is;
+  frames = ap (λ (x : World). x.frames) step.new_is ∙ taken.still;
+  line = line-next options all n w.left w.begin w.line (feed v'.point) (here v') ended;
+}
+  where
+    Q : State → Type 0
+    Q x = stands flow_table_scheme v x
+
+    taken : Takes line_stop feed (reading v) (flow_went is_name s.DocumentFlowEnd (reading v)).to (flow_went is_name s.DocumentFlowEnd (reading v)).world
+    taken = ending-taken is_name feed line_stop (reading v) (sees feed v true f c.may) (subst Q names w.at) ten
+
+    ended : line_then options line_stop w.left w.begin ≡ line_stop (feed v'.point) (here v')
+    ended =
+        sym (comes-called options feed all n t v s.DocumentFlowEnd names w)
+        ∙ ap (λ (fs : List Frame). resume_all (flow_behaves_by options line_stop) feed v.events fs (goes (flow_behaves_by options line_stop) (Next s.DocumentFlowEnd) (feed v.point) (here v))) taken.frames
+        ∙ ap (λ (x : ParseOptions). goes (flow_behaves_by x line_stop) (Next s.DocumentFlowEnd) (feed v.point) (here v)) (sym o)
+        ∙ taken.goes_on
+        ∙ ap (λ (x : World). line_stop (feed x.point) (here x)) (sym step.new_is)
+
+-- by the state that is called
+behind-feed : (is_name : ResolveName → ResolveName → Bool) (options : ParseOptions) (feed : Feed) (all : List Row) (n : ℕ) (t : State) (v : World) (t' : State) (v' : World) → Follows feed v.setting true → v.setting.options ≡ options → Within options feed all n t v →
+    (c : Calls (FlowStep is_name) true t v t' v') → c.name ≡ s.DocumentFlowEnd → looks v ≡ Some 10 → Behind options feed all (suc n) t' v'
+behind-feed is_name options feed all n t v t' v' f o w c e ten =
+    let P : StateName → Type 0 = λ x. FlowStep is_name x (reading v) t' v' in
+    behind-calls is_name options feed all n t v t' v' f o w c (c.names ∙ ap (λ (x : StateName). Next x) e) (subst P e c.step) ten
+
+-- there the tokenizer reads the next line
+behind-within : (options : ParseOptions) (feed : Feed) (all : List Row) (n : ℕ) (t : State) (v : World) → stands flow_table_scheme v (plain t) → Behind options feed all n t v → Within options feed all n t v
+behind-within options feed all n t v at b = record {
+  at = at;
+  left = feed v.point;
+  begin = here v;
+  line = b.line;
+  comes = ap (λ (x : State). comes_to (flow_behaves_by options line_stop) feed x v) b.to
+      ∙ ap (λ (fs : List Frame). resume_all (flow_behaves_by options line_stop) feed v.events fs (line_then options line_stop (feed v.point) (here v))) b.frames;
+}
+
+-- so any call leads on
+within-next : (is_name : ResolveName → ResolveName → Bool) (options : ParseOptions) (feed : Feed) (all : List Row) (n : ℕ) (t : State) (v : World) (t' : State) (v' : World) → Follows feed v.setting true → v.setting.options ≡ options → Within options feed all n t v →
+    (c : Calls (FlowStep is_name) true t v t' v') → Within options feed all (feeds c.name (looks v) + n) t' v'
+within-next is_name options feed all n t v t' v' f o w c = go (none-or-ending c.name (looks v))
+  where
+    P : ℕ → Type 0
+    P k = Within options feed all k t' v'
+
+    Q : State → Type 0
+    Q x = stands flow_table_scheme v x
+
+    at : stands flow_table_scheme v' (plain t')
+    at = flow_stands is_name c.name v t' v' (subst Q c.names w.at) c.step
+
+    go : (feeds c.name (looks v) ≡ 0) ⊎ ((c.name ≡ s.DocumentFlowEnd) × (looks v ≡ Some 10)) → Within options feed all (feeds c.name (looks v) + n) t' v'
+    go (inl none) =
+        let same : n ≡ feeds c.name (looks v) + n = omega (arith, none) in
+        subst P same (within-calls is_name options feed all n t v t' v' f o w c none)
+    go (inr one) =
+        let lines : feeds c.name (looks v) ≡ 1 = ap (λ (x : StateName). feeds x (looks v)) one.0 ∙ ap (λ (x : Option ℕ). feeds s.DocumentFlowEnd x) one.1 in
+        let same : suc n ≡ feeds c.name (looks v) + n = omega (arith, lines) in
+        subst P same (behind-within options feed all (suc n) t' v' at (behind-feed is_name options feed all n t v t' v' f o w c one.0 one.1))
+
+-- and all of a run does
+within-run : (is_name : ResolveName → ResolveName → Bool) (options : ParseOptions) (feed : Feed) (all : List Row) (from : State) (w : World) → Follows feed w.setting true → w.setting.options ≡ options → Within options feed all 0 from w →
+    (t : State) (v : World) (run : Runs (FlowStep is_name) true from w t v) → Within options feed all (fed (FlowStep is_name) true from w t v run) t v
+within-run is_name options feed all from w f o begun t v Stays = begun
+within-run is_name options feed all from w f o begun to new (ThenLeaves t v t' v' run l) =
+    within-leaves options feed all (fed (FlowStep is_name) true from w t v run) t v t' v' (within-run is_name options feed all from w f o begun t v run) l
+within-run is_name options feed all from w f o begun to new (ThenCalls t v t' v' run c) =
+    let P : Setting → Type 0 = λ x. Follows feed x true in
+    let kept : v.setting ≡ w.setting = runs-setting (FlowStep is_name) true from w t v run in
+    within-next is_name options feed all (fed (FlowStep is_name) true from w t v run) t v t' v' (subst P (sym kept) f) (ap (λ (x : Setting). x.options) kept ∙ o)
+    (within-run is_name options feed all from w f o begun t v run) c
+
+-- A text.
 
 -- So many lines were fed, and the tokenizer stands at the begin of the next.
 pub record LineFed (bytes : List ℕ) (options : ParseOptions) (p : Point) (n : ℕ) (w : World) : Type 0 where
@@ -23,12 +352,124 @@ pub record LineFed (bytes : List ℕ) (options : ParseOptions) (p : Point) (n : 
   pub interrupt : w.flags.interrupt ≡ text_after false (take n (text_rows options bytes p))
   pub events : w.events ≡ rows_events (not_left (take n (text_rows options bytes p)))
 
+-- a call that feeds a line
+ending-fed : (name : StateName) (o : Option ℕ) → feeds name o ≡ 1 → (name ≡ s.DocumentFlowEnd) × (o ≡ Some 10)
+ending-fed name o one = go (none-or-ending name o)
+  where
+    go : (feeds name o ≡ 0) ⊎ ((name ≡ s.DocumentFlowEnd) × (o ≡ Some 10)) → (name ≡ s.DocumentFlowEnd) × (o ≡ Some 10)
+    go (inl none) = absurd (omega (arith, none, one))
+    go (inr is) = is
+
+-- its cells
+abbrev feed_of : List ℕ → ParseOptions → Point → Feed
+feed_of bytes options p = text_feed (text_setting bytes options p)
+
+text-follows_it : (bytes : List ℕ) (options : ParseOptions) (p : Point) → length bytes < 2 ^ 61 → Follows (feed_of bytes options p) (text_setting bytes options p) true
+text-follows_it bytes options p small = text-follows (text_setting bytes options p) (length bytes) true small (omega arith) (λ e. refl)
+
+-- a run over it reads one line after another
+text-within : (is_name : ResolveName → ResolveName → Bool) (bytes : List ℕ) (options : ParseOptions) (p : Point) → length bytes < 2 ^ 61 → (t : State) (v : World) (run : Runs (FlowStep is_name) true line_begins (flow_begins bytes options p) t v) →
+    Within options (feed_of bytes options p) (text_rows options bytes p) (fed (FlowStep is_name) true line_begins (flow_begins bytes options p) t v run) t v
+text-within is_name bytes options p small t v run = within-run is_name options (feed_of bytes options p) (text_rows options bytes p) line_begins (flow_begins bytes options p) (text-follows_it bytes options p small) refl begun t v run
+  where
+    closed : (held_at options [] false (text_cells bytes options p) p).change.closes ≡ []
+    closed = no-closes options (text_cells bytes options p) p
+
+    begun : Within options (feed_of bytes options p) (text_rows options bytes p) 0 line_begins (flow_begins bytes options p)
+    begun = record {
+      at = ((refl, record { ok = λ s q t is up way. tt; nok = λ s q t is up. tt }), tt);
+      left = text_cells bytes options p;
+      begin = here (flow_begins bytes options p);
+      line = record {
+        front = [];
+        tail = [];
+        point = p;
+        containers = [];
+        going = false;
+        begins = text-begins (here (flow_begins bytes options p)) refl refl refl refl refl refl refl;
+        size = suc (length (text_cells bytes options p));
+        fits = omega arith;
+        rows = refl;
+        read = ap (λ (cs : List Container). ends_of cs p ++ []) closed;
+        events = refl;
+        containers_are = refl;
+        going_is = refl;
+      };
+      comes = refl;
+    }
+
+-- whenever it has fed a line, it stands at the begin of the next
 pub line-fed : (is_name : ResolveName → ResolveName → Bool) (bytes : List ℕ) (options : ParseOptions) (p : Point) → length bytes < 2 ^ 61 →
     (t : State) (v : World) (t' : State) (v' : World) (run : Runs (FlowStep is_name) true line_begins (flow_begins bytes options p) t v) (calls : Calls (FlowStep is_name) true t v t' v') →
     feeds calls.name (looks v) ≡ 1 → LineFed bytes options p (suc (fed (FlowStep is_name) true line_begins (flow_begins bytes options p) t v run)) v'
-line-fed = ?
+line-fed is_name bytes options p small t v t' v' run c one = record {
+  frames = b.frames;
+  further = is-further options (text_rows options bytes p) (suc n) b.line.size b.line.containers b.line.going (feed_of bytes options p v'.point) v'.point b.line.fits b.line.rows;
+  containers = let P : List Container → Type 0 = λ cs. AreOpen v'.flags.containers cs in subst P b.line.containers_are b.line.begins.containers;
+  interrupt = b.line.begins.interrupt ∙ b.line.going_is;
+  events = b.line.events;
+}
+  where
+    n : ℕ
+    n = fed (FlowStep is_name) true line_begins (flow_begins bytes options p) t v run
 
+    kept : v.setting ≡ text_setting bytes options p
+    kept = runs-setting (FlowStep is_name) true line_begins (flow_begins bytes options p) t v run
+
+    ending : (c.name ≡ s.DocumentFlowEnd) × (looks v ≡ Some 10)
+    ending = ending-fed c.name (looks v) one
+
+    b : Behind options (feed_of bytes options p) (text_rows options bytes p) (suc n) t' v'
+    b =
+        let P : Setting → Type 0 = λ x. Follows (feed_of bytes options p) x true in
+        behind-feed is_name options (feed_of bytes options p) (text_rows options bytes p) n t v t' v' (subst P (sym kept) (text-follows_it bytes options p small)) (ap (λ (x : Setting). x.options) kept)
+        (text-within is_name bytes options p small t v run) c ending.0 ending.1
+
+-- The last line.
+
+-- where a line comes to the end of the text, it is the last
+line-last : (options : ParseOptions) (all : List Row) (n : ℕ) (left : List Cell) (h : Here) → LineAt options all n left h → (new : Here) → line_then options line_stop left h ≡ Accepts new [] → suc n ≡ length all
+line-last options all n left h l new is = by l.size l.fits l.rows
+  where
+    x : Held
+    x = held_at options l.containers l.going left h.point
+
+    d : Done line_stop options l.front l.tail l.point (held_at options l.containers l.going left h.point) (line_then options line_stop left h)
+    d = line-done options line_stop l.front l.tail l.point l.containers l.going left h l.begins
+
+    behind : List Container
+    behind = open_behind (held_at options l.containers l.going left h.point).change
+
+    text : Bool
+    text = is_text (row_kind options (held_at options l.containers l.going left h.point).cells)
+
+    by : (size : ℕ) → length left < size → drop n all ≡ rows_at options size l.containers l.going left h.point → suc n ≡ length all
+    by zero fits rows = absurd (omega arith)
+    by (suc m) fits rows = go (from_ending x.cells) refl (from_ending-at x.cells) rows
+      where
+        go : (ls : List Cell) → from_ending x.cells ≡ ls → AtEnding ls → drop n all ≡ onto_rows options x (rows_below options m behind text ls) → suc n ≡ length all
+        go [] e stops rows = let one = ap length rows in omega (arith, one, length-drop n all)
+        go (c ∷ xs) e stops rows =
+            let stopped : Accepts new [] ≡ line_stop xs (next_here c d.new) =
+            sym is ∙ d.is ∙ ap (λ (cells : List Cell). ended line_stop cells d.new) e ∙ ap (λ (y : Bool). cond y (line_stop xs (next_here c d.new)) (Refuses d.new.scratch d.new.flags)) stops in
+            absurd (subst (AtStop (λ cells k. Unit {0})) (sym stopped) tt)
+
+-- a run that ends with the text has fed all lines but the last
 pub lines-fed : (is_name : ResolveName → ResolveName → Bool) (bytes : List ℕ) (options : ParseOptions) (p : Point) → length bytes < 2 ^ 61 →
     (end : State) (at : World) (run : Runs (FlowStep is_name) true line_begins (flow_begins bytes options p) end at) → end ≡ Ok → at.frames ≡ [] → text_feed (text_setting bytes options p) at.point ≡ [] →
     suc (fed (FlowStep is_name) true line_begins (flow_begins bytes options p) end at run) ≡ length (text_rows options bytes p)
-lines-fed = ?
+lines-fed is_name bytes options p small end at run ok none done =
+    line-last options (text_rows options bytes p) (fed (FlowStep is_name) true line_begins (flow_begins bytes options p) end at run) w.left w.begin w.line (here at)
+    (sym w.comes
+    ∙ ap (λ (x : State). comes_to B feed x at) ok
+    ∙ ap (λ (fs : List Frame). resume_all B feed at.events fs (Accepts (here at) (feed at.point))) none
+    ∙ ap (Accepts (here at)) done)
+  where
+    B : Behaviour
+    B = flow_behaves_by options line_stop
+
+    feed : Feed
+    feed = feed_of bytes options p
+
+    w : Within options (feed_of bytes options p) (text_rows options bytes p) (fed (FlowStep is_name) true line_begins (flow_begins bytes options p) end at run) end at
+    w = text-within is_name bytes options p small end at run

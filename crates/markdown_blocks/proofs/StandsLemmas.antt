@@ -1,5 +1,5 @@
 -- Whenever flow has fed a line of a text, the flags that it holds and what was read stand for what the lines so far come to.
-use Rattle.std.proofs.Common.{◌≡◌, ℕ, zero, suc, ◌^◌, ◌<◌, ◌≤◌, Bool, true, false, List, [], ◌∷◌, length, take, drop, refl, ap, sym, ◌∙◌, subst, arith}
+use Rattle.std.proofs.Common.{◌≡◌, ℕ, zero, suc, ◌^◌, ◌<◌, ◌≤◌, Bool, true, false, List, [], ◌∷◌, length, take, drop, refl, ap, sym, ◌∙◌, subst}
 use Rattle.md_engine.specs.declared.configuration.ParseOptions.{ParseOptions}
 use Rattle.md_engine.specs.declared.event.Point.{Point}
 use Rattle.md_engine.specs.declared.resolve.Name.{Name as ResolveName}
@@ -23,7 +23,7 @@ use Rattle.markdown_blocks.specs.Stands.{AreOpen, IsPlain, StandsFor, containers
 use Rattle.markdown_blocks.specs.States.{FlowStep}
 use Rattle.markdown_blocks.specs.TextRows.{text_rows, text_setting}
 use Rattle.markdown_blocks.proofs.LinesFed.{LineFed, line-fed, lines-fed}
-use Rattle.markdown_blocks.proofs.LinesLeft.{open_after, text_after}
+use Rattle.markdown_blocks.proofs.LinesFed.{open_after, text_after}
 use Rattle.markdown_blocks.proofs.LineSteps.{containers-step, going-step, plain-step}
 use Rattle.markdown_blocks.proofs.RowFacts as f
 use Rattle.markdown_blocks.proofs.RowLemmas.{fresh-rows}
