@@ -9,7 +9,7 @@ use plain_body::Plain;
 use std::{env, io};
 
 /// So many letters where no argument says it.
-const MOST: usize = 5;
+const MOST: usize = 7;
 
 fn main(rt: HostRuntime) -> io::Result<()> {
     let mut most = MOST;
