@@ -23,14 +23,14 @@ use Rattle.md_engine.proofs.Falls.{leaves_stands}
 use Rattle.md_engine.proofs.Keeps.{leaves-keep, plain-same, runs-setting, steps-keep}
 use Rattle.md_engine.proofs.StepOf.{sees, steps-as}
 use Rattle.md_engine.proofs.TextFeed.{text-follows}
-use Rattle.md_seam.specs.Ahead.{from_ending}
+use Rattle.md_seam.specs.Ahead.{from_ending, line_end}
 use Rattle.md_seam.specs.Nested.{pair}
 use Rattle.md_seam.specs.State.{Container}
 use Rattle.markdown_blocks.specs.Change.{ends_of, open_behind}
-use Rattle.markdown_blocks.specs.Fed.{fed, feeds, flow_begins, line_begins, not_left}
+use Rattle.markdown_blocks.specs.Fed.{fed, feeds, flow_begins, line_begins, not_left, place_behind}
 use Rattle.markdown_blocks.specs.FlowRule.{Rule, ended, flow_behaves_by, line_then}
 use Rattle.markdown_blocks.specs.LineFlags.{ending_name}
-use Rattle.markdown_blocks.specs.Rows.{Held, Row, closes_before, held_at, is_text, onto_rows, row_events, row_kind, row_of, rows_at, rows_events}
+use Rattle.markdown_blocks.specs.Rows.{Held, Row, after_ending, behind_row, closes_before, held_at, is_text, onto_rows, row_events, row_kind, row_of, rows_at, rows_events}
 use Rattle.markdown_blocks.specs.Stands.{AreOpen}
 use Rattle.markdown_blocks.specs.States.{FlowStep, flow_table_scheme, flow_went}
 use Rattle.markdown_blocks.specs.TextRows.{text_cells, text_rows, text_setting}
@@ -50,7 +50,7 @@ abbrev pub text_after : Bool → List Row → Bool
 text_after going [] = going
 text_after going (row ∷ rows) = text_after (is_text row.kind) rows
 
--- the last of them says both
+-- the last of them says these, and where the next begins
 open-last : (cs : List Container) (rows : List Row) (row : Row) → open_after cs (rows ++ row ∷ []) ≡ open_behind row.change
 open-last cs [] row = refl
 open-last cs (first ∷ rows) row = open-last (open_behind first.change) rows row
@@ -58,6 +58,10 @@ open-last cs (first ∷ rows) row = open-last (open_behind first.change) rows ro
 text-last : (going : Bool) (rows : List Row) (row : Row) → text_after going (rows ++ row ∷ []) ≡ is_text row.kind
 text-last going [] row = refl
 text-last going (first ∷ rows) row = text-last (is_text first.kind) rows row
+
+place-last : (p : Point) (rows : List Row) (row : Row) → place_behind p (rows ++ row ∷ []) ≡ behind_row row
+place-last p [] row = refl
+place-last p (first ∷ rows) row = place-last (behind_row first) rows row
 
 -- no container has ended behind it yet
 not_left-last : (rows : List Row) (row : Row) → not_left (rows ++ row ∷ []) ≡ rows ++ leaving [] row ∷ []
@@ -108,7 +112,7 @@ from_ending-at (c ∷ cs) = go (nat_eq c.byte 10) refl (from_ending-at cs)
     go false e h = h
 
 -- A line begins at this place, where these cells are left and so many of all lines are before it.
-record LineAt (options : ParseOptions) (all : List Row) (n : ℕ) (left : List Cell) (h : Here) : Type 0 where
+record LineAt (options : ParseOptions) (from : Point) (all : List Row) (n : ℕ) (left : List Cell) (h : Here) : Type 0 where
   -- what was added in front of the ending before it, and from there on, and what is open
   front : List Event
   tail : List Event
@@ -123,7 +127,8 @@ record LineAt (options : ParseOptions) (all : List Row) (n : ℕ) (left : List C
   -- the events of the lines before it, with the ends of the containers that the line closes, and without them
   read : front ++ (ends_of (closes_before containers (drop n all)) point ++ tail) ≡ rows_events (take n all)
   events : h.events ≡ rows_events (not_left (take n all))
-  -- what these lines leave open
+  -- where the last of them has ended, and what they leave open
+  place : h.point ≡ place_behind from (take n all)
   containers_are : containers ≡ open_after [] (take n all)
   going_is : going ≡ text_after false (take n all)
 
@@ -131,8 +136,8 @@ regroup : (front ends tail more : List Event) → front ++ (ends ++ (tail ++ mor
 regroup front ends tail more = simp append_assoc
 
 -- where the line has come to the begin of another, that is the next
-line-next : (options : ParseOptions) (all : List Row) (n : ℕ) (left : List Cell) (h : Here) → LineAt options all n left h → (rest : List Cell) (new : Here) → line_then options line_stop left h ≡ line_stop rest new → LineAt options all (suc n) rest new
-line-next options all n left h l rest new is = by l.size l.fits l.rows
+line-next : (options : ParseOptions) (from : Point) (all : List Row) (n : ℕ) (left : List Cell) (h : Here) → LineAt options from all n left h → (rest : List Cell) (new : Here) → line_then options line_stop left h ≡ line_stop rest new → LineAt options from all (suc n) rest new
+line-next options from all n left h l rest new is = by l.size l.fits l.rows
   where
     x : Held
     x = held_at options l.containers l.going left h.point
@@ -159,11 +164,11 @@ line-next options all n left h l rest new is = by l.size l.fits l.rows
         ∙ ap (λ (es : List Event). es ++ (row ++ [])) l.read
         ∙ sym (events-append (take n all) (leaving ls (row_of options x below) ∷ []))
 
-    by : (size : ℕ) → length left < size → drop n all ≡ rows_at options size l.containers l.going left h.point → LineAt options all (suc n) rest new
+    by : (size : ℕ) → length left < size → drop n all ≡ rows_at options size l.containers l.going left h.point → LineAt options from all (suc n) rest new
     by zero fits rows = absurd (omega arith)
     by (suc m) fits rows = go (from_ending x.cells) refl (from_ending-at x.cells) (omega (arith, from_ending-shrinks x.cells, held-shorter options l.containers l.going left h.point)) rows
       where
-        go : (ls : List Cell) → from_ending x.cells ≡ ls → AtEnding ls → length ls < suc m → drop n all ≡ onto_rows options x (rows_below options m behind text ls) → LineAt options all (suc n) rest new
+        go : (ls : List Cell) → from_ending x.cells ≡ ls → AtEnding ls → length ls < suc m → drop n all ≡ onto_rows options x (rows_below options m behind text ls) → LineAt options from all (suc n) rest new
         go [] e stops short rows =
             let none : line_stop rest new ≡ ended line_stop [] d.new = sym is ∙ d.is ∙ ap (λ (cells : List Cell). ended line_stop cells d.new) e in
             absurd (subst (AtStop (λ cells k. Unit {0})) none tt)
@@ -175,7 +180,7 @@ line-next options all n left h l rest new is = by l.size l.fits l.rows
             let tail : List Event = pair (ending_name d.new.flags.blank) d.new.point c.after in
             let stopped : line_stop xs (next_here c d.new) ≡ line_stop rest new =
             sym (d.is ∙ ap (λ (cells : List Cell). ended line_stop cells d.new) e ∙ ap (λ (y : Bool). cond y (line_stop xs (next_here c d.new)) (Refuses d.new.scratch d.new.flags)) stops) ∙ is in
-            subst (AtStop (LineAt options all (suc n))) stopped (record {
+            subst (AtStop (LineAt options from all (suc n))) stopped (record {
               front = d.new.events;
               tail = tail;
               point = d.new.point;
@@ -187,6 +192,7 @@ line-next options all n left h l rest new is = by l.size l.fits l.rows
               rows = dropped;
               read = ap (λ (rs : List Row). d.new.events ++ (ends_of (closes_before behind rs) d.new.point ++ tail)) dropped ∙ added c xs below (closes_before behind below) e rows ∙ ap rows_events (sym taken);
               events = added c xs below [] e rows ∙ ap rows_events (sym (not_left-last (take n all) row)) ∙ ap (λ (rs : List Row). rows_events (not_left rs)) (sym taken);
+              place = ap (λ (ls : List Cell). elim (after_ending ls) [ None ↦ line_end x.cells x.point | Some q ↦ q ]) (sym e) ∙ sym (ap (place_behind from) taken ∙ place-last from (take n all) row);
               containers_are = sym (ap (open_after []) taken ∙ open-last [] (take n all) row);
               going_is = sym (ap (text_after false) taken ∙ text-last false (take n all) row);
             })
@@ -211,22 +217,22 @@ none-or-ending s.DocumentFlowEnd (Some b) = go (nat_eq b 10) refl
 none-or-ending name o = inl refl
 
 -- So many of all lines were fed; the tokenizer comes to what is left of the line that it reads.
-record Within (options : ParseOptions) (feed : Feed) (all : List Row) (n : ℕ) (t : State) (v : World) : Type 0 where
+record Within (options : ParseOptions) (feed : Feed) (from : Point) (all : List Row) (n : ℕ) (t : State) (v : World) : Type 0 where
   at : stands flow_table_scheme v (plain t)
   left : List Cell
   begin : Here
-  line : LineAt options all n left begin
+  line : LineAt options from all n left begin
   comes : comes_to (flow_behaves_by options line_stop) feed t v ≡ line_then options line_stop left begin
 
 -- a line was fed: no attempt is around, and the next begins
-record Behind (options : ParseOptions) (feed : Feed) (all : List Row) (n : ℕ) (t : State) (v : World) : Type 0 where
+record Behind (options : ParseOptions) (feed : Feed) (from : Point) (all : List Row) (n : ℕ) (t : State) (v : World) : Type 0 where
   to : t ≡ Next s.DocumentContainerExistingBefore
   frames : v.frames ≡ []
-  line : LineAt options all n (feed v.point) (here v)
+  line : LineAt options from all n (feed v.point) (here v)
 
 -- an attempt is left
-within-leaves : (options : ParseOptions) (feed : Feed) (all : List Row) (n : ℕ) (t : State) (v : World) (t' : State) (v' : World) → Within options feed all n t v → Leaves t v t' v' → Within options feed all n t' v'
-within-leaves options feed all n t v t' v' w l = record {
+within-leaves : (options : ParseOptions) (feed : Feed) (from : Point) (all : List Row) (n : ℕ) (t : State) (v : World) (t' : State) (v' : World) → Within options feed from all n t v → Leaves t v t' v' → Within options feed from all n t' v'
+within-leaves options feed from all n t v t' v' w l = record {
   at = leaves_stands flow_table_scheme v v' t t' l w.at;
   left = w.left;
   begin = w.begin;
@@ -235,21 +241,21 @@ within-leaves options feed all n t v t' v' w l = record {
 }
 
 -- where a state is called
-comes-called : (options : ParseOptions) (feed : Feed) (all : List Row) (n : ℕ) (t : State) (v : World) (name : StateName) → plain t ≡ Next name → (w : Within options feed all n t v) →
+comes-called : (options : ParseOptions) (feed : Feed) (from : Point) (all : List Row) (n : ℕ) (t : State) (v : World) (name : StateName) → plain t ≡ Next name → (w : Within options feed from all n t v) →
     comes_to (flow_behaves_by options line_stop) feed (Next name) v ≡ line_then options line_stop w.left w.begin
-comes-called options feed all n t v name names w =
+comes-called options feed from all n t v name names w =
     let B = flow_behaves_by options line_stop in
     ap (λ (x : State). comes_to B feed x v) (sym names) ∙ plain-same B feed v t ∙ w.comes
 
 -- a call that feeds no line
-within-calls : (is_name : ResolveName → ResolveName → Bool) (options : ParseOptions) (feed : Feed) (all : List Row) (n : ℕ) (t : State) (v : World) (t' : State) (v' : World) → Follows feed v.setting true → v.setting.options ≡ options → Within options feed all n t v →
-    (c : Calls (FlowStep is_name) true t v t' v') → feeds c.name (looks v) ≡ 0 → Within options feed all n t' v'
-within-calls is_name options feed all n t v t' v' f o w c none = record {
+within-calls : (is_name : ResolveName → ResolveName → Bool) (options : ParseOptions) (feed : Feed) (from : Point) (all : List Row) (n : ℕ) (t : State) (v : World) (t' : State) (v' : World) → Follows feed v.setting true → v.setting.options ≡ options → Within options feed from all n t v →
+    (c : Calls (FlowStep is_name) true t v t' v') → feeds c.name (looks v) ≡ 0 → Within options feed from all n t' v'
+within-calls is_name options feed from all n t v t' v' f o w c none = record {
   at = flow_stands is_name c.name v t' v' stood c.step;
   left = w.left;
   begin = w.begin;
   line = w.line;
-  comes = sym (steps-keep (flow_behaves_by options line_stop) feed (Next c.name) t' (reading v) v' c.within (subst P o steps)) ∙ comes-called options feed all n t v c.name c.names w;
+  comes = sym (steps-keep (flow_behaves_by options line_stop) feed (Next c.name) t' (reading v) v' c.within (subst P o steps)) ∙ comes-called options feed from all n t v c.name c.names w;
 }
   where
     Q : State → Type 0
@@ -267,12 +273,12 @@ within-calls is_name options feed all n t v t' v' f o w c none = record {
         (flow-steps-by is_name feed line_stop c.name (reading v) (sees feed v true f c.may) stood none)
 
 -- the call that takes an ending
-behind-calls : (is_name : ResolveName → ResolveName → Bool) (options : ParseOptions) (feed : Feed) (all : List Row) (n : ℕ) (t : State) (v : World) (t' : State) (v' : World) → Follows feed v.setting true → v.setting.options ≡ options → Within options feed all n t v →
-    Calls (FlowStep is_name) true t v t' v' → plain t ≡ Next s.DocumentFlowEnd → FlowStep is_name s.DocumentFlowEnd (reading v) t' v' → looks v ≡ Some 10 → Behind options feed all (suc n) t' v'
-behind-calls is_name options feed all n t v t' v' f o w c names step ten = record {
+behind-calls : (is_name : ResolveName → ResolveName → Bool) (options : ParseOptions) (feed : Feed) (from : Point) (all : List Row) (n : ℕ) (t : State) (v : World) (t' : State) (v' : World) → Follows feed v.setting true → v.setting.options ≡ options → Within options feed from all n t v →
+    Calls (FlowStep is_name) true t v t' v' → plain t ≡ Next s.DocumentFlowEnd → FlowStep is_name s.DocumentFlowEnd (reading v) t' v' → looks v ≡ Some 10 → Behind options feed from all (suc n) t' v'
+behind-calls is_name options feed from all n t v t' v' f o w c names step ten = record {
   to = step.to_is ∙ taken.to_is;
   frames = ap (λ (x : World). x.frames) step.new_is ∙ taken.still;
-  line = line-next options all n w.left w.begin w.line (feed v'.point) (here v') ended;
+  line = line-next options from all n w.left w.begin w.line (feed v'.point) (here v') ended;
 }
   where
     Q : State → Type 0
@@ -283,22 +289,22 @@ behind-calls is_name options feed all n t v t' v' f o w c names step ten = recor
 
     ended : line_then options line_stop w.left w.begin ≡ line_stop (feed v'.point) (here v')
     ended =
-        sym (comes-called options feed all n t v s.DocumentFlowEnd names w)
+        sym (comes-called options feed from all n t v s.DocumentFlowEnd names w)
         ∙ ap (λ (fs : List Frame). resume_all (flow_behaves_by options line_stop) feed v.events fs (goes (flow_behaves_by options line_stop) (Next s.DocumentFlowEnd) (feed v.point) (here v))) taken.frames
         ∙ ap (λ (x : ParseOptions). goes (flow_behaves_by x line_stop) (Next s.DocumentFlowEnd) (feed v.point) (here v)) (sym o)
         ∙ taken.goes_on
         ∙ ap (λ (x : World). line_stop (feed x.point) (here x)) (sym step.new_is)
 
 -- by the state that is called
-behind-feed : (is_name : ResolveName → ResolveName → Bool) (options : ParseOptions) (feed : Feed) (all : List Row) (n : ℕ) (t : State) (v : World) (t' : State) (v' : World) → Follows feed v.setting true → v.setting.options ≡ options → Within options feed all n t v →
-    (c : Calls (FlowStep is_name) true t v t' v') → c.name ≡ s.DocumentFlowEnd → looks v ≡ Some 10 → Behind options feed all (suc n) t' v'
-behind-feed is_name options feed all n t v t' v' f o w c e ten =
+behind-feed : (is_name : ResolveName → ResolveName → Bool) (options : ParseOptions) (feed : Feed) (from : Point) (all : List Row) (n : ℕ) (t : State) (v : World) (t' : State) (v' : World) → Follows feed v.setting true → v.setting.options ≡ options → Within options feed from all n t v →
+    (c : Calls (FlowStep is_name) true t v t' v') → c.name ≡ s.DocumentFlowEnd → looks v ≡ Some 10 → Behind options feed from all (suc n) t' v'
+behind-feed is_name options feed from all n t v t' v' f o w c e ten =
     let P : StateName → Type 0 = λ x. FlowStep is_name x (reading v) t' v' in
-    behind-calls is_name options feed all n t v t' v' f o w c (c.names ∙ ap (λ (x : StateName). Next x) e) (subst P e c.step) ten
+    behind-calls is_name options feed from all n t v t' v' f o w c (c.names ∙ ap (λ (x : StateName). Next x) e) (subst P e c.step) ten
 
 -- there the tokenizer reads the next line
-behind-within : (options : ParseOptions) (feed : Feed) (all : List Row) (n : ℕ) (t : State) (v : World) → stands flow_table_scheme v (plain t) → Behind options feed all n t v → Within options feed all n t v
-behind-within options feed all n t v at b = record {
+behind-within : (options : ParseOptions) (feed : Feed) (from : Point) (all : List Row) (n : ℕ) (t : State) (v : World) → stands flow_table_scheme v (plain t) → Behind options feed from all n t v → Within options feed from all n t v
+behind-within options feed from all n t v at b = record {
   at = at;
   left = feed v.point;
   begin = here v;
@@ -308,12 +314,12 @@ behind-within options feed all n t v at b = record {
 }
 
 -- so any call leads on
-within-next : (is_name : ResolveName → ResolveName → Bool) (options : ParseOptions) (feed : Feed) (all : List Row) (n : ℕ) (t : State) (v : World) (t' : State) (v' : World) → Follows feed v.setting true → v.setting.options ≡ options → Within options feed all n t v →
-    (c : Calls (FlowStep is_name) true t v t' v') → Within options feed all (feeds c.name (looks v) + n) t' v'
-within-next is_name options feed all n t v t' v' f o w c = go (none-or-ending c.name (looks v))
+within-next : (is_name : ResolveName → ResolveName → Bool) (options : ParseOptions) (feed : Feed) (from : Point) (all : List Row) (n : ℕ) (t : State) (v : World) (t' : State) (v' : World) → Follows feed v.setting true → v.setting.options ≡ options → Within options feed from all n t v →
+    (c : Calls (FlowStep is_name) true t v t' v') → Within options feed from all (feeds c.name (looks v) + n) t' v'
+within-next is_name options feed from all n t v t' v' f o w c = go (none-or-ending c.name (looks v))
   where
     P : ℕ → Type 0
-    P k = Within options feed all k t' v'
+    P k = Within options feed from all k t' v'
 
     Q : State → Type 0
     Q x = stands flow_table_scheme v x
@@ -321,26 +327,26 @@ within-next is_name options feed all n t v t' v' f o w c = go (none-or-ending c.
     at : stands flow_table_scheme v' (plain t')
     at = flow_stands is_name c.name v t' v' (subst Q c.names w.at) c.step
 
-    go : (feeds c.name (looks v) ≡ 0) ⊎ ((c.name ≡ s.DocumentFlowEnd) × (looks v ≡ Some 10)) → Within options feed all (feeds c.name (looks v) + n) t' v'
+    go : (feeds c.name (looks v) ≡ 0) ⊎ ((c.name ≡ s.DocumentFlowEnd) × (looks v ≡ Some 10)) → Within options feed from all (feeds c.name (looks v) + n) t' v'
     go (inl none) =
         let same : n ≡ feeds c.name (looks v) + n = omega (arith, none) in
-        subst P same (within-calls is_name options feed all n t v t' v' f o w c none)
+        subst P same (within-calls is_name options feed from all n t v t' v' f o w c none)
     go (inr one) =
         let lines : feeds c.name (looks v) ≡ 1 = ap (λ (x : StateName). feeds x (looks v)) one.0 ∙ ap (λ (x : Option ℕ). feeds s.DocumentFlowEnd x) one.1 in
         let same : suc n ≡ feeds c.name (looks v) + n = omega (arith, lines) in
-        subst P same (behind-within options feed all (suc n) t' v' at (behind-feed is_name options feed all n t v t' v' f o w c one.0 one.1))
+        subst P same (behind-within options feed from all (suc n) t' v' at (behind-feed is_name options feed from all n t v t' v' f o w c one.0 one.1))
 
 -- and all of a run does
-within-run : (is_name : ResolveName → ResolveName → Bool) (options : ParseOptions) (feed : Feed) (all : List Row) (from : State) (w : World) → Follows feed w.setting true → w.setting.options ≡ options → Within options feed all 0 from w →
-    (t : State) (v : World) (run : Runs (FlowStep is_name) true from w t v) → Within options feed all (fed (FlowStep is_name) true from w t v run) t v
-within-run is_name options feed all from w f o begun t v Stays = begun
-within-run is_name options feed all from w f o begun to new (ThenLeaves t v t' v' run l) =
-    within-leaves options feed all (fed (FlowStep is_name) true from w t v run) t v t' v' (within-run is_name options feed all from w f o begun t v run) l
-within-run is_name options feed all from w f o begun to new (ThenCalls t v t' v' run c) =
+within-run : (is_name : ResolveName → ResolveName → Bool) (options : ParseOptions) (feed : Feed) (from : Point) (all : List Row) (begin : State) (w : World) → Follows feed w.setting true → w.setting.options ≡ options → Within options feed from all 0 begin w →
+    (t : State) (v : World) (run : Runs (FlowStep is_name) true begin w t v) → Within options feed from all (fed (FlowStep is_name) true begin w t v run) t v
+within-run is_name options feed from all begin w f o begun t v Stays = begun
+within-run is_name options feed from all begin w f o begun to new (ThenLeaves t v t' v' run l) =
+    within-leaves options feed from all (fed (FlowStep is_name) true begin w t v run) t v t' v' (within-run is_name options feed from all begin w f o begun t v run) l
+within-run is_name options feed from all begin w f o begun to new (ThenCalls t v t' v' run c) =
     let P : Setting → Type 0 = λ x. Follows feed x true in
-    let kept : v.setting ≡ w.setting = runs-setting (FlowStep is_name) true from w t v run in
-    within-next is_name options feed all (fed (FlowStep is_name) true from w t v run) t v t' v' (subst P (sym kept) f) (ap (λ (x : Setting). x.options) kept ∙ o)
-    (within-run is_name options feed all from w f o begun t v run) c
+    let kept : v.setting ≡ w.setting = runs-setting (FlowStep is_name) true begin w t v run in
+    within-next is_name options feed from all (fed (FlowStep is_name) true begin w t v run) t v t' v' (subst P (sym kept) f) (ap (λ (x : Setting). x.options) kept ∙ o)
+    (within-run is_name options feed from all begin w f o begun t v run) c
 
 -- A text.
 
@@ -348,6 +354,7 @@ within-run is_name options feed all from w f o begun to new (ThenCalls t v t' v'
 pub record LineFed (bytes : List ℕ) (options : ParseOptions) (p : Point) (n : ℕ) (w : World) : Type 0 where
   pub frames : w.frames ≡ []
   pub further : n < length (text_rows options bytes p)
+  pub point : w.point ≡ place_behind p (take n (text_rows options bytes p))
   pub containers : AreOpen w.flags.containers (open_after [] (take n (text_rows options bytes p)))
   pub interrupt : w.flags.interrupt ≡ text_after false (take n (text_rows options bytes p))
   pub events : w.events ≡ rows_events (not_left (take n (text_rows options bytes p)))
@@ -369,13 +376,13 @@ text-follows_it bytes options p small = text-follows (text_setting bytes options
 
 -- a run over it reads one line after another
 text-within : (is_name : ResolveName → ResolveName → Bool) (bytes : List ℕ) (options : ParseOptions) (p : Point) → length bytes < 2 ^ 61 → (t : State) (v : World) (run : Runs (FlowStep is_name) true line_begins (flow_begins bytes options p) t v) →
-    Within options (feed_of bytes options p) (text_rows options bytes p) (fed (FlowStep is_name) true line_begins (flow_begins bytes options p) t v run) t v
-text-within is_name bytes options p small t v run = within-run is_name options (feed_of bytes options p) (text_rows options bytes p) line_begins (flow_begins bytes options p) (text-follows_it bytes options p small) refl begun t v run
+    Within options (feed_of bytes options p) p (text_rows options bytes p) (fed (FlowStep is_name) true line_begins (flow_begins bytes options p) t v run) t v
+text-within is_name bytes options p small t v run = within-run is_name options (feed_of bytes options p) p (text_rows options bytes p) line_begins (flow_begins bytes options p) (text-follows_it bytes options p small) refl begun t v run
   where
     closed : (held_at options [] false (text_cells bytes options p) p).change.closes ≡ []
     closed = no-closes options (text_cells bytes options p) p
 
-    begun : Within options (feed_of bytes options p) (text_rows options bytes p) 0 line_begins (flow_begins bytes options p)
+    begun : Within options (feed_of bytes options p) p (text_rows options bytes p) 0 line_begins (flow_begins bytes options p)
     begun = record {
       at = ((refl, record { ok = λ s q t is up way. tt; nok = λ s q t is up. tt }), tt);
       left = text_cells bytes options p;
@@ -392,6 +399,7 @@ text-within is_name bytes options p small t v run = within-run is_name options (
         rows = refl;
         read = ap (λ (cs : List Container). ends_of cs p ++ []) closed;
         events = refl;
+        place = refl;
         containers_are = refl;
         going_is = refl;
       };
@@ -405,6 +413,7 @@ pub line-fed : (is_name : ResolveName → ResolveName → Bool) (bytes : List �
 line-fed is_name bytes options p small t v t' v' run c one = record {
   frames = b.frames;
   further = is-further options (text_rows options bytes p) (suc n) b.line.size b.line.containers b.line.going (feed_of bytes options p v'.point) v'.point b.line.fits b.line.rows;
+  point = b.line.place;
   containers = let P : List Container → Type 0 = λ cs. AreOpen v'.flags.containers cs in subst P b.line.containers_are b.line.begins.containers;
   interrupt = b.line.begins.interrupt ∙ b.line.going_is;
   events = b.line.events;
@@ -419,17 +428,17 @@ line-fed is_name bytes options p small t v t' v' run c one = record {
     ending : (c.name ≡ s.DocumentFlowEnd) × (looks v ≡ Some 10)
     ending = ending-fed c.name (looks v) one
 
-    b : Behind options (feed_of bytes options p) (text_rows options bytes p) (suc n) t' v'
+    b : Behind options (feed_of bytes options p) p (text_rows options bytes p) (suc n) t' v'
     b =
         let P : Setting → Type 0 = λ x. Follows (feed_of bytes options p) x true in
-        behind-feed is_name options (feed_of bytes options p) (text_rows options bytes p) n t v t' v' (subst P (sym kept) (text-follows_it bytes options p small)) (ap (λ (x : Setting). x.options) kept)
+        behind-feed is_name options (feed_of bytes options p) p (text_rows options bytes p) n t v t' v' (subst P (sym kept) (text-follows_it bytes options p small)) (ap (λ (x : Setting). x.options) kept)
         (text-within is_name bytes options p small t v run) c ending.0 ending.1
 
 -- The last line.
 
 -- where a line comes to the end of the text, it is the last
-line-last : (options : ParseOptions) (all : List Row) (n : ℕ) (left : List Cell) (h : Here) → LineAt options all n left h → (new : Here) → line_then options line_stop left h ≡ Accepts new [] → suc n ≡ length all
-line-last options all n left h l new is = by l.size l.fits l.rows
+line-last : (options : ParseOptions) (from : Point) (all : List Row) (n : ℕ) (left : List Cell) (h : Here) → LineAt options from all n left h → (new : Here) → line_then options line_stop left h ≡ Accepts new [] → suc n ≡ length all
+line-last options from all n left h l new is = by l.size l.fits l.rows
   where
     x : Held
     x = held_at options l.containers l.going left h.point
@@ -459,7 +468,7 @@ pub lines-fed : (is_name : ResolveName → ResolveName → Bool) (bytes : List �
     (end : State) (at : World) (run : Runs (FlowStep is_name) true line_begins (flow_begins bytes options p) end at) → end ≡ Ok → at.frames ≡ [] → text_feed (text_setting bytes options p) at.point ≡ [] →
     suc (fed (FlowStep is_name) true line_begins (flow_begins bytes options p) end at run) ≡ length (text_rows options bytes p)
 lines-fed is_name bytes options p small end at run ok none done =
-    line-last options (text_rows options bytes p) (fed (FlowStep is_name) true line_begins (flow_begins bytes options p) end at run) w.left w.begin w.line (here at)
+    line-last options p (text_rows options bytes p) (fed (FlowStep is_name) true line_begins (flow_begins bytes options p) end at run) w.left w.begin w.line (here at)
     (sym w.comes
     ∙ ap (λ (x : State). comes_to B feed x at) ok
     ∙ ap (λ (fs : List Frame). resume_all B feed at.events fs (Accepts (here at) (feed at.point))) none
@@ -471,5 +480,5 @@ lines-fed is_name bytes options p small end at run ok none done =
     feed : Feed
     feed = feed_of bytes options p
 
-    w : Within options (feed_of bytes options p) (text_rows options bytes p) (fed (FlowStep is_name) true line_begins (flow_begins bytes options p) end at run) end at
+    w : Within options (feed_of bytes options p) p (text_rows options bytes p) (fed (FlowStep is_name) true line_begins (flow_begins bytes options p) end at run) end at
     w = text-within is_name bytes options p small end at run

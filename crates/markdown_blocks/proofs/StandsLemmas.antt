@@ -77,7 +77,7 @@ stands-behind bytes options p n w built small index whole column is =
     let are : f.AreRows options bytes [] false p lines rows = fresh-rows options bytes p built small index whole column in
     let left = steps-left options bytes (At (spot_of End)) p n lines rows built tt are in
     let all = flags-stand options bytes p n lines rows w.flags built are (subst (AreOpen w.flags.containers) (sym left.0) is.containers) (is.interrupt ∙ sym left.1) in
-    record { frames = is.frames; further = is.further; events = is.events; reading = all.0; reads = all.2; stands = all.1 }
+    record { frames = is.frames; further = is.further; point = is.point; events = is.events; reading = all.0; reads = all.2; stands = all.1 }
 
 -- where all of it was read
 pub flow-ran : (is_name : ResolveName → ResolveName → Bool) (bytes : List ℕ) (options : ParseOptions) (p : Point) (end : State) (at : World) → length bytes < 2 ^ 61 →

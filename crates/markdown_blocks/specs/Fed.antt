@@ -20,7 +20,7 @@ use Rattle.md_seam.specs.Texts.{split_lines}
 use Rattle.md_seam.specs.Tree.{End}
 use Rattle.markdown_blocks.specs.Fronted.{rest_from}
 use Rattle.markdown_blocks.specs.Parsed.{IsBuilt}
-use Rattle.markdown_blocks.specs.Rows.{Row, groups, groups_events, rows_events}
+use Rattle.markdown_blocks.specs.Rows.{Row, behind_row, groups, groups_events, rows_events}
 use Rattle.markdown_blocks.specs.Stands.{StandsFor}
 use Rattle.markdown_blocks.specs.States.{FlowStep}
 use Rattle.markdown_blocks.specs.TextRows.{text_rows}
@@ -62,12 +62,18 @@ not_left [] = []
 not_left (row ∷ []) = record row { leaves = [] } ∷ []
 not_left (row ∷ next ∷ rows) = row ∷ not_left (next ∷ rows)
 
+-- where the line behind these begins, of which the first began at this point
+abbrev pub place_behind : Point → List Row → Point
+place_behind p [] = p
+place_behind p (row ∷ rows) = place_behind (behind_row row) rows
+
 -- So many lines of a text were fed, from a point on, and a further one begins.
 pub record StandsBehind (bytes : List ℕ) (options : ParseOptions) (p : Point) (n : ℕ) (w : World) : Type 0 where
   -- no attempt is around
   pub frames : w.frames ≡ []
-  -- behind the last ending there is a further line, perhaps an empty one
+  -- the tokenizer is behind the last ending, where there is a further line, perhaps an empty one
   pub further : n < length (text_rows options bytes p)
+  pub point : w.point ≡ place_behind p (take n (text_rows options bytes p))
   -- the events of these lines were added, but for the ends of the containers that the next line closes
   pub events : w.events ≡ rows_events (not_left (take n (text_rows options bytes p)))
   -- these, with their parts read, are read as a tree that is not closed yet,
