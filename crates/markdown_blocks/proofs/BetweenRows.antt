@@ -169,10 +169,6 @@ between-append bytes xs ys h k = all-append (λ (e : Event). is_between bytes e.
 between-more : (bytes : List ℕ) (e : Event) (es : List Event) → is_between bytes e.point.index ≡ true → AreBetween bytes es → AreBetween bytes (e ∷ es)
 between-more bytes e es h k = and_from (is_between bytes e.point.index) (list_all (λ (e : Event). is_between bytes e.point.index) es) h k
 
-between-rest : (bytes : List ℕ) (e : Event) (es : List Event) → AreBetween bytes (e ∷ es) → AreBetween bytes es
-between-rest bytes e es h =
-    let parts : (is_between bytes e.point.index ≡ true) × AreBetween bytes es = and_parts (is_between bytes e.point.index) (list_all (λ (e : Event). is_between bytes e.point.index) es) h in parts.1
-
 between-pair : (bytes : List ℕ) (name : Name) (p q : Point) → is_between bytes p.index ≡ true → is_between bytes q.index ≡ true → AreBetween bytes (pair name p q)
 between-pair bytes name p q h k = between-more bytes (enter name p) (exit name q ∷ []) h (between-more bytes (exit name q) [] k refl)
 

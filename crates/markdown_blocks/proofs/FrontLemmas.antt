@@ -57,9 +57,6 @@ prefix-balanced bytes p q es is = subst Balanced (sym is.events) (list-balanced 
 pub prefix-spans : (bytes : List ℕ) (p q : Point) (es : List Event) → IsPrefix bytes p q es → Spans p q es
 prefix-spans bytes p q es is = subst (Spans p q) (sym is.events) (list-spans p is.marker is.behind q is.indent (further is.marker is.behind is.past) is.column)
 
-pub prefix-order : (bytes : List ℕ) (p q : Point) (es : List Event) → IsPrefix bytes p q es → IsTrue (at_or_before p q)
-prefix-order bytes p q es is = at_or_before-trans p is.marker q is.indent (at_or_before-trans is.marker is.behind q (further is.marker is.behind is.past) is.column)
-
 -- What stands in front of the content of a container.
 
 -- of one that goes on,

@@ -13,7 +13,6 @@ pub mod RowFacts
 pub mod ContainedLemmas
 pub mod HeadingSpread
 pub mod LineKinds
-pub mod HeadingLines
 pub mod HeadingRuns
 pub mod RestRows
 pub mod FrontRows

@@ -479,12 +479,6 @@ row-ends : (options : ParseOptions) (bytes : List ℕ) (p : Path) (a : Point) (l
 row-ends options bytes p a line row built plain is =
     row-means options bytes p a line row [] (lefts (length row.leaves) (reading options (step options p (rest_from a line)))) built plain is (inl (record { apart = λ text. refl; reads = refl }))
 
--- a line that does not go on a paragraph, but for the containers that end behind it
-pub row-read : (options : ParseOptions) (bytes : List ℕ) (p : Path) (a : Point) (line : List ℕ) (row : Row) → IsBuilt options → IsPlain p → f.IsLine options bytes (containers_of p) (is_going p) a line row →
-    is_lazy (is_going p) row.change.opens row.kind ≡ false → read bytes (lefts (length row.change.closes) (reading options p)) (groups_events bytes (groups (row ∷ []))) ≡ lefts (length row.leaves) (reading options (step options p (rest_from a line)))
-row-read options bytes p a line row built plain is new =
-    subst (λ (x : Bool). Means options bytes p x row (groups (row ∷ [])) (lefts (length row.leaves) (reading options (step options p (rest_from a line))))) new (row-ends options bytes p a line row built plain is)
-
 -- Lines, one after another.
 
 -- behind an ending each begins at the first column

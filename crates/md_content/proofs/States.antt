@@ -3,12 +3,12 @@ use Rattle.std.proofs.Common.{◌≡◌, sym}
 use Rattle.md_engine.specs.declared.state.Name.{Name as StateName}
 use Rattle.md_engine.specs.declared.state.Name.TheVariants as n
 use Rattle.md_engine.specs.declared.state.State.TheVariants.{Next}
-use Rattle.md_engine.specs.Scheme.{Grows, stands}
+use Rattle.md_engine.specs.Scheme.{stands}
 use Rattle.md_engine.specs.World.{World, looks}
 use Rattle.md_engine.proofs.Local.{fits}
 use Rattle.md_content.specs.States.{content_owner, content_scheme, content_went}
 use Rattle.md_content.proofs.Goods.{ParagraphFits, good_inside, good_line_start, good_start}
-use Rattle.md_seam.proofs.SpacesGoods.{Does, rest-grows}
+use Rattle.md_seam.proofs.SpacesGoods.{Does}
 
 paragraph_fits : ParagraphFits content_scheme
 paragraph_fits = record { start = fits content_owner n.ParagraphStart; line_start = fits content_owner n.ParagraphLineStart; inside = fits content_owner n.ParagraphInside }
@@ -18,10 +18,3 @@ content_does n.ParagraphStart w c r = good_start content_scheme w paragraph_fits
 content_does n.ParagraphLineStart w c r = good_line_start content_scheme w paragraph_fits r
 content_does n.ParagraphInside w c r = good_inside content_scheme w w.current paragraph_fits r (sym c)
 content_does name w c r = absurd r
-
--- what each state needs still holds when more may be read
-pub content_grows : Grows content_scheme
-content_grows n.ParagraphStart x K t r up = rest-grows x K t r up
-content_grows n.ParagraphLineStart x K t r up = rest-grows x K t r up
-content_grows n.ParagraphInside x K t r up = rest-grows x K t r up
-content_grows name x K t r up = absurd r

@@ -2,7 +2,6 @@
 use Rattle.std.proofs.Common.{◌≡◌, ℕ, ◌+◌, ◌<◌, ◌≤◌, Bool, true, false, cond, List, ◌∷◌, Option, Some, None, refl, arith, ap, sym, inl, inr, ◌⊎◌, nat_lt, subst}
 use Rattle.std.proofs.lemmas.Bool.Decides.{nat_tests}
 use Rattle.md_engine.specs.declared.event.Point.{Point}
-use Rattle.md_engine.specs.declared.state.Name.{Name as StateName}
 use Rattle.md_engine.specs.declared.state.State.{State}
 use Rattle.md_engine.specs.declared.state.State.TheVariants.{Error, Ok, Nok, Next, Retry}
 use Rattle.md_engine.specs.declared.tokenizer.Frame.{Frame}
@@ -10,12 +9,9 @@ use Rattle.md_engine.specs.declared.tokenizer.Scratch.{Scratch}
 use Rattle.md_engine.specs.World.{Setting, World}
 use Rattle.md_engine.specs.Place.{seen_at}
 use Rattle.md_engine.specs.Run.{IsEnd, Leaves, goes_back, left, next_of, plain}
-use Rattle.md_engine.specs.Scheme.{After, Ends, EndsLater, Grown, Grows, Passes, Reaches, Resumes, Scheme, Spot, Tries, TriesLater, after_all, after_frame, base, cells_before, frame_level, frame_number, frame_rank, frames_work, holds, moved_to, seen, spot, spot_at, stands, state_level, state_number, state_rank, state_work, work}
+use Rattle.md_engine.specs.Scheme.{After, Ends, EndsLater, Grown, Passes, Reaches, Resumes, Scheme, Spot, Tries, TriesLater, after_all, after_frame, cells_before, frame_level, frame_number, frame_rank, frames_work, holds, moved_to, seen, spot, spot_at, stands, state_level, state_number, state_rank, state_work, work}
 use Rattle.md_engine.proofs.Points.{grown-same, grown-then, passes-reaches, passes_then, stays, then_passes, then_reaches}
 use Rattle.md_engine.proofs.Powers.{weighs}
-
-pub number-small : (T : Scheme) (n : StateName) (x : Spot) → state_number T (Next n) x < base x.setting.limit
-number-small T n x = omega arith
 
 -- what a construct owes where it ends, it owes from a later spot
 pub later_at : (P Q : Scratch → Type 0) (x : Spot) (K : After) (q : Point) (t : Setting) (s : Scratch) → Grown x.setting t → Reaches t.limit x.point q → Ends P Q x K → Ends P Q (spot_at t q s) K
@@ -34,9 +30,6 @@ passing_at P Q x K q t s g r e = record {
   nok = λ v p u is up. e.nok v p u is (grown-then x.setting t u g up);
 }
 
-pub passing : (P Q : Scratch → Type 0) (x : Spot) (K : After) (q : Point) (s : Scratch) → Reaches x.setting.limit x.point q → EndsLater P Q x K → EndsLater P Q (moved_to x q s) K
-passing P Q x K q s r e = passing_at P Q x K q x.setting s (grown-same x.setting) r e
-
 -- behind that point it may accept everywhere
 pub passed_at : (P Q : Scratch → Type 0) (x : Spot) (K : After) (q : Point) (t : Setting) (s : Scratch) → Grown x.setting t → Passes t.limit x.point q → EndsLater P Q x K → Ends P Q (spot_at t q s) K
 passed_at P Q x K q t s g r e = record {
@@ -46,10 +39,6 @@ passed_at P Q x K q t s g r e = record {
 
 pub passed : (P Q : Scratch → Type 0) (x : Spot) (K : After) (q : Point) (s : Scratch) → Passes x.setting.limit x.point q → EndsLater P Q x K → Ends P Q (moved_to x q s) K
 passed P Q x K q s r e = passed_at P Q x K q x.setting s (grown-same x.setting) r e
-
--- what may end everywhere may end later
-pub ends-later : (P Q : Scratch → Type 0) (x : Spot) (K : After) → Ends P Q x K → EndsLater P Q x K
-ends-later P Q x K e = record { ok = λ s q t is up way. e.ok s q t is up (passes-reaches t.limit x.point q way); nok = e.nok }
 
 -- what is seen stays, when more may be read
 pub seen_grows : (x : Spot) (t : Setting) (s : Scratch) (b : ℕ) → Grown x.setting t → seen x ≡ Some b → seen (spot_at t x.point s) ≡ Some b
@@ -108,10 +97,6 @@ tries_later T f P Q x K same h = record {
     go true e s q t way k = absurd (cc)
     go false e s q t way k = resumes T f f.ok (spot_at t q s) K x.point same (passes-reaches t.limit x.point q way) k h.ok_level (λ e.
         let none : cells_before q ≡ cells_before x.point = ap cells_before e in absurd (omega (arith, none, way.cells)))
-
--- more of the text may be read, between two pushes
-pub stands_grows : (T : Scheme) (w : World) (n : StateName) (t : Setting) (c : Option ℕ) → Grows T → stands T w (Next n) → Grown w.setting t → stands T (record w { setting = t; current = c }) (Next n)
-stands_grows T w n t c g h up = g n (spot w) (after_all T w.frames) t h up
 
 -- leaving an attempt
 pub resumed : (T : Scheme) (w : World) (fs : List Frame) (f : Frame) (s : State) → IsEnd s → w.frames ≡ f ∷ fs → stands T w (plain s) →

@@ -1,17 +1,9 @@
 -- What the loop keeps.
-use Rattle.std.proofs.Common.{◌≡◌, ◌≢◌, refl, ap, inl, inr, ◌⊎◌}
+use Rattle.std.proofs.Common.{◌≡◌, ◌≢◌, ap, inl, inr, ◌⊎◌}
 use Rattle.md_engine.specs.declared.state.Name.{Name as StateName}
 use Rattle.md_engine.specs.declared.state.State.{State}
 use Rattle.md_engine.specs.declared.state.State.TheVariants.{Error, Ok, Nok, Next, Retry}
 use Rattle.md_engine.specs.Run.{IsEnd, plain}
-
--- an end that does not accept refuses
-pub IsEnd-not_ok : (s : State) → IsEnd s → s ≢ Ok → s ≡ Nok
-IsEnd-not_ok Ok end h = absurd (h refl)
-IsEnd-not_ok Nok end h = refl
-IsEnd-not_ok Error end h = absurd end
-IsEnd-not_ok (Next n) end h = absurd end
-IsEnd-not_ok (Retry n) end h = absurd end
 
 -- a state that names another, by either way
 pub plain_of : (s : State) (n : StateName) → (s ≡ Next n) ⊎ (s ≡ Retry n) → plain s ≡ Next n

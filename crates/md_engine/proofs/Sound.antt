@@ -145,11 +145,6 @@ pub sound-skip : (bytes : List ℕ) (p q : Point) (limit : ℕ) (events : List E
     IsSound bytes p limit events frames skips → IsPlaced bytes q → IsSound bytes p limit events frames (skips ++ q ∷ [])
 sound-skip bytes p q limit events frames skips h k = record { placed = h.placed; readable = h.readable; right = h.right; saved = h.saved; nested = h.nested; begun = All-push (IsPlaced bytes) skips q h.begun k }
 
--- another limit
-pub sound-limit : (bytes : List ℕ) (p : Point) (limit to : ℕ) (events : List Event) (frames : List Frame) (skips : List Point) →
-    IsSound bytes p limit events frames skips → to ≤ length bytes → IsSound bytes p to events frames skips
-sound-limit bytes p limit to events frames skips h k = record { placed = h.placed; readable = k; right = h.right; saved = h.saved; nested = h.nested; begun = h.begun }
-
 -- the same, where memory may run out
 pub sound-add_if : (bytes : List ℕ) (p : Point) (limit : ℕ) (events new : List Event) (e : Event) (frames : List Frame) (skips : List Point) (b : Bool) →
     new ≡ cond b (events ++ e ∷ []) events → e.point ≡ p → IsSound bytes p limit events frames skips → IsSound bytes p limit new frames skips

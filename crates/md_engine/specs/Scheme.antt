@@ -205,7 +205,3 @@ of_owners owner = record { ready = λ n x K. (owner n).ready n x K; level = λ n
 -- states that a table does not have
 abbrev pub nowhere : Scheme
 nowhere = record { ready = λ n x K. ⊥; level = λ n. 0; rank = λ n x. 0; tries = λ n. 0 }
-
--- what a state needs still holds when more of the text may be read
-abbrev pub Grows : Scheme → Type 1
-Grows T = (n : StateName) (x : Spot) (K : After) (t : Setting) → T.ready n x K → Grown x.setting t → T.ready n (record x { setting = t }) K

@@ -1,7 +1,5 @@
 -- A heading takes a whole line, or refuses it.
-use Rattle.std.proofs.Common.{◌≡◌, ℕ, ◌+◌, Bool, true, false, cond, ◌&&◌, List, [], ◌∷◌, ◌++◌, drop, Some, None, refl, sym, ◌∙◌, ap, ap₂, arith, append_assoc}
-use Rattle.std.specs.Prelude.{nat_le}
-use Rattle.std.specs.Option.{is_some}
+use Rattle.std.proofs.Common.{◌≡◌, ℕ, Bool, true, false, cond, ◌&&◌, List, [], ◌∷◌, ◌++◌, refl, sym, ◌∙◌, ap, ap₂, append_assoc}
 use Rattle.std.proofs.lemmas.Bool.{and_parts}
 use Rattle.md_engine.specs.declared.configuration.ParseOptions.{ParseOptions}
 use Rattle.md_engine.specs.declared.event.Event.{Event}
@@ -13,9 +11,7 @@ use Rattle.md_leaves.specs.HeadingRule.{Apart, heading_at, heading_inside, in_he
 use Rattle.md_leaves.proofs.HeadingLemmas.{before-is, before-no}
 use Rattle.md_leaves.proofs.HeadingSteps.{at-none, at-off, at-white}
 use Rattle.md_seam.specs.Ahead.{begins_white, from_ending, line_bytes, line_cells, line_end, white_end, white_rest}
-use Rattle.md_seam.specs.Leaves as leaves
 use Rattle.md_seam.specs.Nested.{around, enter, pair}
-use Rattle.md_seam.specs.Rest.{Rest, has_small_indent, run_len, is_parted, trim_start}
 use Rattle.md_seam.specs.Spaces.{calmed, small_indent}
 use Rattle.md_seam.proofs.AheadLemmas.{none-end, none-rest, white-ending, white-line_end}
 use Rattle.md_seam.proofs.WhiteSteps.{behind_white}
@@ -87,20 +83,8 @@ heading-refused options cells h calm e = by options.constructs.heading_atx refl
 
 -- The definition of headings, on a line.
 
-some-if : (x : Bool) (c : leaves.Came) → is_some (cond x (Some c) None) ≡ x
-some-if true c = refl
-some-if false c = refl
-
 flat : (a s b c c' d : Bool) → c ≡ c' → (a && s && b && c && d) ≡ (a && (s && (b && (c' && d))))
 flat false s b c c' d k = refl
 flat true false b c c' d k = refl
 flat true true false c c' d k = refl
 flat true true true c c' d k = ap (λ (x : Bool). x && d) k
-
--- a line holds a heading by the definition if its indent is small, and its bytes behind the indent do
-pub defined-heading : (options : ParseOptions) (r : Rest) → is_some (leaves.heading_at options r) ≡ (options.constructs.heading_atx && (has_small_indent options r && is_heading (trim_start r.bytes)))
-unfolding leaves.heading_at
-defined-heading options r =
-    let text = trim_start r.bytes in
-    let depth = run_len 35 text in
-    some-if _ _ ∙ flat options.constructs.heading_atx (has_small_indent options r) (nat_le 1 depth) (nat_le depth 6) (nat_le (0 + depth) 6) (is_parted (drop depth text)) (ap (λ (n : ℕ). nat_le n 6) (omega arith))

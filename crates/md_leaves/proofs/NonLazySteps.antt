@@ -1,12 +1,11 @@
 -- Each state of the check that a further line is not lazy takes one step of its rule.
-use Rattle.std.proofs.Common.{◌≡◌, ◌⊎◌, ℕ, ◌<◌, ◌≤◌, Bool, true, false, nat_lt, List, [], ◌∷◌, ◌++◌, Option, Some, None, refl, sym, ◌∙◌, ap, arith, append_assoc, inl, inr}
-use Rattle.std.proofs.lemmas.Bool.Decides.{nat_tests}
+use Rattle.std.proofs.Common.{◌≡◌, ℕ, Bool, true, false, List, [], ◌∷◌, ◌++◌, Option, Some, None, refl, sym, ◌∙◌, ap, append_assoc}
 use Rattle.md_engine.specs.declared.event.Event.{Event}
 use Rattle.md_engine.specs.declared.event.Name.TheVariants.{LineEnding}
 use Rattle.md_engine.specs.declared.state.Name.TheVariants as n
 use Rattle.md_engine.specs.declared.state.State.TheVariants.{Next}
 use Rattle.md_engine.specs.declared.tokenizer.Line.{Line}
-use Rattle.md_engine.specs.Meaning.{Accepts, Behaviour, Cell, Feed, Follows, Here, Refuses, Steps, here, line_of}
+use Rattle.md_engine.specs.Meaning.{Accepts, Behaviour, Cell, Feed, Here, Refuses, Steps, here, line_of}
 use Rattle.md_engine.specs.World.{World, after}
 use Rattle.md_engine.proofs.StepOf.{Sees, ahead, moves, passes}
 use Rattle.md_leaves.specs.NonLazy.{after_code, start_code}
@@ -44,22 +43,6 @@ non_lazy_start_steps B none feed w false has s e =
     passes B feed _ _ w w refl refl (has.start _ _ ∙ ap (λ (x : List Cell). continuation_at none x (here w)) s.next ∙ ending-none feed w none (here w) w.current e)
 
 -- Behind the ending.
-
--- where a state is called at a point of the line that the parent speaks of, that is the line ahead, also with no cell left
-pub line-said : (feed : Feed) (w : World) (is_end : Bool) (none : Line) → Follows feed w.setting is_end → (is_end ≡ true) ⊎ (w.point.index < w.setting.limit) →
-    w.setting.line.start ≤ w.point.index → (is_end ≡ true → none ≡ w.setting.line) → line_of none (feed w.point) ≡ w.setting.line
-line-said feed w is_end none f may start end = go (nat_lt w.point.index w.setting.limit) refl may
-  where
-    more : w.point.index < w.setting.limit → line_of none (feed w.point) ≡ w.setting.line
-    more lt = rw (f.cell w.point lt) (f.said w.point start lt)
-
-    last : is_end ≡ true → w.setting.limit ≤ w.point.index → line_of none (feed w.point) ≡ w.setting.line
-    last e le = rw (f.none e w.point le) (end e)
-
-    go : (b : Bool) → nat_lt w.point.index w.setting.limit ≡ b → (is_end ≡ true) ⊎ (w.point.index < w.setting.limit) → line_of none (feed w.point) ≡ w.setting.line
-    go true k m = more (grind (arith, nat_tests))
-    go false k (inl e) = last e (grind (arith, nat_tests))
-    go false k (inr lt) = grind (arith, nat_tests)
 
 behind-lazy : (none : Line) (cells : List Cell) (h : Here) → is_lazy none cells ≡ true → after_ending none cells h ≡ Refuses h.scratch h.flags
 unfolding after_ending

@@ -1,6 +1,6 @@
 -- The cells of a line: what is fed from a point of a line to the line's end, and the cell of its ending.
-use Rattle.std.proofs.Common.{◌≡◌, ℕ, zero, suc, ◌+◌, ◌-◌, ◌%◌, ◌^◌, ◌<◌, ◌≤◌, Bool, true, false, cond, ◌&&◌, List, [], ◌∷◌, ◌++◌, length, take, drop, Option, Some, refl, sym, ap, ◌∙◌, subst, add-one, arith, append_assoc, drop-drop}
-use Rattle.std.specs.Prelude.{IsTrue, ◌==◌, not, nat_lt, nat_le, map, slice_get, slice_index, slice_range, if◌then◌else◌, count_by}
+use Rattle.std.proofs.Common.{◌≡◌, ℕ, zero, suc, ◌+◌, ◌-◌, ◌%◌, ◌^◌, ◌<◌, ◌≤◌, Bool, true, false, cond, ◌&&◌, List, [], ◌∷◌, ◌++◌, length, take, drop, refl, sym, ap, ◌∙◌, subst, add-one, arith, append_assoc, drop-drop}
+use Rattle.std.specs.Prelude.{IsTrue, ◌==◌, not, nat_lt, map, slice_get, slice_index, slice_range, if◌then◌else◌, count_by}
 use Rattle.std.specs.List.{list_all}
 use Rattle.std.proofs.lemmas.Bool.{eqb-true, or_parts}
 use Rattle.std.proofs.lemmas.Bool.Decides.{nat_tests}
@@ -359,14 +359,6 @@ pub record HasEnding (x : Setting) (ending : Ending) (rest : List ℕ) (p : Poin
 -- so it is where no line is said to begin elsewhere
 pub begun-none : (x : Setting) (p : Point) → x.skips ≡ [] → line_begun x p ≡ p
 begun-none x p e = ap (λ (l : List Point). begun_at (slice_get l (p.line - x.first_line)) p) e
-
--- or where it is said to begin right here
-pub begun-same : (x : Setting) (p : Point) → slice_get x.skips (p.line - x.first_line) ≡ Some p → line_begun x p ≡ p
-begun-same x p e = ap (λ (o : Option Point). begun_at o p) e ∙ go (nat_le p.index p.index)
-  where
-    go : (t : Bool) → cond t p p ≡ p
-    go true = refl
-    go false = refl
 
 -- what stands behind a CR that ends the line
 at-none : (index : ℕ) (bytes : List ℕ) → drop index bytes ≡ [] → slice_index bytes index ≡ 0

@@ -158,9 +158,6 @@ data Moves (b : ℕ) (p q : Point) : Type 0 where
   Within : q.index ≡ p.index → past_byte b q ≡ past_byte b p → Moves b p q
   Behind : q ≡ past_byte b p → Moves b p q
 
-point-eq : (p q : Point) → p.line ≡ q.line → p.column ≡ q.column → p.index ≡ q.index → p.vs ≡ q.vs → p ≡ q
-point-eq p q l c x v = λ i. record { line = l i; column = c i; index = x i; vs = v i }
-
 moves-next : (bytes : List ℕ) (p : Point) → 1 ≤ p.column → is_ending (slice_index bytes p.index) ≡ false → Moves (slice_index bytes p.index) p (next_point bytes p)
 moves-next bytes p first plain =
     let b : ℕ = slice_index bytes p.index in

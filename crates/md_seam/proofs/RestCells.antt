@@ -1,19 +1,15 @@
 -- The cells of the rest of a line, which may begin within a tab that a prefix has cut.
-use Rattle.std.proofs.Common.{◌≡◌, ℕ, zero, suc, ◌+◌, ◌-◌, ◌^◌, ◌<◌, ◌≤◌, Bool, true, false, cond, List, [], ◌∷◌, ◌++◌, length, drop, refl, sym, ap, ◌∙◌, subst, arith, append_assoc}
-use Rattle.std.specs.Prelude.{IsTrue, ◌==◌, nat_lt, slice_index}
+use Rattle.std.proofs.Common.{◌≡◌, ℕ, zero, suc, ◌+◌, ◌-◌, ◌<◌, ◌≤◌, Bool, true, false, cond, List, [], ◌∷◌, ◌++◌, length, drop, refl, sym, ap, ◌∙◌, subst, arith}
+use Rattle.std.specs.Prelude.{IsTrue, ◌==◌}
 use Rattle.std.proofs.lemmas.Bool.{eqb-true, or_parts}
-use Rattle.std.proofs.lemmas.Bool.Decides.{nat_tests}
 use Rattle.md_engine.specs.declared.event.Point.{Point}
 use Rattle.md_engine.specs.declared.tokenizer.Line.{Line}
 use Rattle.md_engine.specs.Meaning.{Cell}
-use Rattle.md_engine.specs.Place.{seen_at}
-use Rattle.md_engine.specs.TextFeed.{text_feed}
-use Rattle.md_engine.specs.World.{Setting}
 use Rattle.md_seam.specs.Ahead.{begins_white, point_after, white_end, white_rest}
 use Rattle.md_seam.specs.Places.{at_or_before, past_byte, past_text}
 use Rattle.md_seam.specs.Preamble.{rest_at}
 use Rattle.md_seam.specs.Rest.{Rest, behind, behind_indent, cut_tab, indent, is_white, lose, tab_columns, white_columns, without_column}
-use Rattle.md_seam.proofs.FeedLines.{HasLine, Stops, at-next, before-byte, before-column, behind_last, byte-one, cell, columns_more, line-feed, next_column, past-next, point_after-append, spread, spread-end, stops-white, tab-end, tab-feed, tab_cells, tab_end, tab_end-last, tab_end-next, tab_end-stop}
+use Rattle.md_seam.proofs.FeedLines.{Stops, before-byte, before-column, behind_last, byte-one, cell, columns_more, next_column, past-next, point_after-append, spread, spread-end, stops-white, tab-end, tab_cells, tab_end, tab_end-last, tab_end-next, tab_end-stop}
 use Rattle.md_seam.proofs.NestedLemmas.{at_or_before-refl, at_or_before-trans}
 use Rattle.md_seam.proofs.TextsLemmas.{NoEnding, no_ending-drop}
 use Rattle.md_seam.proofs.AheadLemmas.{none-end, none-rest}
@@ -318,23 +314,3 @@ behind-no_ending n r h = no_ending-drop n r.bytes h
 -- a line begins with all of its bytes
 pub line-at : (text behind : List ℕ) (column : ℕ) (line : List ℕ) (p : Point) → drop p.index text ≡ line ++ behind → p.vs ≡ 0 → p.column ≡ column + 1 → RestAt text behind (rest_at column line) p
 line-at text behind column line p e vs at = record { column = at; cut = vs; text_is = e }
-
-seen-cut : (bytes : List ℕ) (p : Point) → slice_index bytes p.index ≡ 9 → 0 < p.vs → seen_at bytes p ≡ 32
-seen-cut bytes p is lt = let more : nat_lt 0 p.vs ≡ true = grind (arith, nat_tests) in rw (is, more) refl
-
--- a rest is fed as its cells, as far as the text may be read
-pub rest-feed : (x : Setting) (behind : List ℕ) (r : Rest) (p : Point) → RestAt x.bytes behind r p → x.limit < 2 ^ 61 → NoEnding r.bytes → (past_cut r.spaces p).index + length r.bytes ≤ x.limit →
-    text_feed x p ≡ rest_cells x.line r p ++ text_feed x (past_rest r p)
-rest-feed x behind r p is small whole within = go r.spaces is.cut is.text_is within
-  where
-    go : (spaces : ℕ) → Cut spaces p → drop p.index x.bytes ≡ cut_tab spaces ++ r.bytes ++ behind → (past_cut spaces p).index + length r.bytes ≤ x.limit →
-        text_feed x p ≡ cells_by x.line spaces r.bytes p ++ text_feed x (past_text r.bytes (past_cut spaces p))
-    go zero cut e le = line-feed x r.bytes behind p (record { small = small; text = e; no_ending = whole; within = le; whole = cut; column = omega (arith, is.column) })
-    go (suc n) cut e le =
-        let tab : slice_index x.bytes p.index ≡ 9 = at-next p.index x.bytes 9 (r.bytes ++ behind) e in
-        let q = tab_end n p in
-        let next : HasLine x r.bytes behind q = record { small = small; text = past-next p.index x.bytes 9 (r.bytes ++ behind) e; no_ending = whole; within = le; whole = refl; column = omega arith } in
-        tab-feed x n p small (omega (arith, le)) tab cut.1
-        ∙ ap (λ (b : ℕ). tab_cells x.line n b p ++ text_feed x q) (seen-cut x.bytes p tab cut.0)
-        ∙ ap (λ (l : List Cell). tab_cells x.line n 32 p ++ l) (line-feed x r.bytes behind q next)
-        ∙ sym (append_assoc (tab_cells x.line n 32 p) (spread x.line r.bytes q) (text_feed x (past_text r.bytes q)))

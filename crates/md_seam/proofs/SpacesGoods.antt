@@ -13,11 +13,11 @@ use Rattle.md_engine.specs.declared.tokenizer.Scratch.{Scratch}
 use Rattle.md_engine.specs.Scheme.{After, Ends, EndsLater, Fits, Good, Grown, Reaches, Scheme, Spot, after_all, seen, spot, spot_at, stands, state_number, work}
 use Rattle.md_engine.specs.Run.{plain}
 use Rattle.md_engine.specs.World.{Setting, World, after}
-use Rattle.md_engine.proofs.Falls.{later, later_at, passing_at}
+use Rattle.md_engine.proofs.Falls.{later, later_at}
 use Rattle.md_engine.proofs.Local.{accepts, begins_try, consumes, refuses, turns}
 use Rattle.md_engine.proofs.Points.{cells-grow, grown-same, stays, takes}
 use Rattle.md_engine.proofs.Powers.{weighs}
-use Rattle.md_seam.specs.Spaces.{IsRest, after_code, asking, calmed, inside_code, later_ready, rest_ready, start_code, white_ready, white_scheme, white_then}
+use Rattle.md_seam.specs.Spaces.{IsRest, after_code, asking, calmed, inside_code, start_code, white_ready, white_scheme, white_then}
 use Rattle.md_seam.specs.Went.{Went, entered, exited}
 
 -- what a state does keeps what the table needs, and falls; no state changes the setting
@@ -56,12 +56,6 @@ seen-some x b e = go (nat_lt x.point.index x.setting.limit) refl
 -- what a construct owes where it ends still holds when more may be read
 pub ends-grow : (P Q : Scratch → Type 0) (x : Spot) (K : After) (t : Setting) → Ends P Q x K → Grown x.setting t → Ends P Q (record x { setting = t }) K
 ends-grow P Q x K t e up = later_at P Q x K x.point t x.scratch up (stays t.limit x.point) e
-
-pub rest-grows : (x : Spot) (K : After) (t : Setting) → rest_ready x K → Grown x.setting t → rest_ready (record x { setting = t }) K
-rest-grows x K t r up = (r.0, ends-grow _ _ x K t r.1 up)
-
-pub later-grows : (x : Spot) (K : After) (t : Setting) → later_ready x K → Grown x.setting t → later_ready (record x { setting = t }) K
-later-grows x K t r up = (r.0, passing_at _ _ x K x.point t x.scratch up (stays t.limit x.point) r.1)
 
 -- at rest no whitespace is asked for
 pub rest-calm : (s : Scratch) → IsRest s → IsRest (calmed s)

@@ -107,10 +107,6 @@ abbrev pub with_lines : List (List ℕ) → Option Lines → Option Lines
 with_lines text None = None
 with_lines text (Some more) = Some (record { text = text ++ more.text; rest = more.rest })
 
-with_lines-nil : (found : Option Lines) → with_lines [] found ≡ found
-with_lines-nil None = refl
-with_lines-nil (Some more) = refl
-
 with_lines-with_line : (text : List (List ℕ)) (line : List ℕ) (found : Option Lines) → with_lines text (with_line line found) ≡ with_lines (text ++ line ∷ []) found
 with_lines-with_line text line None = refl
 with_lines-with_line text line (Some more) = rw append_assoc refl

@@ -18,9 +18,6 @@ meaning-Quote bs = ap meaning (sym (b.rolls-Quote bs)) ∙ fold-roll-Block t.Blo
 pub meaning-ListOf : (m : ℕ) (bs : Vec Block Global) → meaning (b.ListOf m bs) ≡ t.ListOf m (meanings bs.items)
 meaning-ListOf m bs = ap meaning (sym (b.rolls-ListOf m bs)) ∙ fold-roll-Block t.Block block_step (layer.ListOf m bs)
 
-pub meaning-Item : (m : ℕ) (digits : Bor (List ℕ)) (bs : Vec Block Global) → meaning (b.Item m digits bs) ≡ t.Item m digits.now (meanings bs.items)
-meaning-Item m digits bs = ap meaning (sym (b.rolls-Item m digits bs)) ∙ fold-roll-Block t.Block block_step (layer.Item m digits bs)
-
 pub meaning-Footnote : (label : Bor (List ℕ)) (bs : Vec Block Global) → meaning (b.Footnote label bs) ≡ t.Footnote label.now (meanings bs.items)
 meaning-Footnote label bs = ap meaning (sym (b.rolls-Footnote label bs)) ∙ fold-roll-Block t.Block block_step (layer.Footnote label bs)
 
