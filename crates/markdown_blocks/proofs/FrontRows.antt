@@ -1,361 +1,29 @@
 -- The containers of a line that flow reads are those of its bytes: which go on and open, what stands in front of the line, and what is
 -- left of it.
-use Rattle.std.proofs.Common.{◌≡◌, ℕ, zero, suc, ◌+◌, ◌^◌, ◌<◌, ◌≤◌, Bool, true, false, cond, ◌&&◌, List, [], ◌∷◌, ◌++◌, length, drop, slice_range, Option, Some, None, refl, sym, ap, ap₂, ◌∙◌, subst, arith, append_assoc}
-use Rattle.std.specs.Prelude.{IsTrue, ◌==◌, slice_get}
-use Rattle.std.proofs.lemmas.Bool.{eqb-true}
-use Rattle.std.proofs.lemmas.Bool.Decides.{nat_tests}
-use Rattle.std.proofs.lemmas.List.{length-append}
-use Rattle.std.proofs.lemmas.List.Folds.{list_all-append}
+use Rattle.std.proofs.Common.{◌≡◌, ℕ, zero, suc, ◌^◌, ◌<◌, ◌≤◌, Bool, true, false, cond, ◌&&◌, List, [], ◌∷◌, ◌++◌, length, drop, Option, Some, None, refl, sym, ap, ap₂, ◌∙◌, subst, arith, append_assoc}
 use Rattle.md_engine.specs.declared.configuration.ParseOptions.{ParseOptions}
 use Rattle.md_engine.specs.declared.event.Event.{Event}
 use Rattle.md_engine.specs.declared.event.Name.TheVariants as n
 use Rattle.md_engine.specs.declared.event.Point.{Point}
 use Rattle.md_engine.specs.declared.tokenizer.Line.{Line}
 use Rattle.md_engine.specs.Meaning.{Cell}
-use Rattle.md_containers.specs.QuoteRule.{behind_end, behind_events, behind_rest, has_marker, marker_end, marker_events, marker_rest, prefix_end, prefix_events, prefix_rest, takes_prefix}
-use Rattle.md_containers.proofs.QuoteLines.{quote-container, quote-no_ending}
-use Rattle.md_seam.specs.Ahead.{begins_white, white_end, white_rest}
+use Rattle.md_containers.specs.QuoteRule.{prefix_end, prefix_events, prefix_rest, takes_prefix}
+use Rattle.md_containers.proofs.QuoteLines.{HasPrefix, PrefixIs, prefix-agrees, quote-container, quote-no_ending}
 use Rattle.md_seam.specs.Containers.{Taken, continues, opens, opens_quote, quote_taken}
-use Rattle.md_seam.specs.Inline.{pair_unless_empty}
-use Rattle.md_seam.specs.Lines.{begins_with}
-use Rattle.md_seam.specs.Nested.{enter, exit, pair}
-use Rattle.md_seam.specs.Places.{at_or_before, past_byte, past_text, same_place}
-use Rattle.md_seam.specs.Rest.{Rest, behind, behind_indent, indent, is_blank, is_white, lose, white_columns}
-use Rattle.md_seam.specs.Spaces.{small_indent}
+use Rattle.md_seam.specs.Nested.{enter}
+use Rattle.md_seam.specs.Rest.{Rest}
 use Rattle.md_seam.specs.State.{Container, InQuote}
 use Rattle.md_seam.proofs.ContainerLemmas.{opens-leaves}
-use Rattle.md_seam.proofs.FeedLines.{Stops, behind_last, byte-one, cell, columns_more, next_column, past-next, slice-front, spread, tab_cells}
-use Rattle.md_seam.proofs.InlineLemmas.{same-refl}
-use Rattle.md_seam.proofs.NestedLemmas.{at_or_before-refl, at_or_before-trans}
-use Rattle.md_seam.proofs.PlainSteps.{range-none}
-use Rattle.md_seam.proofs.RestCells.{Bare, HasColumn, RestAt, bare, bare-cells, bare-same, cells_by, column-end, column-first, indent-length, indent-taken, past_cut, past_rest, rest_cells, white-end, white-length, without_first}
+use Rattle.md_seam.proofs.FeedLines.{Stops}
+use Rattle.md_seam.proofs.RestCells.{RestAt, past_rest, rest_cells}
 use Rattle.md_seam.proofs.TextsLemmas.{NoEnding}
 use Rattle.markdown_blocks.specs.Change.{change_by, container_name, interrupts, open_behind, others_of}
 use Rattle.markdown_blocks.specs.Fronted.{Contained, Prefixed, contained, contained_behind, contained_by, contained_of, no_prefix, one_more, prefixes_new, prefixes_on, rest_line}
 use Rattle.markdown_blocks.specs.Parsed.{IsBuilt}
 use Rattle.markdown_blocks.specs.Rows.{Front, Held, Passed, goes_at, held_at, held_behind, held_by, in_front, is_lazy, line_kind, new_front, no_front, opens_at, quote_new, quote_on, row_kind, went_front}
 use Rattle.markdown_blocks.proofs.ContainedLemmas.{quote-alone}
-use Rattle.markdown_blocks.proofs.FrontFacts.{Behind, Begins, Fronts, Goes, IsFurther, IsOpening, IsPrefix}
-use Rattle.markdown_blocks.proofs.LineKinds.{no_limit}
+use Rattle.markdown_blocks.proofs.FrontFacts.{Behind, Begins, Fronts, Goes, IsFurther, IsOpening}
 use Rattle.markdown_blocks.proofs.RestRows.{kind-rest}
-use Rattle.markdown_blocks.proofs.RowFacts.{slice-split}
-
--- Whitespace between two points.
-
--- only whitespace stands from a point to another one of the line
-record White (text : List ℕ) (p q : Point) : Type 0 where
-  onward : IsTrue (at_or_before p q)
-  index : p.index ≤ q.index
-  line : q.line ≡ p.line
-  blank : is_blank (slice_range text p.index q.index) ≡ true
-
-white-none : (text : List ℕ) (p : Point) → White text p p
-white-none text p = record { onward = at_or_before-refl p; index = omega arith; line = refl; blank = ap is_blank (range-none text p.index p.index (omega arith)) }
-
-white-append : (text : List ℕ) (p q r : Point) → White text p q → White text q r → White text p r
-white-append text p q r a b = record {
-  onward = at_or_before-trans p q r a.onward b.onward;
-  index = let h = a.index in let k = b.index in omega arith;
-  line = b.line ∙ a.line;
-  blank = ap is_blank (slice-split text p.index q.index r.index a.index b.index)
-      ∙ list_all-append is_white (slice_range text p.index q.index) (slice_range text q.index r.index)
-      ∙ ap (λ (t : Bool). t && is_blank (slice_range text q.index r.index)) a.blank
-      ∙ b.blank;
-}
-
--- a step further
-record Step (text : List ℕ) (p q : Point) : Type 0 where
-  white : White text p q
-  apart : same_place p q ≡ false
-
-step-byte : (text rest : List ℕ) (b : ℕ) (p q : Point) → drop p.index text ≡ b ∷ rest → is_white b ≡ true → q.index ≡ p.index + 1 → q.line ≡ p.line → Step text p q
-step-byte text rest b p q e w index line = record {
-  white = record {
-    onward = grind (arith, nat_tests);
-    index = omega arith;
-    line = line;
-    blank = ap is_blank (slice-front text p.index q.index (b ∷ []) rest e index) ∙ ap (λ (t : Bool). t && true) w;
-  };
-  apart = grind (arith, nat_tests);
-}
-
-step-column : (text : List ℕ) (p : Point) → Step text p (next_column p)
-step-column text p = record {
-  white = record { onward = grind (arith, nat_tests); index = omega arith; line = refl; blank = ap is_blank (range-none text p.index p.index (omega arith)) };
-  apart = grind (arith, nat_tests);
-}
-
-apart-more : (p q r : Point) → same_place p q ≡ false → IsTrue (at_or_before p q) → IsTrue (at_or_before q r) → same_place p r ≡ false
-apart-more p q r a b c = grind (arith, nat_tests)
-
-step-append : (text : List ℕ) (p q r : Point) → Step text p q → White text q r → Step text p r
-step-append text p q r a b = record { white = white-append text p q r a.white b; apart = apart-more p q r a.apart a.white.onward b.onward }
-
--- where the first cell ends
-abbrev first_after : Point → List Cell → Point
-first_after p [] = p
-first_after p (c ∷ cs) = c.after
-
-abbrev rest : ℕ → ℕ → List ℕ → Rest
-rest column spaces bytes = record { column = column; spaces = spaces; bytes = bytes }
-
--- one column of whitespace is a step
-column-step : (line : Line) (text behind : List ℕ) (r : Rest) (p : Point) → RestAt text behind r p → 0 < indent r → (first : HasColumn line text behind r p) → Step text p first.at
-column-step line text behind r p is lt first = go r.column r.spaces r.bytes is lt (ap (first_after p) first.cells)
-  where
-    at : Point
-    at = first.at
-
-    go : (column spaces : ℕ) (bytes : List ℕ) → RestAt text behind (rest column spaces bytes) p → 0 < indent (rest column spaces bytes) → first_after p (rest_cells line (rest column spaces bytes) p) ≡ at → Step text p at
-    go column (suc zero) bytes h lt e = subst (Step text p) e (step-byte text (bytes ++ behind) 9 p (behind_last p) h.text_is refl refl refl)
-    go column (suc (suc n)) bytes h lt e = subst (Step text p) e (step-column text p)
-    go column zero [] h lt e = absurd (omega (arith, lt))
-    go column zero (b ∷ bs) h lt e = by (b == 9) refl (b == 32) refl h e
-      where
-        Has : ℕ → Type 0
-        Has c = RestAt text behind (rest column 0 (c ∷ bs)) p → first_after p (rest_cells line (rest column 0 (c ∷ bs)) p) ≡ at → Step text p at
-
-        tab : (k : ℕ) → drop p.index text ≡ 9 ∷ bs ++ behind → first_after p (tab_cells line k 9 p ++ spread line bs (past_byte 9 p)) ≡ at → Step text p at
-        tab zero is e = subst (Step text p) e (step-byte text (bs ++ behind) 9 p (behind_last p) is refl refl refl)
-        tab (suc k) is e = subst (Step text p) e (step-column text p)
-
-        by : (t : Bool) → (b == 9) ≡ t → (s : Bool) → (b == 32) ≡ s → Has b
-        by true f s g = subst Has (sym (eqb-true b 9 f)) (λ is. tab (columns_more p) is.text_is)
-        by false f true g = subst Has (sym (eqb-true b 32 g)) (λ is e. subst (Step text p) e (step-byte text (bs ++ behind) 32 p (past_byte 32 p) is.text_is refl refl refl))
-        by false f false g = let none : white_columns (column + 0) (b ∷ bs) ≡ 0 = rw (f, g) refl in absurd (omega (arith, lt, none))
-
--- an indent is whitespace, and a step if there is one
-record HasWhite (text : List ℕ) (cells : List Cell) (p q : Point) : Type 0 where
-  white : White text p q
-  events : cond (begins_white cells) (pair n.SpaceOrTab p q) [] ≡ pair_unless_empty n.SpaceOrTab p q
-
-white-step : (text : List ℕ) (cells : List Cell) (p q : Point) → begins_white cells ≡ true → Step text p q → HasWhite text cells p q
-white-step text cells p q e step = record {
-  white = step.white;
-  events = ap (λ (t : Bool). cond t (pair n.SpaceOrTab p q) []) e ∙ sym (ap (λ (t : Bool). cond t [] (pair n.SpaceOrTab p q)) step.apart);
-}
-
-white-same : (text : List ℕ) (cells : List Cell) (p : Point) → begins_white cells ≡ false → HasWhite text cells p p
-white-same text cells p e = record {
-  white = white-none text p;
-  events = ap (λ (t : Bool). cond t (pair n.SpaceOrTab p p) []) e ∙ sym (ap (λ (t : Bool). cond t [] (pair n.SpaceOrTab p p)) (same-refl p));
-}
-
-white-walk : (line : Line) (text behind : List ℕ) (n room : ℕ) (r : Rest) (p : Point) (stop : List Cell) → RestAt text behind r p → Stops stop → indent r ≡ n → n ≤ room →
-    HasWhite text (rest_cells line r p ++ stop) p (white_end room (rest_cells line r p ++ stop) p)
-white-walk line text behind zero room r p stop is k e le =
-    let white = bare-cells line r p stop e k in
-    subst (HasWhite text (rest_cells line r p ++ stop) p) (sym (white-end room (rest_cells line r p ++ stop) p white)) (white-same text (rest_cells line r p ++ stop) p white)
-white-walk line text behind (suc n) zero r p stop is k e le = absurd (omega (arith, le))
-white-walk line text behind (suc n) (suc room) r p stop is k e le =
-    let first = column-first line text behind r p is (omega (arith, e)) in
-    let cs = rest_cells line (without_first r) first.at ++ stop in
-    let further = white-walk line text behind n room (without_first r) first.at stop first.stands k (omega (arith, e, first.columns)) (omega (arith, le)) in
-    let cells : rest_cells line r p ++ stop ≡ cell first.byte first.at line ∷ cs = ap (λ (l : List Cell). l ++ stop) first.cells in
-    let end : white_end (suc room) (rest_cells line r p ++ stop) p ≡ white_end room cs first.at = ap (λ (l : List Cell). white_end (suc room) l p) cells ∙ ap (λ (t : Bool). cond t (white_end room cs first.at) p) first.white in
-    white-step text (rest_cells line r p ++ stop) p (white_end (suc room) (rest_cells line r p ++ stop) p) (ap begins_white cells ∙ first.white)
-    (subst (Step text p) (sym end) (step-append text p first.at (white_end room cs first.at) (column-step line text behind r p is (omega (arith, e)) first) further.white))
-
--- Behind the marker.
-
--- at most one column of whitespace is taken
-record HasBehind (line : Line) (text past : List ℕ) (end : Point) (stop cells : List Cell) (p : Point) (left : Rest) : Type 0 where
-  fed : behind_rest cells ≡ rest_cells line left (behind_end cells p) ++ stop
-  stands : RestAt text past left (behind_end cells p)
-  ends : past_rest left (behind_end cells p) ≡ end
-  events : behind_events cells p ≡ pair_unless_empty n.SpaceOrTab p (behind_end cells p) ++ exit n.BlockQuotePrefix (behind_end cells p) ∷ []
-  white : White text p (behind_end cells p)
-  shorter : length (behind_rest cells) ≤ length cells
-
-behind-none : (cells : List Cell) (p : Point) → begins_white cells ≡ false → (behind_rest cells ≡ cells) × (behind_end cells p ≡ p) × (behind_events cells p ≡ exit n.BlockQuotePrefix p ∷ [])
-behind-none [] p e = (refl, refl, refl)
-behind-none (c ∷ cs) p e = (rw e refl, rw e refl, rw e refl)
-
-behind-one : (line : Line) (text past : List ℕ) (r : Rest) (stop : List Cell) (p : Point) → RestAt text past r p → Stops stop → HasBehind line text past (past_rest r p) stop (rest_cells line r p ++ stop) p (lose 1 r)
-behind-one line text past r stop p is k = go (indent r) refl
-  where
-    cells : List Cell
-    cells = rest_cells line r p ++ stop
-
-    go : (n : ℕ) → indent r ≡ n → HasBehind line text past (past_rest r p) stop cells p (lose 1 r)
-    go zero e =
-        let none = behind-none cells p (bare-cells line r p stop e k) in
-        let end : p ≡ behind_end cells p = sym none.1 in
-        subst (HasBehind line text past (past_rest r p) stop cells p) (sym (bare-same r e)) (record {
-          fed = none.0 ∙ ap (λ (q : Point). rest_cells line r q ++ stop) end;
-          stands = subst (RestAt text past r) end is;
-          ends = ap (past_rest r) none.1;
-          events = none.2
-              ∙ sym (ap (λ (t : Bool). cond t [] (pair n.SpaceOrTab p p) ++ exit n.BlockQuotePrefix p ∷ []) (same-refl p))
-              ∙ ap (λ (q : Point). pair_unless_empty n.SpaceOrTab p q ++ exit n.BlockQuotePrefix q ∷ []) end;
-          white = subst (White text p) end (white-none text p);
-          shorter = let same = ap length none.0 in omega arith;
-        })
-    go (suc m) e =
-        let first = column-first line text past r p is (omega (arith, e)) in
-        let left = rest_cells line (without_first r) first.at ++ stop in
-        let same : cells ≡ cell first.byte first.at line ∷ left = ap (λ (l : List Cell). l ++ stop) first.cells in
-        let end : first.at ≡ behind_end cells p = sym (ap (λ (l : List Cell). behind_end l p) same ∙ ap (λ (t : Bool). cond t first.at p) first.white) in
-        let further : behind_rest cells ≡ left = ap behind_rest same ∙ ap (λ (t : Bool). cond t left (cell first.byte first.at line ∷ left)) first.white in
-        let step = column-step line text past r p is (omega (arith, e)) first in
-        record {
-          fed = further ∙ ap (λ (q : Point). rest_cells line (without_first r) q ++ stop) end;
-          stands = subst (RestAt text past (without_first r)) end first.stands;
-          ends = ap (past_rest (without_first r)) (sym end) ∙ column-end line text past r p is first;
-          events = ap (λ (l : List Cell). behind_events l p) same
-              ∙ ap (λ (t : Bool). cond t (pair n.SpaceOrTab p first.at ++ exit n.BlockQuotePrefix first.at ∷ []) (exit n.BlockQuotePrefix p ∷ [])) first.white
-              ∙ sym (ap (λ (t : Bool). cond t [] (pair n.SpaceOrTab p first.at) ++ exit n.BlockQuotePrefix first.at ∷ []) step.apart)
-              ∙ ap (λ (q : Point). pair_unless_empty n.SpaceOrTab p q ++ exit n.BlockQuotePrefix q ∷ []) end;
-          white = subst (White text p) end step.white;
-          shorter = let a = ap length further in let b = ap length same in omega arith;
-        }
-
--- At the marker.
-
-record HasMarker (line : Line) (text past : List ℕ) (end : Point) (stop cells : List Cell) (p : Point) (left : Rest) : Type 0 where
-  takes : has_marker cells ≡ true
-  fed : marker_rest cells ≡ rest_cells line left (marker_end cells p) ++ stop
-  stands : RestAt text past left (marker_end cells p)
-  ends : past_rest left (marker_end cells p) ≡ end
-  behind : Point
-  events : marker_events cells p ≡ enter n.BlockQuotePrefix p ∷ enter n.BlockQuoteMarker p ∷ exit n.BlockQuoteMarker behind ∷ pair_unless_empty n.SpaceOrTab behind (marker_end cells p) ++ exit n.BlockQuotePrefix (marker_end cells p) ∷ []
-  next : behind.index ≡ suc p.index
-  same_line : behind.line ≡ p.line
-  byte : slice_get text p.index ≡ Some 62
-  whole : p.vs ≡ 0
-  behind_whole : behind.vs ≡ 0
-  white : White text behind (marker_end cells p)
-  shorter : length (marker_rest cells) < length cells
-
--- a marker stands here, and so much is left behind it, or there is none
-abbrev MarkerIs : Line → (text past : List ℕ) → Point → (stop cells : List Cell) → Point → Option Taken → Type 0
-MarkerIs line text past end stop cells p (Some taken) = HasMarker line text past end stop cells p taken.rest
-MarkerIs line text past end stop cells p None = has_marker cells ≡ false
-
-get-next : (index : ℕ) (bytes : List ℕ) (b : ℕ) (rest : List ℕ) → drop index bytes ≡ b ∷ rest → slice_get bytes index ≡ Some b
-get-next zero [] b rest e = cc
-get-next zero (c ∷ bytes) b rest e = cc
-get-next (suc index) [] b rest e = cc
-get-next (suc index) (c ∷ bytes) b rest e = get-next index bytes b rest e
-
-stop-marker : (stop : List Cell) → Stops stop → has_marker stop ≡ false
-stop-marker [] k = refl
-stop-marker (c ∷ cs) k = ap (λ (b : ℕ). b == 62) (eqb-true c.byte 10 k)
-
--- where no indent is left
-abbrev taken_at : Rest → Option Taken
-taken_at r = cond (begins_with 62 r.bytes) (Some (record { container = InQuote; rest = lose 1 (behind 1 r) })) None
-
-marker-is : (line : Line) (text past : List ℕ) (r : Rest) (stop : List Cell) (p : Point) → RestAt text past r p → indent r ≡ 0 → Stops stop →
-    MarkerIs line text past (past_rest r p) stop (rest_cells line r p ++ stop) p (taken_at r)
-marker-is line text past r stop p is e k = go r.spaces r.bytes is (bare r e)
-  where
-    Done : ℕ → List ℕ → Type 0
-    Done spaces bytes = MarkerIs line text past (past_text bytes (past_cut spaces p)) stop (cells_by line spaces bytes p ++ stop) p (taken_at (rest r.column spaces bytes))
-
-    go : (spaces : ℕ) (bytes : List ℕ) → RestAt text past (rest r.column spaces bytes) p → Bare spaces bytes → Done spaces bytes
-    go (suc n) bytes at b = absurd b
-    go zero [] at b = stop-marker stop k
-    go zero (b ∷ bs) at w = by (b == 62) refl
-      where
-        Marks : ℕ → Type 0
-        Marks c = RestAt text past (rest r.column 0 (c ∷ bs)) p → Done 0 (c ∷ bs)
-
-        marks : Marks 62
-        marks here =
-            let q = past_byte 62 p in
-            let from : Rest = behind 1 (rest r.column 0 (62 ∷ bs)) in
-            let next : RestAt text past from q = record { column = omega (arith, here.column); cut = refl; text_is = past-next p.index text 62 (bs ++ past) here.text_is } in
-            let further = behind-one line text past from stop q next k in
-            record {
-              takes = refl;
-              fed = further.fed;
-              stands = further.stands;
-              ends = further.ends;
-              behind = q;
-              events = ap (λ (es : List Event). enter n.BlockQuotePrefix p ∷ enter n.BlockQuoteMarker p ∷ exit n.BlockQuoteMarker q ∷ es) further.events;
-              next = omega arith;
-              same_line = refl;
-              byte = get-next p.index text 62 (bs ++ past) here.text_is;
-              whole = here.cut;
-              behind_whole = refl;
-              white = further.white;
-              shorter = let le = further.shorter in omega arith;
-            }
-
-        by : (t : Bool) → (b == 62) ≡ t → Done 0 (b ∷ bs)
-        by true f = subst Marks (sym (eqb-true b 62 f)) marks at
-        by false f = rw f (ap (λ (l : List Cell). has_marker (l ++ spread line bs (past_byte b p) ++ stop)) (byte-one line b p w) ∙ f)
-
--- The whole prefix of a quote, where indented code is off.
-
-record HasPrefix (options : ParseOptions) (line : Line) (text past : List ℕ) (end : Point) (stop cells : List Cell) (p : Point) (left : Rest) : Type 0 where
-  takes : takes_prefix options cells ≡ true
-  fed : prefix_rest options cells ≡ rest_cells line left (prefix_end options cells p) ++ stop
-  stands : RestAt text past left (prefix_end options cells p)
-  ends : past_rest left (prefix_end options cells p) ≡ end
-  prefix : IsPrefix text p (prefix_end options cells p) (prefix_events options cells p)
-  shorter : length (prefix_rest options cells) < length cells
-
-abbrev PrefixIs : ParseOptions → Line → (text past : List ℕ) → Point → (stop cells : List Cell) → Point → Option Taken → Type 0
-PrefixIs options line text past end stop cells p (Some taken) = HasPrefix options line text past end stop cells p taken.rest
-PrefixIs options line text past end stop cells p None = takes_prefix options cells ≡ false
-
-small : (options : ParseOptions) (r : Rest) → options.constructs.code_indented ≡ false → quote_taken options r ≡ taken_at (behind_indent r)
-unfolding quote_taken
-small options r off = rw off refl
-
--- a prefix stands on the cells of a line where it does on its bytes
-prefix-agrees : (options : ParseOptions) (line : Line) (text past : List ℕ) (r : Rest) (stop : List Cell) (p : Point) → options.constructs.code_indented ≡ false → RestAt text past r p → Stops stop → length (rest_cells line r p ++ stop) < 2 ^ 63 →
-    PrefixIs options line text past (past_rest r p) stop (rest_cells line r p ++ stop) p (quote_taken options r)
-prefix-agrees options line text past r stop p off is k short =
-    let no = no_limit options off in
-    let size : length cells ≡ length (rest_cells line r p) + length stop = length-append (rest_cells line r p) stop in
-    let most = indent-length line text past r p is in
-    let fits : indent r ≤ room = omega arith in
-    let taken = indent-taken line text past room r p stop is k fits in
-    let white = white-walk line text past (indent r) room r p stop is k refl fits in
-    let marker : MarkerIs line text past (past_rest r p) stop left q (taken_at (behind_indent r)) =
-    subst (λ (l : List Cell). MarkerIs line text past (past_rest r p) stop l q (taken_at (behind_indent r))) (sym taken.cells)
-    (subst (λ (end : Point). MarkerIs line text past end stop (rest_cells line (behind_indent r) q ++ stop) q (taken_at (behind_indent r))) taken.ends (marker-is line text past (behind_indent r) stop q taken.stands taken.none k)) in
-    subst (PrefixIs options line text past (past_rest r p) stop cells p) (sym (small options r off)) (whole (taken_at (behind_indent r)) white marker)
-  where
-    room : ℕ
-    room = small_indent options
-
-    cells : List Cell
-    cells = rest_cells line r p ++ stop
-
-    left : List Cell
-    left = white_rest room cells
-
-    q : Point
-    q = white_end room cells p
-
-    whole : (taken : Option Taken) → HasWhite text cells p q → MarkerIs line text past (past_rest r p) stop left q taken → PrefixIs options line text past (past_rest r p) stop cells p taken
-    whole None white m = m
-    whole (Some taken) white m = record {
-      takes = m.takes;
-      fed = m.fed;
-      stands = m.stands;
-      ends = m.ends;
-      prefix = record {
-        marker = q;
-        behind = m.behind;
-        events = ap (λ (es : List Event). es ++ marker_events left q) white.events ∙ ap (λ (es : List Event). pair_unless_empty n.SpaceOrTab p q ++ es) m.events
-            ∙ sym (append_assoc (pair_unless_empty n.SpaceOrTab p q) (enter n.BlockQuotePrefix q ∷ enter n.BlockQuoteMarker q ∷ exit n.BlockQuoteMarker m.behind ∷ pair_unless_empty n.SpaceOrTab m.behind (marker_end left q)) (exit n.BlockQuotePrefix (marker_end left q) ∷ []));
-        indent = white.white.onward;
-        past = m.next;
-        column = m.white.onward;
-        byte = m.byte;
-        marker_whole = m.whole;
-        behind_whole = m.behind_whole;
-        white_before = white.white.blank;
-        white_behind = m.white.blank;
-        line = m.white.line ∙ m.same_line ∙ white.white.line;
-      };
-      shorter = let le = white-length room cells in let lt = m.shorter in omega arith;
-    }
 
 -- The containers that flow reads; there are only quotes yet.
 
@@ -423,9 +91,9 @@ quote-passes options line text past r end stop cells p es t h e has = record {
 }
 
 -- a quote goes on
-quote-goes : (options : ParseOptions) (line : Line) (text past : List ℕ) (r : Rest) (stop : List Cell) (p : Point) → options.constructs.code_indented ≡ false → RestAt text past r p → NoEnding r.bytes → Stops stop → length (rest_cells line r p ++ stop) < 2 ^ 63 →
+quote-goes : (options : ParseOptions) (line : Line) (text past : List ℕ) (r : Rest) (stop : List Cell) (p : Point) → RestAt text past r p → NoEnding r.bytes → Stops stop → length (rest_cells line r p ++ stop) < 2 ^ 63 →
     Agree (HasFurther line text past p (past_rest r p) stop (rest_cells line r p ++ stop)) (goes_at options InQuote (rest_cells line r p ++ stop) p) (quote_taken options r)
-quote-goes options line text past r stop p off is h k short = go (quote_taken options r) refl (prefix-agrees options line text past r stop p off is k short)
+quote-goes options line text past r stop p is h k short = go (quote_taken options r) refl (prefix-agrees options line text past r stop p is k short)
   where
     cells : List Cell
     cells = rest_cells line r p ++ stop
@@ -440,10 +108,10 @@ quote-goes options line text past r stop p off is h k short = go (quote_taken op
         (record { passes = quote-passes options line text past r (past_rest r p) stop cells p (prefix_events options cells p) t h e has; further = has.prefix })
 
 -- a quote opens, if quotes are on
-quote-opens : (options : ParseOptions) (interrupting : Bool) (line : Line) (text past : List ℕ) (r : Rest) (stop : List Cell) (p : Point) → options.constructs.code_indented ≡ false → RestAt text past r p → NoEnding r.bytes → Stops stop → length (rest_cells line r p ++ stop) < 2 ^ 63 →
+quote-opens : (options : ParseOptions) (interrupting : Bool) (line : Line) (text past : List ℕ) (r : Rest) (stop : List Cell) (p : Point) → RestAt text past r p → NoEnding r.bytes → Stops stop → length (rest_cells line r p ++ stop) < 2 ^ 63 →
     Agree (HasOpening line text past p (past_rest r p) stop (rest_cells line r p ++ stop)) (opens_at options interrupting (rest_cells line r p ++ stop) p) (opens_quote options r)
 unfolding opens_quote
-quote-opens options interrupting line text past r stop p off is h k short = on options.constructs.block_quote
+quote-opens options interrupting line text past r stop p is h k short = on options.constructs.block_quote
   where
     cells : List Cell
     cells = rest_cells line r p ++ stop
@@ -464,25 +132,23 @@ quote-opens options interrupting line text past r stop p off is h k short = on o
         })
 
     on : (x : Bool) → By (x && takes_prefix options cells) (cond x (quote_taken options r) None)
-    on true = go (quote_taken options r) refl (prefix-agrees options line text past r stop p off is k short)
+    on true = go (quote_taken options r) refl (prefix-agrees options line text past r stop p is k short)
     on false = tt
-
--- No other container opens.
 
 -- All containers.
 
 -- an open container goes on by the cells where it does by the bytes
-goes-agrees : (options : ParseOptions) (line : Line) (text past : List ℕ) (c : Container) (r : Rest) (stop : List Cell) (p : Point) → IsBuilt options → IsRead c → RestAt text past r p → NoEnding r.bytes → Stops stop → length (rest_cells line r p ++ stop) < 2 ^ 63 →
+goes-agrees : (options : ParseOptions) (line : Line) (text past : List ℕ) (c : Container) (r : Rest) (stop : List Cell) (p : Point) → IsRead c → RestAt text past r p → NoEnding r.bytes → Stops stop → length (rest_cells line r p ++ stop) < 2 ^ 63 →
     Agree (HasFurther line text past p (past_rest r p) stop (rest_cells line r p ++ stop)) (goes_at options c (rest_cells line r p ++ stop) p) (continues options c r)
-goes-agrees options line text past InQuote r stop p built read is h k short = quote-goes options line text past r stop p built.code_indented is h k short
-goes-agrees options line text past c r stop p built read is h k short = absurd read
+goes-agrees options line text past InQuote r stop p read is h k short = quote-goes options line text past r stop p is h k short
+goes-agrees options line text past c r stop p read is h k short = absurd read
 
 -- a container opens by the cells where it does by the bytes
 opens-agrees : (options : ParseOptions) (interrupting : Bool) (line : Line) (text past : List ℕ) (r : Rest) (stop : List Cell) (p : Point) → IsBuilt options → RestAt text past r p → NoEnding r.bytes → Stops stop → length (rest_cells line r p ++ stop) < 2 ^ 63 →
     Agree (HasOpening line text past p (past_rest r p) stop (rest_cells line r p ++ stop)) (opens_at options interrupting (rest_cells line r p ++ stop) p) (opens options interrupting r)
 opens-agrees options interrupting line text past r stop p built is h k short =
     subst (Agree (HasOpening line text past p (past_rest r p) stop (rest_cells line r p ++ stop)) (opens_at options interrupting (rest_cells line r p ++ stop) p)) (sym (quote-alone options interrupting r built))
-    (quote-opens options interrupting line text past r stop p built.code_indented is h k short)
+    (quote-opens options interrupting line text past r stop p is h k short)
 
 -- What stands in front of a line.
 
@@ -527,11 +193,11 @@ went-more line text past p end stop cells a t f q one is = record {
   fronts = λ opens r es fs. subst (Fronts text opens p r) (sym (append_assoc a.events f.events es)) (Goes a.container opens p a.point r a.events (f.events ++ es) one.further (is.fronts opens r es fs));
 }
 
-went-is : (options : ParseOptions) (line : Line) (text past : List ℕ) (cs : List Container) (r : Rest) (stop : List Cell) (p : Point) → IsBuilt options → AreRead cs → RestAt text past r p → NoEnding r.bytes → Stops stop → length (rest_cells line r p ++ stop) < 2 ^ 63 →
+went-is : (options : ParseOptions) (line : Line) (text past : List ℕ) (cs : List Container) (r : Rest) (stop : List Cell) (p : Point) → AreRead cs → RestAt text past r p → NoEnding r.bytes → Stops stop → length (rest_cells line r p ++ stop) < 2 ^ 63 →
     HasWent line text past p (past_rest r p) stop (rest_cells line r p ++ stop) (went_front options cs (rest_cells line r p ++ stop) p) (prefixes_on options cs r)
-went-is options line text past [] r stop p built read is h k short = went-none line text past r stop p is h
-went-is options line text past (c ∷ cs) r stop p built read is h k short = go (goes_at options c cells p) (continues options c r) (goes-agrees options line text past c r stop p built read.0 is h k short)
-    (λ (s : Rest) (u : Point) (at : RestAt text past s u) (none : NoEnding s.bytes) (few : length (rest_cells line s u ++ stop) < 2 ^ 63). went-is options line text past cs s stop u built read.1 at none k few)
+went-is options line text past [] r stop p read is h k short = went-none line text past r stop p is h
+went-is options line text past (c ∷ cs) r stop p read is h k short = go (goes_at options c cells p) (continues options c r) (goes-agrees options line text past c r stop p read.0 is h k short)
+    (λ (s : Rest) (u : Point) (at : RestAt text past s u) (none : NoEnding s.bytes) (few : length (rest_cells line s u ++ stop) < 2 ^ 63). went-is options line text past cs s stop u read.1 at none k few)
   where
     cells : List Cell
     cells = rest_cells line r p ++ stop
@@ -694,4 +360,4 @@ pub held-is : (options : ParseOptions) (line : Line) (text past : List ℕ) (cs 
 unfolding held_at contained
 held-is options line text past cs going r stop p built read is h k short =
     held-behind options line text past p (past_rest r p) stop (rest_cells line r p ++ stop) cs going (went_front options cs (rest_cells line r p ++ stop) p) (prefixes_on options cs r) built read k short
-    (went-is options line text past cs r stop p built read is h k short)
+    (went-is options line text past cs r stop p read is h k short)

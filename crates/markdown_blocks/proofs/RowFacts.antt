@@ -1,5 +1,5 @@
 -- What the lines of a text are, as flow reads them: facts that the lemmas on the tree rest on.
-use Rattle.std.proofs.Common.{◌≡◌, ◌≢◌, ℕ, ◌+◌, ◌-◌, ◌≤◌, Bool, List, [], ◌∷◌, ◌++◌, length, take, drop, slice_range, ap, ◌∙◌, take-add, drop-drop, arith}
+use Rattle.std.proofs.Common.{◌≡◌, ◌≢◌, ℕ, ◌+◌, ◌≤◌, Bool, List, [], ◌∷◌, ◌++◌, length, slice_range, ap, ◌∙◌, arith}
 use Rattle.std.specs.Prelude.{IsTrue, Some, None}
 use Rattle.md_engine.specs.declared.configuration.ParseOptions.{ParseOptions}
 use Rattle.md_engine.specs.declared.event.Point.{Point}
@@ -7,7 +7,7 @@ use Rattle.md_leaves.specs.HeadingRule.{Apart}
 use Rattle.md_leaves.specs.HeadingTitle.{line_runs}
 use Rattle.md_seam.specs.Nested.{Balanced, Forward, last_point}
 use Rattle.md_seam.specs.Places.{at_or_before, past_text}
-pub use Rattle.md_seam.proofs.FeedLines.{IsEnding}
+pub use Rattle.md_seam.proofs.FeedLines.{IsEnding, slice-split}
 use Rattle.md_seam.proofs.RestCells.{Cut}
 use Rattle.md_seam.proofs.SpelledLemmas.{Roles, Quiet}
 use Rattle.md_seam.proofs.TextsLemmas.{NoEnding, ending_bytes}
@@ -66,15 +66,6 @@ AreRows options bytes open_before going p (line ∷ next ∷ lines) (row ∷ bel
     (is : IsLine options bytes open_before going p line row) × (leaves : row.leaves ≡ below.change.closes) × (q : Point) × (after : row.after ≡ Some q) × (ending : IsEnding bytes row.end q)
     × AreRows options bytes (behind_line options open_before going p line) (is_text row.kind) q (next ∷ lines) (below ∷ rows)
 AreRows options bytes open_before going p _ _ = ⊥
-
--- a slice is cut at a place inside
-pub slice-split : (bytes : List ℕ) (a b c : ℕ) → a ≤ b → b ≤ c → slice_range bytes a c ≡ slice_range bytes a b ++ slice_range bytes b c
-slice-split bytes a b c h k =
-    let size : c - a ≡ (b - a) + (c - b) = omega arith in
-    let place : a + (b - a) ≡ b = omega arith in
-    ap (λ (i : ℕ). take i (drop a bytes)) size
-    ∙ take-add (b - a) (c - b) (drop a bytes)
-    ∙ ap (λ (l : List ℕ). take (b - a) (drop a bytes) ++ take (c - b) l) (drop-drop (b - a) a bytes ∙ ap (λ (i : ℕ). drop i bytes) place)
 
 -- the text of a line with its ending
 pub line-text : (options : ParseOptions) (bytes line : List ℕ) (row : Row) (q : Point) → IsRow options bytes line row → (ending : IsEnding bytes row.end q) → slice_range bytes row.first.index q.index ≡ line ++ ending_bytes ending.ending

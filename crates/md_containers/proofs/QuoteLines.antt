@@ -1,206 +1,58 @@
 -- What the prefix of a quote takes of a line is what the definition of lines takes.
-use Rattle.std.proofs.Common.{◌≡◌, ℕ, zero, suc, ◌+◌, ◌^◌, ◌<◌, ◌≤◌, Bool, true, false, cond, ◌||◌, List, [], ◌∷◌, ◌++◌, length, Option, Some, None, refl, sym, ap, ◌∙◌, subst, arith, append_assoc, append-nil}
-use Rattle.std.specs.Prelude.{IsTrue, ◌==◌, not, nat_le}
+use Rattle.std.proofs.Common.{◌≡◌, ℕ, zero, suc, ◌+◌, ◌^◌, ◌<◌, ◌≤◌, Bool, true, false, cond, ◌&&◌, ◌||◌, List, [], ◌∷◌, ◌++◌, length, drop, slice_range, Option, Some, None, refl, sym, ap, ◌∙◌, subst, arith, append_assoc, append-nil}
+use Rattle.std.specs.Prelude.{IsTrue, ◌==◌, not, nat_le, slice_get}
 use Rattle.std.proofs.lemmas.Bool.{eqb-true}
 use Rattle.std.proofs.lemmas.Bool.Decides.{nat_tests}
 use Rattle.std.proofs.lemmas.List.{length-append}
+use Rattle.std.proofs.lemmas.List.Folds.{list_all-append}
 use Rattle.md_engine.specs.declared.configuration.ParseOptions.{ParseOptions}
 use Rattle.md_engine.specs.declared.event.Event.{Event}
-use Rattle.md_engine.specs.declared.event.Name.TheVariants.{BlockQuote, BlockQuoteMarker, BlockQuotePrefix, SpaceOrTab}
+use Rattle.md_engine.specs.declared.event.Name.TheVariants as n
 use Rattle.md_engine.specs.declared.event.Point.{Point}
 use Rattle.md_engine.specs.declared.tokenizer.Line.{Line}
 use Rattle.md_engine.specs.declared.tokenizer.Scratch.{Scratch}
-use Rattle.md_engine.specs.Meaning.{Accepts, Cell, Here, Outcome, Refuses}
-use Rattle.md_containers.specs.QuoteRule.{at_marker, behind_marker, indent_events, marker_events, behind_events, prefix_at, prefix_events, quote_at}
-use Rattle.md_containers.proofs.QuoteSteps.{quote-off, quote-on}
+use Rattle.md_engine.specs.Meaning.{Cell, Here}
+use Rattle.md_containers.specs.QuoteRule.{at_marker, behind_end, behind_events, behind_rest, has_marker, indent_events, marker_end, marker_events, marker_rest, prefix_at, prefix_end, prefix_events, prefix_rest, takes_prefix}
 use Rattle.md_seam.specs.Ahead.{begins_white, white_end, white_rest}
-use Rattle.md_seam.specs.Containers.{Taken, opens_quote, quote_taken}
+use Rattle.md_seam.specs.Containers.{Taken, quote_taken}
+use Rattle.md_seam.specs.Inline.{pair_unless_empty}
 use Rattle.md_seam.specs.Lines.{begins_with}
-use Rattle.md_seam.specs.Nested.{Balanced, Forward, enter, exit, last_point, pair}
-use Rattle.md_seam.specs.Places.{at_or_before, past_byte, past_text}
-use Rattle.md_seam.specs.Rest.{Rest, behind, behind_indent, has_small_indent, indent, is_white, lose}
+use Rattle.md_seam.specs.Nested.{enter, exit, pair}
+use Rattle.md_seam.specs.Places.{at_or_before, past_byte, past_text, same_place}
+use Rattle.md_seam.specs.Rest.{Rest, behind, behind_indent, has_small_indent, indent, is_blank, is_white, lose, white_columns}
 use Rattle.md_seam.specs.Spaces.{IsRest, any_size, small_indent}
 use Rattle.md_seam.specs.State.{InQuote}
-use Rattle.md_seam.proofs.FeedLines.{Stops, before-byte, byte-one, cell, past-next, spread}
-use Rattle.md_seam.proofs.NestedLemmas.{at_or_before-refl, balanced-append, balanced-none, forward-append, last_point-append}
-use Rattle.md_seam.proofs.RestCells.{Bare, RestAt, bare, bare-cells, bare-same, behind-no_ending, cells_by, column-end, column-first, indent-length, indent-over, indent-taken, lose-no_ending, past_cut, past_rest, rest_cells, white-end, white-length, white-rest, without_first}
+use Rattle.md_seam.proofs.FeedLines.{Stops, behind_last, byte-one, cell, columns_more, next_column, past-next, slice-front, slice-split, spread, tab_cells}
+use Rattle.md_seam.proofs.InlineLemmas.{same-refl}
+use Rattle.md_seam.proofs.NestedLemmas.{at_or_before-refl, at_or_before-trans}
+use Rattle.md_seam.proofs.PlainSteps.{range-none}
+use Rattle.md_seam.proofs.RestCells.{Bare, HasColumn, RestAt, bare, bare-cells, bare-same, behind-no_ending, cells_by, column-end, column-first, indent-length, indent-over, indent-taken, lose-no_ending, past_cut, past_rest, rest_cells, white-end, white-length, white-rest, without_first}
 use Rattle.md_seam.proofs.SpacesGoods.{rest-calm}
-use Rattle.md_seam.proofs.SpelledLemmas.{QuietOrPrefix, Roles, roles-append}
 use Rattle.md_seam.proofs.TextsLemmas.{NoEnding}
 
--- What a prefix comes to.
+-- The prefix of a quote, from a point to a point: whitespace, `>`, and at most one column of whitespace.
+pub record IsPrefix (bytes : List ℕ) (p q : Point) (es : List Event) : Type 0 where
+  -- where `>` stands, and the point behind it
+  pub marker : Point
+  pub behind : Point
+  pub events : es ≡ pair_unless_empty n.SpaceOrTab p marker ++ enter n.BlockQuotePrefix marker ∷ enter n.BlockQuoteMarker marker ∷ exit n.BlockQuoteMarker behind ∷ pair_unless_empty n.SpaceOrTab behind q ++ exit n.BlockQuotePrefix q ∷ []
+  -- the points go on
+  pub indent : IsTrue (at_or_before p marker)
+  pub past : behind.index ≡ suc marker.index
+  pub column : IsTrue (at_or_before behind q)
+  -- `>` is a byte, and no tab is cut around it
+  pub byte : slice_get bytes marker.index ≡ Some 62
+  pub marker_whole : marker.vs ≡ 0
+  pub behind_whole : behind.vs ≡ 0
+  -- what is whitespace
+  pub white_before : is_blank (slice_range bytes p.index marker.index) ≡ true
+  pub white_behind : is_blank (slice_range bytes behind.index q.index) ≡ true
+  -- all on one line
+  pub line : q.line ≡ p.line
 
--- it takes these cells of a line up to what is left of its rest, and adds these events
-pub record Takes (line : Line) (text past : List ℕ) (end : Point) (left : Rest) (stop cells : List Cell) (h : Here) (added : List Event) (o : Outcome) : Type 0 where
-  pub at : Point
-  pub comes : o ≡ Accepts (record h { events = h.events ++ added; point = at }) (rest_cells line left at ++ stop)
-  pub stands : RestAt text past left at
-  -- the line ends here
-  pub ends : past_rest left at ≡ end
-  pub forward : Forward h.point added
-  pub last : last_point h.point added ≡ at
-  pub shorter : length (rest_cells line left at ++ stop) < length cells
+-- The prefix by its rule.
 
--- it takes what the definition takes, or neither takes any
-abbrev pub Agrees : Line → (text past : List ℕ) → Point → (stop cells : List Cell) → Here → List Event → Outcome → Option Taken → Type 0
-Agrees line text past end stop cells h added o (Some taken) = Takes line text past end taken.rest stop cells h added o
-Agrees line text past end stop cells h added o None = o ≡ Refuses h.scratch h.flags
-
--- the same with these events in front
-takes-behind : (line : Line) (text past : List ℕ) (end : Point) (left : Rest) (stop cells inner : List Cell) (h : Here) (q : Point) (front added : List Event) (o : Outcome) → Forward h.point front → last_point h.point front ≡ q → length inner ≤ length cells →
-    Takes line text past end left stop inner (record h { events = h.events ++ front; point = q }) added o → Takes line text past end left stop cells h (front ++ added) o
-takes-behind line text past end left stop cells inner h q front added o f l le is = record {
-  at = is.at;
-  comes = is.comes ∙ ap (λ (es : List Event). Accepts (record h { events = es; point = is.at }) (rest_cells line left is.at ++ stop)) (append_assoc h.events front added);
-  stands = is.stands;
-  ends = is.ends;
-  forward = forward-append h.point front added f (subst (λ (p : Point). Forward p added) (sym l) is.forward);
-  last = last_point-append h.point front added ∙ ap (λ (p : Point). last_point p added) l ∙ is.last;
-  shorter = omega (arith, is.shorter, le);
-}
-
-agrees-behind : (line : Line) (text past : List ℕ) (end : Point) (stop cells inner : List Cell) (h : Here) (q : Point) (front added : List Event) (o : Outcome) (taken : Option Taken) → Forward h.point front → last_point h.point front ≡ q → length inner ≤ length cells →
-    Agrees line text past end stop inner (record h { events = h.events ++ front; point = q }) added o taken → Agrees line text past end stop cells h (front ++ added) o taken
-agrees-behind line text past end stop cells inner h q front added o None f l le is = is
-agrees-behind line text past end stop cells inner h q front added o (Some taken) f l le is = takes-behind line text past end taken.rest stop cells inner h q front added o f l le is
-
--- Behind the marker.
-
-behind-ended : (cells : List Cell) (h : Here) → begins_white cells ≡ false → behind_marker cells h ≡ Accepts (record h { events = h.events ++ behind_events cells h.point }) cells
-unfolding behind_marker
-behind-ended [] h e = refl
-behind-ended (c ∷ cs) h e = rw e refl
-
-behind-column : (c : Cell) (cs : List Cell) (h : Here) → is_white c.byte ≡ true → behind_marker (c ∷ cs) h ≡ Accepts (record h { events = h.events ++ behind_events (c ∷ cs) h.point; point = c.after }) cs
-unfolding behind_marker
-behind-column c cs h e = rw e (ap (λ (es : List Event). Accepts (record h { events = es; point = c.after }) cs) (append_assoc h.events (pair SpaceOrTab h.point c.after) (exit BlockQuotePrefix c.after ∷ [])))
-
-events-none : (cells : List Cell) (p : Point) → begins_white cells ≡ false → behind_events cells p ≡ exit BlockQuotePrefix p ∷ []
-events-none [] p e = refl
-events-none (c ∷ cs) p e = rw e refl
-
-events-white : (c : Cell) (cs : List Cell) (p : Point) → is_white c.byte ≡ true → behind_events (c ∷ cs) p ≡ pair SpaceOrTab p c.after ++ exit BlockQuotePrefix c.after ∷ []
-events-white c cs p e = rw e refl
-
--- one column is taken, if it is there
-behind-taken : (line : Line) (text past : List ℕ) (r : Rest) (stop : List Cell) (h : Here) → RestAt text past r h.point → Stops stop →
-    Takes line text past (past_rest r h.point) (lose 1 r) stop (cell 62 h.point line ∷ rest_cells line r h.point ++ stop) h (behind_events (rest_cells line r h.point ++ stop) h.point) (behind_marker (rest_cells line r h.point ++ stop) h)
-behind-taken line text past r stop h is k = go (indent r) refl
-  where
-    cells : List Cell
-    cells = rest_cells line r h.point ++ stop
-
-    go : (n : ℕ) → indent r ≡ n → Takes line text past (past_rest r h.point) (lose 1 r) stop (cell 62 h.point line ∷ cells) h (behind_events cells h.point) (behind_marker cells h)
-    go zero e =
-        subst (λ (left : Rest). Takes line text past (past_rest r h.point) left stop (cell 62 h.point line ∷ cells) h (behind_events cells h.point) (behind_marker cells h)) (sym (bare-same r e))
-        (let none = bare-cells line r h.point stop e k in
-        let added = sym (events-none cells h.point none) in
-        record {
-          at = h.point;
-          comes = behind-ended cells h none;
-          stands = is;
-          ends = refl;
-          forward = subst (λ (es : List Event). Forward h.point es) added (at_or_before-refl h.point, tt);
-          last = subst (λ (es : List Event). last_point h.point es ≡ h.point) added refl;
-          shorter = omega arith;
-        })
-    go (suc n) e =
-        let first = column-first line text past r h.point is (omega (arith, e)) in
-        let left = rest_cells line (without_first r) first.at ++ stop in
-        let same : cells ≡ cell first.byte first.at line ∷ left = ap (λ (l : List Cell). l ++ stop) first.cells in
-        let size : length cells ≡ suc (length left) = ap length same in
-        let added = sym (ap (λ (l : List Cell). behind_events l h.point) same ∙ events-white (cell first.byte first.at line) left h.point first.white) in
-        record {
-          at = first.at;
-          comes = ap (λ (l : List Cell). behind_marker l h) same
-              ∙ behind-column (cell first.byte first.at line) left h first.white
-              ∙ ap (λ (l : List Cell). Accepts (record h { events = h.events ++ behind_events l h.point; point = first.at }) left) (sym same);
-          stands = first.stands;
-          ends = column-end line text past r h.point is first;
-          forward = subst (λ (es : List Event). Forward h.point es) added (at_or_before-refl h.point, (first.onward, (at_or_before-refl first.at, tt)));
-          last = subst (λ (es : List Event). last_point h.point es ≡ first.at) added refl;
-          shorter = omega (arith, size);
-        }
-
--- At the marker.
-
-marker-stop : (stop : List Cell) (h : Here) → Stops stop → at_marker stop h ≡ Refuses h.scratch h.flags
-unfolding at_marker
-marker-stop [] h k = refl
-marker-stop (c ∷ cs) h k = let other : (c.byte == 62) ≡ false = ap (λ (b : ℕ). b == 62) (eqb-true c.byte 10 k) in rw other refl
-
-marker-other : (c : Cell) (cs : List Cell) (h : Here) → (c.byte == 62) ≡ false → at_marker (c ∷ cs) h ≡ Refuses h.scratch h.flags
-unfolding at_marker
-marker-other c cs h e = rw e refl
-
-marker-white : (cells : List Cell) (h : Here) → begins_white cells ≡ true → at_marker cells h ≡ Refuses h.scratch h.flags
-marker-white [] h e = cc
-marker-white (c ∷ cs) h e = marker-other c cs h (white-other c.byte e)
-  where
-    white-other : (b : ℕ) → is_white b ≡ true → (b == 62) ≡ false
-    white-other b e = grind (arith, nat_tests)
-
-marker-here : (after : Point) (line : Line) (cs : List Cell) (h : Here) →
-    at_marker (cell 62 after line ∷ cs) h ≡ behind_marker cs (record h { events = h.events ++ enter BlockQuotePrefix h.point ∷ pair BlockQuoteMarker h.point after; point = after })
-unfolding at_marker
-marker-here after line cs h = refl
-
--- it is taken, and what stands behind it
-marker-takes : (line : Line) (text past : List ℕ) (r : Rest) (stop : List Cell) (h : Here) (q : Point) → RestAt text past r q → Stops stop → IsTrue (at_or_before h.point q) →
-    Takes line text past (past_rest r q) (lose 1 r) stop (cell 62 q line ∷ rest_cells line r q ++ stop) h (marker_events (cell 62 q line ∷ rest_cells line r q ++ stop) h.point) (at_marker (cell 62 q line ∷ rest_cells line r q ++ stop) h)
-marker-takes line text past r stop h q is k onward = subst Done (sym (marker-here q line cells h)) (takes-behind line text past (past_rest r q) (lose 1 r) stop (cell 62 q line ∷ cells) (cell 62 q line ∷ cells) h q front (behind_events cells q) (behind_marker cells marked) (at_or_before-refl h.point, (at_or_before-refl h.point, (onward, tt))) refl (omega arith) (behind-taken line text past r stop marked is k))
-  where
-    cells : List Cell
-    cells = rest_cells line r q ++ stop
-
-    front : List Event
-    front = enter BlockQuotePrefix h.point ∷ pair BlockQuoteMarker h.point q
-
-    marked : Here
-    marked = record h { events = h.events ++ front; point = q }
-
-    Done : Outcome → Type 0
-    Done o = Takes line text past (past_rest r q) (lose 1 r) stop (cell 62 q line ∷ cells) h (marker_events (cell 62 q line ∷ cells) h.point) o
-
--- where no indent is left
-abbrev taken_at : Rest → Option Taken
-taken_at r = cond (begins_with 62 r.bytes) (Some (record { container = InQuote; rest = lose 1 (behind 1 r) })) None
-
-at-marker : (line : Line) (text past : List ℕ) (r : Rest) (stop : List Cell) (h : Here) → RestAt text past r h.point → indent r ≡ 0 → Stops stop →
-    Agrees line text past (past_rest r h.point) stop (rest_cells line r h.point ++ stop) h (marker_events (rest_cells line r h.point ++ stop) h.point) (at_marker (rest_cells line r h.point ++ stop) h) (taken_at r)
-at-marker line text past r stop h is e k = go r.spaces r.bytes is (bare r e)
-  where
-    p : Point
-    p = h.point
-
-    rest : ℕ → List ℕ → Rest
-    rest spaces bytes = record { column = r.column; spaces = spaces; bytes = bytes }
-
-    Done : ℕ → List ℕ → Type 0
-    Done spaces bytes =
-        let cells = cells_by line spaces bytes p ++ stop in
-        Agrees line text past (past_text bytes (past_cut spaces p)) stop cells h (marker_events cells p) (at_marker cells h) (taken_at (rest spaces bytes))
-
-    go : (spaces : ℕ) (bytes : List ℕ) → RestAt text past (rest spaces bytes) p → Bare spaces bytes → Done spaces bytes
-    go (suc n) bytes at b = absurd b
-    go zero [] at b = marker-stop stop h k
-    go zero (b ∷ bs) at w = by (b == 62) refl
-      where
-        Marks : ℕ → Type 0
-        Marks c = RestAt text past (rest 0 (c ∷ bs)) p → Done 0 (c ∷ bs)
-
-        marks : Marks 62
-        marks here =
-            let next : RestAt text past (behind 1 (rest 0 (62 ∷ bs))) (past_byte 62 p) = record { column = omega (arith, here.column); cut = refl; text_is = past-next p.index text 62 (bs ++ past) here.text_is } in
-            marker-takes line text past (behind 1 (rest 0 (62 ∷ bs))) stop h (past_byte 62 p) next k (before-byte p (past_byte 62 p) (omega arith))
-
-        by : (t : Bool) → (b == 62) ≡ t → Done 0 (b ∷ bs)
-        by true f = subst Marks (sym (eqb-true b 62 f)) marks at
-        by false f = rw f (ap (λ (l : List Cell). at_marker (l ++ spread line bs (past_byte b p) ++ stop) h) (byte-one line b p w) ∙ marker-other (cell b (past_byte b p) line) (spread line bs (past_byte b p) ++ stop) h f)
-
--- The whole prefix.
-
--- it is a small indent, and what stands from the marker on
+-- a prefix is a small indent, and what stands from the marker on
 pub prefix-marker : (options : ParseOptions) (cells : List Cell) (h : Here) → IsRest h.scratch →
     prefix_at options cells h ≡ at_marker (white_rest (small_indent options) cells) (record h { events = h.events ++ indent_events options cells h.point; point = white_end (small_indent options) cells h.point })
 unfolding prefix_at
@@ -210,25 +62,282 @@ prefix-marker options cells h is = go (begins_white cells) refl
     room = small_indent options
 
     go : (t : Bool) → begins_white cells ≡ t → prefix_at options cells h ≡ at_marker (white_rest room cells) (record h { events = h.events ++ indent_events options cells h.point; point = white_end room cells h.point })
-    go true e = rw e (ap (λ (s : Scratch). at_marker (white_rest room cells) (record h { events = h.events ++ pair SpaceOrTab h.point (white_end room cells h.point); point = white_end room cells h.point; scratch = s })) (rest-calm h.scratch is ∙ sym is))
+    go true e = rw e (ap (λ (s : Scratch). at_marker (white_rest room cells) (record h { events = h.events ++ pair n.SpaceOrTab h.point (white_end room cells h.point); point = white_end room cells h.point; scratch = s })) (rest-calm h.scratch is ∙ sym is))
     go false e =
         rw e (ap (λ (l : List Cell). at_marker l h) (sym (white-rest room cells e))
         ∙ ap (λ (q : Point). at_marker (white_rest room cells) (record h { point = q })) (sym (white-end room cells h.point e))
         ∙ ap (λ (es : List Event). at_marker (white_rest room cells) (record h { events = es; point = white_end room cells h.point })) (sym (append-nil h.events)))
 
-indent-forward : (options : ParseOptions) (cells : List Cell) (p : Point) → IsTrue (at_or_before p (white_end (small_indent options) cells p)) → Forward p (indent_events options cells p)
-indent-forward options cells p h = go (begins_white cells)
-  where
-    go : (t : Bool) → Forward p (cond t (pair SpaceOrTab p (white_end (small_indent options) cells p)) [])
-    go true = (at_or_before-refl p, (h, tt))
-    go false = tt
+-- Whitespace between two points.
 
-indent-last : (options : ParseOptions) (cells : List Cell) (p : Point) → last_point p (indent_events options cells p) ≡ white_end (small_indent options) cells p
-indent-last options cells p = go (begins_white cells) refl
+-- only whitespace stands from a point to another one of the line
+record White (text : List ℕ) (p q : Point) : Type 0 where
+  onward : IsTrue (at_or_before p q)
+  index : p.index ≤ q.index
+  line : q.line ≡ p.line
+  blank : is_blank (slice_range text p.index q.index) ≡ true
+
+white-none : (text : List ℕ) (p : Point) → White text p p
+white-none text p = record { onward = at_or_before-refl p; index = omega arith; line = refl; blank = ap is_blank (range-none text p.index p.index (omega arith)) }
+
+white-append : (text : List ℕ) (p q r : Point) → White text p q → White text q r → White text p r
+white-append text p q r a b = record {
+  onward = at_or_before-trans p q r a.onward b.onward;
+  index = let h = a.index in let k = b.index in omega arith;
+  line = b.line ∙ a.line;
+  blank = ap is_blank (slice-split text p.index q.index r.index a.index b.index)
+      ∙ list_all-append is_white (slice_range text p.index q.index) (slice_range text q.index r.index)
+      ∙ ap (λ (t : Bool). t && is_blank (slice_range text q.index r.index)) a.blank
+      ∙ b.blank;
+}
+
+-- a step further
+record Step (text : List ℕ) (p q : Point) : Type 0 where
+  white : White text p q
+  apart : same_place p q ≡ false
+
+step-byte : (text rest : List ℕ) (b : ℕ) (p q : Point) → drop p.index text ≡ b ∷ rest → is_white b ≡ true → q.index ≡ p.index + 1 → q.line ≡ p.line → Step text p q
+step-byte text rest b p q e w index line = record {
+  white = record {
+    onward = grind (arith, nat_tests);
+    index = omega arith;
+    line = line;
+    blank = ap is_blank (slice-front text p.index q.index (b ∷ []) rest e index) ∙ ap (λ (t : Bool). t && true) w;
+  };
+  apart = grind (arith, nat_tests);
+}
+
+step-column : (text : List ℕ) (p : Point) → Step text p (next_column p)
+step-column text p = record {
+  white = record { onward = grind (arith, nat_tests); index = omega arith; line = refl; blank = ap is_blank (range-none text p.index p.index (omega arith)) };
+  apart = grind (arith, nat_tests);
+}
+
+apart-more : (p q r : Point) → same_place p q ≡ false → IsTrue (at_or_before p q) → IsTrue (at_or_before q r) → same_place p r ≡ false
+apart-more p q r a b c = grind (arith, nat_tests)
+
+step-append : (text : List ℕ) (p q r : Point) → Step text p q → White text q r → Step text p r
+step-append text p q r a b = record { white = white-append text p q r a.white b; apart = apart-more p q r a.apart a.white.onward b.onward }
+
+-- where the first cell ends
+abbrev first_after : Point → List Cell → Point
+first_after p [] = p
+first_after p (c ∷ cs) = c.after
+
+abbrev rest : ℕ → ℕ → List ℕ → Rest
+rest column spaces bytes = record { column = column; spaces = spaces; bytes = bytes }
+
+-- one column of whitespace is a step
+column-step : (line : Line) (text behind : List ℕ) (r : Rest) (p : Point) → RestAt text behind r p → 0 < indent r → (first : HasColumn line text behind r p) → Step text p first.at
+column-step line text behind r p is lt first = go r.column r.spaces r.bytes is lt (ap (first_after p) first.cells)
   where
-    go : (t : Bool) → begins_white cells ≡ t → last_point p (cond t (pair SpaceOrTab p (white_end (small_indent options) cells p)) []) ≡ white_end (small_indent options) cells p
-    go true e = refl
-    go false e = sym (white-end (small_indent options) cells p e)
+    at : Point
+    at = first.at
+
+    go : (column spaces : ℕ) (bytes : List ℕ) → RestAt text behind (rest column spaces bytes) p → 0 < indent (rest column spaces bytes) → first_after p (rest_cells line (rest column spaces bytes) p) ≡ at → Step text p at
+    go column (suc zero) bytes h lt e = subst (Step text p) e (step-byte text (bytes ++ behind) 9 p (behind_last p) h.text_is refl refl refl)
+    go column (suc (suc n)) bytes h lt e = subst (Step text p) e (step-column text p)
+    go column zero [] h lt e = absurd (omega (arith, lt))
+    go column zero (b ∷ bs) h lt e = by (b == 9) refl (b == 32) refl h e
+      where
+        Has : ℕ → Type 0
+        Has c = RestAt text behind (rest column 0 (c ∷ bs)) p → first_after p (rest_cells line (rest column 0 (c ∷ bs)) p) ≡ at → Step text p at
+
+        tab : (k : ℕ) → drop p.index text ≡ 9 ∷ bs ++ behind → first_after p (tab_cells line k 9 p ++ spread line bs (past_byte 9 p)) ≡ at → Step text p at
+        tab zero is e = subst (Step text p) e (step-byte text (bs ++ behind) 9 p (behind_last p) is refl refl refl)
+        tab (suc k) is e = subst (Step text p) e (step-column text p)
+
+        by : (t : Bool) → (b == 9) ≡ t → (s : Bool) → (b == 32) ≡ s → Has b
+        by true f s g = subst Has (sym (eqb-true b 9 f)) (λ is. tab (columns_more p) is.text_is)
+        by false f true g = subst Has (sym (eqb-true b 32 g)) (λ is e. subst (Step text p) e (step-byte text (bs ++ behind) 32 p (past_byte 32 p) is.text_is refl refl refl))
+        by false f false g = let none : white_columns (column + 0) (b ∷ bs) ≡ 0 = rw (f, g) refl in absurd (omega (arith, lt, none))
+
+-- an indent is whitespace, and a step if there is one
+record HasWhite (text : List ℕ) (cells : List Cell) (p q : Point) : Type 0 where
+  white : White text p q
+  events : cond (begins_white cells) (pair n.SpaceOrTab p q) [] ≡ pair_unless_empty n.SpaceOrTab p q
+
+white-step : (text : List ℕ) (cells : List Cell) (p q : Point) → begins_white cells ≡ true → Step text p q → HasWhite text cells p q
+white-step text cells p q e step = record {
+  white = step.white;
+  events = ap (λ (t : Bool). cond t (pair n.SpaceOrTab p q) []) e ∙ sym (ap (λ (t : Bool). cond t [] (pair n.SpaceOrTab p q)) step.apart);
+}
+
+white-same : (text : List ℕ) (cells : List Cell) (p : Point) → begins_white cells ≡ false → HasWhite text cells p p
+white-same text cells p e = record {
+  white = white-none text p;
+  events = ap (λ (t : Bool). cond t (pair n.SpaceOrTab p p) []) e ∙ sym (ap (λ (t : Bool). cond t [] (pair n.SpaceOrTab p p)) (same-refl p));
+}
+
+white-walk : (line : Line) (text behind : List ℕ) (n room : ℕ) (r : Rest) (p : Point) (stop : List Cell) → RestAt text behind r p → Stops stop → indent r ≡ n → n ≤ room →
+    HasWhite text (rest_cells line r p ++ stop) p (white_end room (rest_cells line r p ++ stop) p)
+white-walk line text behind zero room r p stop is k e le =
+    let white = bare-cells line r p stop e k in
+    subst (HasWhite text (rest_cells line r p ++ stop) p) (sym (white-end room (rest_cells line r p ++ stop) p white)) (white-same text (rest_cells line r p ++ stop) p white)
+white-walk line text behind (suc n) zero r p stop is k e le = absurd (omega (arith, le))
+white-walk line text behind (suc n) (suc room) r p stop is k e le =
+    let first = column-first line text behind r p is (omega (arith, e)) in
+    let cs = rest_cells line (without_first r) first.at ++ stop in
+    let further = white-walk line text behind n room (without_first r) first.at stop first.stands k (omega (arith, e, first.columns)) (omega (arith, le)) in
+    let cells : rest_cells line r p ++ stop ≡ cell first.byte first.at line ∷ cs = ap (λ (l : List Cell). l ++ stop) first.cells in
+    let end : white_end (suc room) (rest_cells line r p ++ stop) p ≡ white_end room cs first.at = ap (λ (l : List Cell). white_end (suc room) l p) cells ∙ ap (λ (t : Bool). cond t (white_end room cs first.at) p) first.white in
+    white-step text (rest_cells line r p ++ stop) p (white_end (suc room) (rest_cells line r p ++ stop) p) (ap begins_white cells ∙ first.white)
+    (subst (Step text p) (sym end) (step-append text p first.at (white_end room cs first.at) (column-step line text behind r p is (omega (arith, e)) first) further.white))
+
+-- Behind the marker.
+
+-- at most one column of whitespace is taken
+record HasBehind (line : Line) (text past : List ℕ) (end : Point) (stop cells : List Cell) (p : Point) (left : Rest) : Type 0 where
+  fed : behind_rest cells ≡ rest_cells line left (behind_end cells p) ++ stop
+  stands : RestAt text past left (behind_end cells p)
+  ends : past_rest left (behind_end cells p) ≡ end
+  events : behind_events cells p ≡ pair_unless_empty n.SpaceOrTab p (behind_end cells p) ++ exit n.BlockQuotePrefix (behind_end cells p) ∷ []
+  white : White text p (behind_end cells p)
+  shorter : length (behind_rest cells) ≤ length cells
+
+behind-none : (cells : List Cell) (p : Point) → begins_white cells ≡ false → (behind_rest cells ≡ cells) × (behind_end cells p ≡ p) × (behind_events cells p ≡ exit n.BlockQuotePrefix p ∷ [])
+behind-none [] p e = (refl, refl, refl)
+behind-none (c ∷ cs) p e = (rw e refl, rw e refl, rw e refl)
+
+behind-one : (line : Line) (text past : List ℕ) (r : Rest) (stop : List Cell) (p : Point) → RestAt text past r p → Stops stop → HasBehind line text past (past_rest r p) stop (rest_cells line r p ++ stop) p (lose 1 r)
+behind-one line text past r stop p is k = go (indent r) refl
+  where
+    cells : List Cell
+    cells = rest_cells line r p ++ stop
+
+    go : (n : ℕ) → indent r ≡ n → HasBehind line text past (past_rest r p) stop cells p (lose 1 r)
+    go zero e =
+        let none = behind-none cells p (bare-cells line r p stop e k) in
+        let end : p ≡ behind_end cells p = sym none.1 in
+        subst (HasBehind line text past (past_rest r p) stop cells p) (sym (bare-same r e)) (record {
+          fed = none.0 ∙ ap (λ (q : Point). rest_cells line r q ++ stop) end;
+          stands = subst (RestAt text past r) end is;
+          ends = ap (past_rest r) none.1;
+          events = none.2
+              ∙ sym (ap (λ (t : Bool). cond t [] (pair n.SpaceOrTab p p) ++ exit n.BlockQuotePrefix p ∷ []) (same-refl p))
+              ∙ ap (λ (q : Point). pair_unless_empty n.SpaceOrTab p q ++ exit n.BlockQuotePrefix q ∷ []) end;
+          white = subst (White text p) end (white-none text p);
+          shorter = let same = ap length none.0 in omega arith;
+        })
+    go (suc m) e =
+        let first = column-first line text past r p is (omega (arith, e)) in
+        let left = rest_cells line (without_first r) first.at ++ stop in
+        let same : cells ≡ cell first.byte first.at line ∷ left = ap (λ (l : List Cell). l ++ stop) first.cells in
+        let end : first.at ≡ behind_end cells p = sym (ap (λ (l : List Cell). behind_end l p) same ∙ ap (λ (t : Bool). cond t first.at p) first.white) in
+        let further : behind_rest cells ≡ left = ap behind_rest same ∙ ap (λ (t : Bool). cond t left (cell first.byte first.at line ∷ left)) first.white in
+        let step = column-step line text past r p is (omega (arith, e)) first in
+        record {
+          fed = further ∙ ap (λ (q : Point). rest_cells line (without_first r) q ++ stop) end;
+          stands = subst (RestAt text past (without_first r)) end first.stands;
+          ends = ap (past_rest (without_first r)) (sym end) ∙ column-end line text past r p is first;
+          events = ap (λ (l : List Cell). behind_events l p) same
+              ∙ ap (λ (t : Bool). cond t (pair n.SpaceOrTab p first.at ++ exit n.BlockQuotePrefix first.at ∷ []) (exit n.BlockQuotePrefix p ∷ [])) first.white
+              ∙ sym (ap (λ (t : Bool). cond t [] (pair n.SpaceOrTab p first.at) ++ exit n.BlockQuotePrefix first.at ∷ []) step.apart)
+              ∙ ap (λ (q : Point). pair_unless_empty n.SpaceOrTab p q ++ exit n.BlockQuotePrefix q ∷ []) end;
+          white = subst (White text p) end step.white;
+          shorter = let a = ap length further in let b = ap length same in omega arith;
+        }
+
+-- At the marker.
+
+record HasMarker (line : Line) (text past : List ℕ) (end : Point) (stop cells : List Cell) (p : Point) (left : Rest) : Type 0 where
+  takes : has_marker cells ≡ true
+  fed : marker_rest cells ≡ rest_cells line left (marker_end cells p) ++ stop
+  stands : RestAt text past left (marker_end cells p)
+  ends : past_rest left (marker_end cells p) ≡ end
+  behind : Point
+  events : marker_events cells p ≡ enter n.BlockQuotePrefix p ∷ enter n.BlockQuoteMarker p ∷ exit n.BlockQuoteMarker behind ∷ pair_unless_empty n.SpaceOrTab behind (marker_end cells p) ++ exit n.BlockQuotePrefix (marker_end cells p) ∷ []
+  next : behind.index ≡ suc p.index
+  same_line : behind.line ≡ p.line
+  byte : slice_get text p.index ≡ Some 62
+  whole : p.vs ≡ 0
+  behind_whole : behind.vs ≡ 0
+  white : White text behind (marker_end cells p)
+  shorter : length (marker_rest cells) < length cells
+
+-- a marker stands here, and so much is left behind it, or there is none
+abbrev MarkerIs : Line → (text past : List ℕ) → Point → (stop cells : List Cell) → Point → Option Taken → Type 0
+MarkerIs line text past end stop cells p (Some taken) = HasMarker line text past end stop cells p taken.rest
+MarkerIs line text past end stop cells p None = has_marker cells ≡ false
+
+get-next : (index : ℕ) (bytes : List ℕ) (b : ℕ) (rest : List ℕ) → drop index bytes ≡ b ∷ rest → slice_get bytes index ≡ Some b
+get-next zero [] b rest e = cc
+get-next zero (c ∷ bytes) b rest e = cc
+get-next (suc index) [] b rest e = cc
+get-next (suc index) (c ∷ bytes) b rest e = get-next index bytes b rest e
+
+stop-marker : (stop : List Cell) → Stops stop → has_marker stop ≡ false
+stop-marker [] k = refl
+stop-marker (c ∷ cs) k = ap (λ (b : ℕ). b == 62) (eqb-true c.byte 10 k)
+
+-- where no indent is left
+abbrev taken_at : Rest → Option Taken
+taken_at r = cond (begins_with 62 r.bytes) (Some (record { container = InQuote; rest = lose 1 (behind 1 r) })) None
+
+marker-is : (line : Line) (text past : List ℕ) (r : Rest) (stop : List Cell) (p : Point) → RestAt text past r p → indent r ≡ 0 → Stops stop →
+    MarkerIs line text past (past_rest r p) stop (rest_cells line r p ++ stop) p (taken_at r)
+marker-is line text past r stop p is e k = go r.spaces r.bytes is (bare r e)
+  where
+    Done : ℕ → List ℕ → Type 0
+    Done spaces bytes = MarkerIs line text past (past_text bytes (past_cut spaces p)) stop (cells_by line spaces bytes p ++ stop) p (taken_at (rest r.column spaces bytes))
+
+    go : (spaces : ℕ) (bytes : List ℕ) → RestAt text past (rest r.column spaces bytes) p → Bare spaces bytes → Done spaces bytes
+    go (suc n) bytes at b = absurd b
+    go zero [] at b = stop-marker stop k
+    go zero (b ∷ bs) at w = by (b == 62) refl
+      where
+        Marks : ℕ → Type 0
+        Marks c = RestAt text past (rest r.column 0 (c ∷ bs)) p → Done 0 (c ∷ bs)
+
+        marks : Marks 62
+        marks here =
+            let q = past_byte 62 p in
+            let from : Rest = behind 1 (rest r.column 0 (62 ∷ bs)) in
+            let next : RestAt text past from q = record { column = omega (arith, here.column); cut = refl; text_is = past-next p.index text 62 (bs ++ past) here.text_is } in
+            let further = behind-one line text past from stop q next k in
+            record {
+              takes = refl;
+              fed = further.fed;
+              stands = further.stands;
+              ends = further.ends;
+              behind = q;
+              events = ap (λ (es : List Event). enter n.BlockQuotePrefix p ∷ enter n.BlockQuoteMarker p ∷ exit n.BlockQuoteMarker q ∷ es) further.events;
+              next = omega arith;
+              same_line = refl;
+              byte = get-next p.index text 62 (bs ++ past) here.text_is;
+              whole = here.cut;
+              behind_whole = refl;
+              white = further.white;
+              shorter = let le = further.shorter in omega arith;
+            }
+
+        by : (t : Bool) → (b == 62) ≡ t → Done 0 (b ∷ bs)
+        by true f = subst Marks (sym (eqb-true b 62 f)) marks at
+        by false f = rw f (ap (λ (l : List Cell). has_marker (l ++ spread line bs (past_byte b p) ++ stop)) (byte-one line b p w) ∙ f)
+
+-- whitespace is no marker
+marker-white : (cells : List Cell) → begins_white cells ≡ true → has_marker cells ≡ false
+marker-white [] e = cc
+marker-white (c ∷ cs) e = go c.byte e
+  where
+    go : (b : ℕ) → is_white b ≡ true → (b == 62) ≡ false
+    go b e = grind (arith, nat_tests)
+
+-- The whole prefix.
+
+-- so much is left of a line behind it, and this stands there
+pub record HasPrefix (options : ParseOptions) (line : Line) (text past : List ℕ) (end : Point) (stop cells : List Cell) (p : Point) (left : Rest) : Type 0 where
+  pub takes : takes_prefix options cells ≡ true
+  pub fed : prefix_rest options cells ≡ rest_cells line left (prefix_end options cells p) ++ stop
+  pub stands : RestAt text past left (prefix_end options cells p)
+  pub ends : past_rest left (prefix_end options cells p) ≡ end
+  pub prefix : IsPrefix text p (prefix_end options cells p) (prefix_events options cells p)
+  pub shorter : length (prefix_rest options cells) < length cells
+
+-- a prefix stands here, and so much is left behind it, or there is none
+abbrev pub PrefixIs : ParseOptions → Line → (text past : List ℕ) → Point → (stop cells : List Cell) → Point → Option Taken → Type 0
+PrefixIs options line text past end stop cells p (Some taken) = HasPrefix options line text past end stop cells p taken.rest
+PrefixIs options line text past end stop cells p None = takes_prefix options cells ≡ false
 
 -- a small indent fits, where there are not too many cells
 small-room : (options : ParseOptions) (r : Rest) (size : ℕ) → has_small_indent options r ≡ true → indent r ≤ size → size < 2 ^ 63 → indent r ≤ small_indent options
@@ -254,109 +363,62 @@ taken-large : (options : ParseOptions) (r : Rest) → has_small_indent options r
 unfolding quote_taken
 taken-large options r e = rw e refl
 
--- the prefix of a line, as its states take it and as the definition does
-pub prefix-lines : (options : ParseOptions) (line : Line) (text past : List ℕ) (r : Rest) (stop : List Cell) (h : Here) → RestAt text past r h.point → Stops stop → length (rest_cells line r h.point ++ stop) < 2 ^ 63 → IsRest h.scratch →
-    Agrees line text past (past_rest r h.point) stop (rest_cells line r h.point ++ stop) h (prefix_events options (rest_cells line r h.point ++ stop) h.point) (prefix_at options (rest_cells line r h.point ++ stop) h) (quote_taken options r)
-prefix-lines options line text past r stop h is k short calm = go (has_small_indent options r) refl
+-- a prefix stands on the cells of a line where it does on its bytes
+pub prefix-agrees : (options : ParseOptions) (line : Line) (text past : List ℕ) (r : Rest) (stop : List Cell) (p : Point) → RestAt text past r p → Stops stop → length (rest_cells line r p ++ stop) < 2 ^ 63 →
+    PrefixIs options line text past (past_rest r p) stop (rest_cells line r p ++ stop) p (quote_taken options r)
+prefix-agrees options line text past r stop p is k short = go (has_small_indent options r) refl
   where
     room : ℕ
     room = small_indent options
 
     cells : List Cell
-    cells = rest_cells line r h.point ++ stop
+    cells = rest_cells line r p ++ stop
 
     left : List Cell
     left = white_rest room cells
 
     q : Point
-    q = white_end room cells h.point
+    q = white_end room cells p
 
-    front : List Event
-    front = indent_events options cells h.point
+    whole : (taken : Option Taken) → HasWhite text cells p q → MarkerIs line text past (past_rest r p) stop left q taken → PrefixIs options line text past (past_rest r p) stop cells p taken
+    whole None white m = m
+    whole (Some taken) white m = record {
+      takes = m.takes;
+      fed = m.fed;
+      stands = m.stands;
+      ends = m.ends;
+      prefix = record {
+        marker = q;
+        behind = m.behind;
+        events = ap (λ (es : List Event). es ++ marker_events left q) white.events ∙ ap (λ (es : List Event). pair_unless_empty n.SpaceOrTab p q ++ es) m.events
+            ∙ sym (append_assoc (pair_unless_empty n.SpaceOrTab p q) (enter n.BlockQuotePrefix q ∷ enter n.BlockQuoteMarker q ∷ exit n.BlockQuoteMarker m.behind ∷ pair_unless_empty n.SpaceOrTab m.behind (marker_end left q)) (exit n.BlockQuotePrefix (marker_end left q) ∷ []));
+        indent = white.white.onward;
+        past = m.next;
+        column = m.white.onward;
+        byte = m.byte;
+        marker_whole = m.whole;
+        behind_whole = m.behind_whole;
+        white_before = white.white.blank;
+        white_behind = m.white.blank;
+        line = m.white.line ∙ m.same_line ∙ white.white.line;
+      };
+      shorter = let le = white-length room cells in let lt = m.shorter in omega arith;
+    }
 
-    marked : Here
-    marked = record h { events = h.events ++ front; point = q }
+    Done : Option Taken → Type 0
+    Done taken = PrefixIs options line text past (past_rest r p) stop cells p taken
 
-    -- from the marker on
-    Done : List Cell → Option Taken → Type 0
-    Done l taken = Agrees line text past (past_rest r h.point) stop l marked (marker_events l q) (at_marker l marked) taken
-
-    whole : (taken : Option Taken) → IsTrue (at_or_before h.point q) → Done left taken → Agrees line text past (past_rest r h.point) stop cells h (prefix_events options cells h.point) (prefix_at options cells h) taken
-    whole taken onward done =
-        subst (λ (o : Outcome). Agrees line text past (past_rest r h.point) stop cells h (prefix_events options cells h.point) o taken) (sym (prefix-marker options cells h calm))
-        (agrees-behind line text past (past_rest r h.point) stop cells left h q front (marker_events left q) (at_marker left marked) taken (indent-forward options cells h.point onward) (indent-last options cells h.point) (white-length room cells) done)
-
-    go : (t : Bool) → has_small_indent options r ≡ t → Agrees line text past (past_rest r h.point) stop cells h (prefix_events options cells h.point) (prefix_at options cells h) (quote_taken options r)
+    go : (t : Bool) → has_small_indent options r ≡ t → Done (quote_taken options r)
     go true e =
-        let size : length cells ≡ length (rest_cells line r h.point) + length stop = length-append (rest_cells line r h.point) stop in
-        let fits = small-room options r (length cells) e (let most = indent-length line text past r h.point is in omega arith) short in
-        let taken = indent-taken line text past room r h.point stop is k fits in
-        whole (quote_taken options r) taken.onward
-        (subst (Done left) (sym (taken-small options r e))
-        (subst (λ (l : List Cell). Done l (taken_at (behind_indent r))) (sym taken.cells)
-        (subst (λ (end : Point). Agrees line text past end stop (rest_cells line (behind_indent r) q ++ stop) marked (marker_events (rest_cells line (behind_indent r) q ++ stop) q) (at_marker (rest_cells line (behind_indent r) q ++ stop) marked) (taken_at (behind_indent r))) taken.ends
-        (at-marker line text past (behind_indent r) stop marked taken.stands taken.none k))))
-    go false e =
-        let over = indent-over line text past room r h.point stop is (large-room options r e) in
-        subst (λ (taken : Option Taken). Agrees line text past (past_rest r h.point) stop cells h (prefix_events options cells h.point) (prefix_at options cells h) taken) (sym (taken-large options r e))
-        (prefix-marker options cells h calm ∙ marker-white left marked over)
-
--- a prefix that the definition takes is taken, and one that it does not is refused
-pub prefix-taken : (options : ParseOptions) (line : Line) (text past : List ℕ) (r : Rest) (stop : List Cell) (h : Here) (taken : Taken) → RestAt text past r h.point → Stops stop → length (rest_cells line r h.point ++ stop) < 2 ^ 63 → IsRest h.scratch →
-    quote_taken options r ≡ Some taken → Takes line text past (past_rest r h.point) taken.rest stop (rest_cells line r h.point ++ stop) h (prefix_events options (rest_cells line r h.point ++ stop) h.point) (prefix_at options (rest_cells line r h.point ++ stop) h)
-prefix-taken options line text past r stop h taken is k short calm e =
-    let cells = rest_cells line r h.point ++ stop in
-    subst (Agrees line text past (past_rest r h.point) stop cells h (prefix_events options cells h.point) (prefix_at options cells h)) e (prefix-lines options line text past r stop h is k short calm)
-
-pub prefix-refused : (options : ParseOptions) (line : Line) (text past : List ℕ) (r : Rest) (stop : List Cell) (h : Here) → RestAt text past r h.point → Stops stop → length (rest_cells line r h.point ++ stop) < 2 ^ 63 → IsRest h.scratch →
-    quote_taken options r ≡ None → prefix_at options (rest_cells line r h.point ++ stop) h ≡ Refuses h.scratch h.flags
-prefix-refused options line text past r stop h is k short calm e =
-    let cells = rest_cells line r h.point ++ stop in
-    subst (Agrees line text past (past_rest r h.point) stop cells h (prefix_events options cells h.point) (prefix_at options cells h)) e (prefix-lines options line text past r stop h is k short calm)
-
-opens-on : (options : ParseOptions) (r : Rest) → options.constructs.block_quote ≡ true → opens_quote options r ≡ quote_taken options r
-unfolding opens_quote
-opens-on options r e = rw e refl
-
-opens-off : (options : ParseOptions) (r : Rest) → options.constructs.block_quote ≡ false → opens_quote options r ≡ None
-unfolding opens_quote
-opens-off options r e = rw e refl
-
--- the same with the begin of the quote in front, where quotes are on
-pub quote-lines : (options : ParseOptions) (line : Line) (text past : List ℕ) (r : Rest) (stop : List Cell) (h : Here) → RestAt text past r h.point → Stops stop → length (rest_cells line r h.point ++ stop) < 2 ^ 63 → IsRest h.scratch →
-    Agrees line text past (past_rest r h.point) stop (rest_cells line r h.point ++ stop) h (enter BlockQuote h.point ∷ prefix_events options (rest_cells line r h.point ++ stop) h.point) (quote_at options (rest_cells line r h.point ++ stop) h) (opens_quote options r)
-quote-lines options line text past r stop h is k short calm = go options.constructs.block_quote refl
-  where
-    cells : List Cell
-    cells = rest_cells line r h.point ++ stop
-
-    begun : Here
-    begun = record h { events = h.events ++ enter BlockQuote h.point ∷ [] }
-
-    Done : Outcome → Option Taken → Type 0
-    Done o taken = Agrees line text past (past_rest r h.point) stop cells h (enter BlockQuote h.point ∷ prefix_events options cells h.point) o taken
-
-    go : (t : Bool) → options.constructs.block_quote ≡ t → Done (quote_at options cells h) (opens_quote options r)
-    go true e =
-        let prefix = prefix-lines options line text past r stop begun is k short calm in
-        subst (λ (o : Outcome). Done o (opens_quote options r)) (sym (quote-on options cells h e))
-        (subst (Done (prefix_at options cells begun)) (sym (opens-on options r e))
-        (agrees-behind line text past (past_rest r h.point) stop cells cells h h.point (enter BlockQuote h.point ∷ []) (prefix_events options cells h.point) (prefix_at options cells begun) (quote_taken options r) (at_or_before-refl h.point, tt) refl (omega arith) prefix))
-    go false e =
-        subst (λ (o : Outcome). Done o (opens_quote options r)) (sym (quote-off options cells h e))
-        (subst (Done (Refuses h.scratch h.flags)) (sym (opens-off options r e)) refl)
-
-pub quote-taken : (options : ParseOptions) (line : Line) (text past : List ℕ) (r : Rest) (stop : List Cell) (h : Here) (taken : Taken) → RestAt text past r h.point → Stops stop → length (rest_cells line r h.point ++ stop) < 2 ^ 63 → IsRest h.scratch →
-    opens_quote options r ≡ Some taken → Takes line text past (past_rest r h.point) taken.rest stop (rest_cells line r h.point ++ stop) h (enter BlockQuote h.point ∷ prefix_events options (rest_cells line r h.point ++ stop) h.point) (quote_at options (rest_cells line r h.point ++ stop) h)
-quote-taken options line text past r stop h taken is k short calm e =
-    let cells = rest_cells line r h.point ++ stop in
-    subst (Agrees line text past (past_rest r h.point) stop cells h (enter BlockQuote h.point ∷ prefix_events options cells h.point) (quote_at options cells h)) e (quote-lines options line text past r stop h is k short calm)
-
-pub quote-refused : (options : ParseOptions) (line : Line) (text past : List ℕ) (r : Rest) (stop : List Cell) (h : Here) → RestAt text past r h.point → Stops stop → length (rest_cells line r h.point ++ stop) < 2 ^ 63 → IsRest h.scratch →
-    opens_quote options r ≡ None → quote_at options (rest_cells line r h.point ++ stop) h ≡ Refuses h.scratch h.flags
-quote-refused options line text past r stop h is k short calm e =
-    let cells = rest_cells line r h.point ++ stop in
-    subst (Agrees line text past (past_rest r h.point) stop cells h (enter BlockQuote h.point ∷ prefix_events options cells h.point) (quote_at options cells h)) e (quote-lines options line text past r stop h is k short calm)
+        let size : length cells ≡ length (rest_cells line r p) + length stop = length-append (rest_cells line r p) stop in
+        let fits = small-room options r (length cells) e (let most = indent-length line text past r p is in omega arith) short in
+        let taken = indent-taken line text past room r p stop is k fits in
+        let white = white-walk line text past (indent r) room r p stop is k refl fits in
+        let marker : MarkerIs line text past (past_rest r p) stop left q (taken_at (behind_indent r)) =
+        subst (λ (l : List Cell). MarkerIs line text past (past_rest r p) stop l q (taken_at (behind_indent r))) (sym taken.cells)
+        (subst (λ (end : Point). MarkerIs line text past end stop (rest_cells line (behind_indent r) q ++ stop) q (taken_at (behind_indent r))) taken.ends (marker-is line text past (behind_indent r) stop q taken.stands taken.none k)) in
+        subst Done (sym (taken-small options r e)) (whole (taken_at (behind_indent r)) white marker)
+    go false e = subst Done (sym (taken-large options r e)) (marker-white left (indent-over line text past room r p stop is (large-room options r e)))
 
 -- What is left.
 
@@ -383,48 +445,3 @@ pub quote-no_ending : (options : ParseOptions) (r : Rest) (taken : Taken) → No
 quote-no_ending options r taken h e =
     let marker = behind_indent r in
     taken-left (λ t. NoEnding t.rest.bytes) options r taken (lose-no_ending 1 (behind 1 marker) (behind-no_ending 1 marker (lose-no_ending (indent r) r h))) e
-
--- Its events.
-
--- none of them but the begin and the end of a prefix is of use to who reads blocks
-behind-roles : (cells : List Cell) (p : Point) → Roles QuietOrPrefix (behind_events cells p)
-behind-roles [] p = (tt, tt)
-behind-roles (c ∷ cs) p = go (is_white c.byte)
-  where
-    go : (t : Bool) → Roles QuietOrPrefix (cond t (pair SpaceOrTab p c.after ++ exit BlockQuotePrefix c.after ∷ []) (exit BlockQuotePrefix p ∷ []))
-    go true = (tt, (tt, (tt, tt)))
-    go false = (tt, tt)
-
-marker-roles : (cells : List Cell) (p : Point) → Roles QuietOrPrefix (marker_events cells p)
-marker-roles [] p = tt
-marker-roles (c ∷ cs) p = (tt, (tt, (tt, behind-roles cs c.after)))
-
-indent-roles : (options : ParseOptions) (cells : List Cell) (p : Point) → Roles QuietOrPrefix (indent_events options cells p)
-indent-roles options cells p = go (begins_white cells)
-  where
-    go : (t : Bool) → Roles QuietOrPrefix (cond t (pair SpaceOrTab p (white_end (small_indent options) cells p)) [])
-    go true = (tt, (tt, tt))
-    go false = tt
-
-pub prefix-roles : (options : ParseOptions) (cells : List Cell) (p : Point) → Roles QuietOrPrefix (prefix_events options cells p)
-prefix-roles options cells p = roles-append QuietOrPrefix (indent_events options cells p) (marker_events (white_rest (small_indent options) cells) (white_end (small_indent options) cells p)) (indent-roles options cells p) (marker-roles (white_rest (small_indent options) cells) (white_end (small_indent options) cells p))
-
-marker-balanced : (cells : List Cell) (p : Point) → Balanced (marker_events cells p)
-marker-balanced [] p = balanced-none
-marker-balanced (c ∷ []) p = record { matches = (tt, (tt, (refl, (refl, tt)))); closed = refl }
-marker-balanced (c ∷ d ∷ cs) p = go (is_white d.byte)
-  where
-    go : (t : Bool) → Balanced (enter BlockQuotePrefix p ∷ pair BlockQuoteMarker p c.after ++ cond t (pair SpaceOrTab c.after d.after ++ exit BlockQuotePrefix d.after ∷ []) (exit BlockQuotePrefix c.after ∷ []))
-    go true = record { matches = (tt, (tt, (refl, (tt, (refl, (refl, tt)))))); closed = refl }
-    go false = record { matches = (tt, (tt, (refl, (refl, tt)))); closed = refl }
-
-indent-balanced : (options : ParseOptions) (cells : List Cell) (p : Point) → Balanced (indent_events options cells p)
-indent-balanced options cells p = go (begins_white cells)
-  where
-    go : (t : Bool) → Balanced (cond t (pair SpaceOrTab p (white_end (small_indent options) cells p)) [])
-    go true = record { matches = (tt, (refl, tt)); closed = refl }
-    go false = balanced-none
-
--- they nest
-pub prefix-balanced : (options : ParseOptions) (cells : List Cell) (p : Point) → Balanced (prefix_events options cells p)
-prefix-balanced options cells p = balanced-append (indent_events options cells p) (marker_events (white_rest (small_indent options) cells) (white_end (small_indent options) cells p)) (indent-balanced options cells p) (marker-balanced (white_rest (small_indent options) cells) (white_end (small_indent options) cells p))

@@ -1,5 +1,5 @@
 -- The cells of a line: what is fed from a point of a line to the line's end, and the cell of its ending.
-use Rattle.std.proofs.Common.{◌≡◌, ℕ, zero, suc, ◌+◌, ◌-◌, ◌%◌, ◌^◌, ◌<◌, ◌≤◌, Bool, true, false, cond, ◌&&◌, List, [], ◌∷◌, ◌++◌, length, take, drop, refl, sym, ap, ◌∙◌, subst, add-one, arith, append_assoc, drop-drop}
+use Rattle.std.proofs.Common.{◌≡◌, ℕ, zero, suc, ◌+◌, ◌-◌, ◌%◌, ◌^◌, ◌<◌, ◌≤◌, Bool, true, false, cond, ◌&&◌, List, [], ◌∷◌, ◌++◌, length, take, drop, refl, sym, ap, ◌∙◌, subst, add-one, arith, append_assoc, drop-drop, take-add}
 use Rattle.std.specs.Prelude.{IsTrue, ◌==◌, not, nat_lt, map, slice_get, slice_index, slice_range, if◌then◌else◌, count_by}
 use Rattle.std.specs.List.{list_all}
 use Rattle.std.proofs.lemmas.Bool.{eqb-true, or_parts}
@@ -400,6 +400,15 @@ ending-feed x ending rest p h =
 
 pub slice-front : (bytes : List ℕ) (i j : ℕ) (xs rest : List ℕ) → drop i bytes ≡ xs ++ rest → j ≡ i + length xs → slice_range bytes i j ≡ xs
 slice-front bytes i j xs rest e k = ap (take (j - i)) e ∙ take_at xs rest (j - i) (omega arith)
+
+-- a slice is cut at a place inside
+pub slice-split : (bytes : List ℕ) (a b c : ℕ) → a ≤ b → b ≤ c → slice_range bytes a c ≡ slice_range bytes a b ++ slice_range bytes b c
+slice-split bytes a b c h k =
+    let size : c - a ≡ (b - a) + (c - b) = omega arith in
+    let place : a + (b - a) ≡ b = omega arith in
+    ap (λ (i : ℕ). take i (drop a bytes)) size
+    ∙ take-add (b - a) (c - b) (drop a bytes)
+    ∙ ap (λ (l : List ℕ). take (b - a) (drop a bytes) ++ take (c - b) l) (drop-drop (b - a) a bytes ∙ ap (λ (i : ℕ). drop i bytes) place)
 
 -- a piece of a line is one of the text
 pub slice-inside : (bytes line : List ℕ) (from end i size : ℕ) → slice_range bytes from end ≡ line → end ≡ from + length line → i + size ≤ length line → slice_range bytes (from + i) (from + i + size) ≡ take size (drop i line)
