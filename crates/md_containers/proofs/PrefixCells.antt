@@ -1,19 +1,20 @@
 -- The prefix of a quote by the cells of a line: whether one stands there, what it adds, and what it leaves.
-use Rattle.std.proofs.Common.{◌≡◌, ◌<◌, ◌≤◌, Bool, true, false, cond, ◌&&◌, List, [], ◌∷◌, ◌++◌, length, refl, ap, ◌∙◌, arith, append_assoc}
+use Rattle.std.proofs.Common.{◌≡◌, ℕ, ◌<◌, ◌≤◌, Bool, true, false, cond, ◌&&◌, List, [], ◌∷◌, ◌++◌, length, refl, ap, sym, ◌∙◌, arith, append_assoc, append-nil}
 use Rattle.std.specs.Prelude.{◌==◌}
 use Rattle.md_engine.specs.declared.configuration.ParseOptions.{ParseOptions}
 use Rattle.md_engine.specs.declared.event.Event.{Event}
 use Rattle.md_engine.specs.declared.event.Name.TheVariants.{BlockQuote, BlockQuoteMarker, BlockQuotePrefix, SpaceOrTab}
 use Rattle.md_engine.specs.declared.event.Point.{Point}
+use Rattle.md_engine.specs.declared.tokenizer.Scratch.{Scratch}
 use Rattle.md_engine.specs.Meaning.{Accepts, Cell, Here, Refuses}
 use Rattle.md_containers.specs.QuoteRule.{at_marker, behind_end, behind_events, behind_marker, behind_rest, has_marker, indent_events, marker_end, marker_events, marker_rest, prefix_at, prefix_end, prefix_events, prefix_rest, quote_at, takes_prefix}
-use Rattle.md_containers.proofs.QuoteLines.{prefix-marker}
 use Rattle.md_containers.proofs.QuoteSteps.{quote-off, quote-on}
-use Rattle.md_seam.specs.Ahead.{white_end, white_rest}
+use Rattle.md_seam.specs.Ahead.{begins_white, white_end, white_rest}
 use Rattle.md_seam.specs.Nested.{enter, exit, pair}
 use Rattle.md_seam.specs.Rest.{is_white}
 use Rattle.md_seam.specs.Spaces.{IsRest, small_indent}
-use Rattle.md_seam.proofs.RestCells.{white-length}
+use Rattle.md_seam.proofs.RestCells.{white-end, white-length, white-rest}
+use Rattle.md_seam.proofs.SpacesGoods.{rest-calm}
 
 -- What is left is shorter.
 
@@ -56,6 +57,22 @@ marker-is (c ∷ cs) h = go (c.byte == 62) refl
     go : (x : Bool) → (c.byte == 62) ≡ x → at_marker (c ∷ cs) h ≡ cond (has_marker (c ∷ cs)) (Accepts (record h { events = h.events ++ marker_events (c ∷ cs) h.point; point = marker_end (c ∷ cs) h.point }) (marker_rest (c ∷ cs))) (Refuses h.scratch h.flags)
     go true e = rw e (behind-is cs (record h { events = h.events ++ front; point = c.after }) ∙ ap (λ (es : List Event). Accepts (record h { events = es; point = behind_end cs c.after }) (behind_rest cs)) (append_assoc h.events front (behind_events cs c.after)))
     go false e = rw e refl
+
+-- a prefix is a small indent, and what stands from the marker on
+prefix-marker : (options : ParseOptions) (cells : List Cell) (h : Here) → IsRest h.scratch →
+    prefix_at options cells h ≡ at_marker (white_rest (small_indent options) cells) (record h { events = h.events ++ indent_events options cells h.point; point = white_end (small_indent options) cells h.point })
+unfolding prefix_at
+prefix-marker options cells h is = go (begins_white cells) refl
+  where
+    room : ℕ
+    room = small_indent options
+
+    go : (t : Bool) → begins_white cells ≡ t → prefix_at options cells h ≡ at_marker (white_rest room cells) (record h { events = h.events ++ indent_events options cells h.point; point = white_end room cells h.point })
+    go true e = rw e (ap (λ (s : Scratch). at_marker (white_rest room cells) (record h { events = h.events ++ pair SpaceOrTab h.point (white_end room cells h.point); point = white_end room cells h.point; scratch = s })) (rest-calm h.scratch is ∙ sym is))
+    go false e =
+        rw e (ap (λ (l : List Cell). at_marker l h) (sym (white-rest room cells e))
+        ∙ ap (λ (q : Point). at_marker (white_rest room cells) (record h { point = q })) (sym (white-end room cells h.point e))
+        ∙ ap (λ (es : List Event). at_marker (white_rest room cells) (record h { events = es; point = white_end room cells h.point })) (sym (append-nil h.events)))
 
 -- the prefix is taken where it stands, and refused elsewhere
 pub prefix-is : (options : ParseOptions) (cells : List Cell) (h : Here) → IsRest h.scratch →

@@ -1,5 +1,5 @@
 -- What the prefix of a quote takes of a line is what the definition of lines takes.
-use Rattle.std.proofs.Common.{◌≡◌, ℕ, zero, suc, ◌+◌, ◌^◌, ◌<◌, ◌≤◌, Bool, true, false, cond, ◌&&◌, ◌||◌, List, [], ◌∷◌, ◌++◌, length, drop, slice_range, Option, Some, None, refl, sym, ap, ◌∙◌, subst, arith, append_assoc, append-nil}
+use Rattle.std.proofs.Common.{◌≡◌, ℕ, zero, suc, ◌+◌, ◌^◌, ◌<◌, ◌≤◌, Bool, true, false, cond, ◌&&◌, ◌||◌, List, [], ◌∷◌, ◌++◌, length, drop, slice_range, Option, Some, None, refl, sym, ap, ◌∙◌, subst, arith, append_assoc}
 use Rattle.std.specs.Prelude.{IsTrue, ◌==◌, not, nat_le, slice_get}
 use Rattle.std.proofs.lemmas.Bool.{eqb-true}
 use Rattle.std.proofs.lemmas.Bool.Decides.{nat_tests}
@@ -10,9 +10,8 @@ use Rattle.md_engine.specs.declared.event.Event.{Event}
 use Rattle.md_engine.specs.declared.event.Name.TheVariants as n
 use Rattle.md_engine.specs.declared.event.Point.{Point}
 use Rattle.md_engine.specs.declared.tokenizer.Line.{Line}
-use Rattle.md_engine.specs.declared.tokenizer.Scratch.{Scratch}
-use Rattle.md_engine.specs.Meaning.{Cell, Here}
-use Rattle.md_containers.specs.QuoteRule.{at_marker, behind_end, behind_events, behind_rest, has_marker, indent_events, marker_end, marker_events, marker_rest, prefix_at, prefix_end, prefix_events, prefix_rest, takes_prefix}
+use Rattle.md_engine.specs.Meaning.{Cell}
+use Rattle.md_containers.specs.QuoteRule.{behind_end, behind_events, behind_rest, has_marker, marker_end, marker_events, marker_rest, prefix_end, prefix_events, prefix_rest, takes_prefix}
 use Rattle.md_seam.specs.Ahead.{begins_white, white_end, white_rest}
 use Rattle.md_seam.specs.Containers.{Taken, quote_taken}
 use Rattle.md_seam.specs.Inline.{pair_unless_empty}
@@ -20,14 +19,13 @@ use Rattle.md_seam.specs.Lines.{begins_with}
 use Rattle.md_seam.specs.Nested.{enter, exit, pair}
 use Rattle.md_seam.specs.Places.{at_or_before, past_byte, past_text, same_place}
 use Rattle.md_seam.specs.Rest.{Rest, behind, behind_indent, has_small_indent, indent, is_blank, is_white, lose, white_columns}
-use Rattle.md_seam.specs.Spaces.{IsRest, any_size, small_indent}
+use Rattle.md_seam.specs.Spaces.{any_size, small_indent}
 use Rattle.md_seam.specs.State.{InQuote}
 use Rattle.md_seam.proofs.FeedLines.{Stops, behind_last, byte-one, cell, columns_more, next_column, past-next, slice-front, slice-split, spread, tab_cells}
 use Rattle.md_seam.proofs.InlineLemmas.{same-refl}
 use Rattle.md_seam.proofs.NestedLemmas.{at_or_before-refl, at_or_before-trans}
 use Rattle.md_seam.proofs.PlainSteps.{range-none}
-use Rattle.md_seam.proofs.RestCells.{Bare, HasColumn, RestAt, bare, bare-cells, bare-same, behind-no_ending, cells_by, column-end, column-first, indent-length, indent-over, indent-taken, lose-no_ending, past_cut, past_rest, rest_cells, white-end, white-length, white-rest, without_first}
-use Rattle.md_seam.proofs.SpacesGoods.{rest-calm}
+use Rattle.md_seam.proofs.RestCells.{Bare, HasColumn, RestAt, bare, bare-cells, bare-same, behind-no_ending, cells_by, column-end, column-first, indent-length, indent-over, indent-taken, lose-no_ending, past_cut, past_rest, rest_cells, white-end, white-length, without_first}
 use Rattle.md_seam.proofs.TextsLemmas.{NoEnding}
 
 -- The prefix of a quote, from a point to a point: whitespace, `>`, and at most one column of whitespace.
@@ -49,24 +47,6 @@ pub record IsPrefix (bytes : List ℕ) (p q : Point) (es : List Event) : Type 0 
   pub white_behind : is_blank (slice_range bytes behind.index q.index) ≡ true
   -- all on one line
   pub line : q.line ≡ p.line
-
--- The prefix by its rule.
-
--- a prefix is a small indent, and what stands from the marker on
-pub prefix-marker : (options : ParseOptions) (cells : List Cell) (h : Here) → IsRest h.scratch →
-    prefix_at options cells h ≡ at_marker (white_rest (small_indent options) cells) (record h { events = h.events ++ indent_events options cells h.point; point = white_end (small_indent options) cells h.point })
-unfolding prefix_at
-prefix-marker options cells h is = go (begins_white cells) refl
-  where
-    room : ℕ
-    room = small_indent options
-
-    go : (t : Bool) → begins_white cells ≡ t → prefix_at options cells h ≡ at_marker (white_rest room cells) (record h { events = h.events ++ indent_events options cells h.point; point = white_end room cells h.point })
-    go true e = rw e (ap (λ (s : Scratch). at_marker (white_rest room cells) (record h { events = h.events ++ pair n.SpaceOrTab h.point (white_end room cells h.point); point = white_end room cells h.point; scratch = s })) (rest-calm h.scratch is ∙ sym is))
-    go false e =
-        rw e (ap (λ (l : List Cell). at_marker l h) (sym (white-rest room cells e))
-        ∙ ap (λ (q : Point). at_marker (white_rest room cells) (record h { point = q })) (sym (white-end room cells h.point e))
-        ∙ ap (λ (es : List Event). at_marker (white_rest room cells) (record h { events = es; point = white_end room cells h.point })) (sym (append-nil h.events)))
 
 -- Whitespace between two points.
 
