@@ -11,6 +11,9 @@ use Rattle.md_seam.specs.Spelled.{spelled}
 use Rattle.md_seam.specs.Places.{first_point, are_placed}
 use Rattle.md_seam.specs.Nested.{pair, around, exit, Nested}
 use Rattle.md_seam.specs.Inline.{Part, plain_events, plain_chunks, pieces, Covers, together}
+use Rattle.md_seam.specs.Endings.{endings_stand}
+use Rattle.md_seam.specs.Grammar.{keeps_grammar, plain_text, unread_text}
+use Rattle.md_seam.specs.Pieces.{pieces_stand}
 use Rattle.md_seam.specs.Tiles.{Tiles, EachRead, parts, parts_stand, chunks_stand, end_point, filled}
 
 -- a point by its line, its column and its byte
@@ -46,12 +49,18 @@ record Row (bytes : List ℕ) (blocks : List Event) (tree : t.Blocks) : Type 0 w
   nested : Nested blocks
   lines : IsTrue (parts_stand bytes blocks)
   chunks : IsTrue (chunks_stand 0 blocks)
+  grammar : IsTrue (keeps_grammar unread_text blocks)
+  grammar_after : IsTrue (keeps_grammar plain_text (plain bytes blocks))
+  pieces_are : IsTrue (pieces_stand bytes (pieces blocks))
+  pieces_after : IsTrue (pieces_stand bytes (pieces (plain bytes blocks)))
+  endings : IsTrue (endings_stand blocks)
+  endings_after : IsTrue (endings_stand (plain bytes blocks))
   covers : Covers first_point (pieces blocks) (end_point bytes)
   each : EachRead (λ part events. events ≡ plain_events bytes part) (parts blocks) (plain_lists bytes (parts blocks))
   empty : bytes ≡ [] → plain bytes blocks ≡ []
 
 row-tiles : {bytes : List ℕ} {blocks : List Event} {tree : t.Blocks} → Row bytes blocks tree → Tiles (λ part events. events ≡ plain_events bytes part) bytes (plain bytes blocks)
-row-tiles {bytes} {blocks} row = record { blocks = blocks; block_list = record { nested = row.nested; placed = row.placed; lines = row.lines; chunks = row.chunks }; covers = row.covers; lists = plain_lists bytes (parts blocks); each = row.each; read = refl; empty = row.empty }
+row-tiles {bytes} {blocks} row = record { blocks = blocks; block_list = record { nested = row.nested; placed = row.placed; lines = row.lines; chunks = row.chunks; grammar = row.grammar; pieces_are = row.pieces_are; endings = row.endings }; covers = row.covers; lists = plain_lists bytes (parts blocks); each = row.each; read = refl; empty = row.empty }
 
 -- nothing: ""
 abbrev pub empty_text : List ℕ
@@ -65,8 +74,8 @@ abbrev pub empty_tree : t.Blocks
 empty_tree = t.End
 
 row-empty : Row empty_text empty_events empty_tree
-unfolding spelled
-row-empty = record { placed = refl; before = refl; after = refl; nested = search rules; lines = refl; chunks = refl; covers = search rules; each = search rules; empty = search rules }
+unfolding spelled keeps_grammar
+row-empty = record { placed = refl; before = refl; after = refl; nested = search rules; lines = refl; chunks = refl; grammar = refl; grammar_after = refl; pieces_are = refl; pieces_after = refl; endings = refl; endings_after = refl; covers = search rules; each = search rules; empty = search rules }
 
 -- a blank line: " \n"
 abbrev pub blank_text : List ℕ
@@ -81,8 +90,8 @@ abbrev pub blank_tree : t.Blocks
 blank_tree = t.End
 
 row-blank : Row blank_text blank_events blank_tree
-unfolding spelled
-row-blank = record { placed = refl; before = refl; after = refl; nested = search rules; lines = refl; chunks = refl; covers = search rules; each = search rules; empty = search rules }
+unfolding spelled keeps_grammar
+row-blank = record { placed = refl; before = refl; after = refl; nested = search rules; lines = refl; chunks = refl; grammar = refl; grammar_after = refl; pieces_are = refl; pieces_after = refl; endings = refl; endings_after = refl; covers = search rules; each = search rules; empty = search rules }
 
 -- a byte order mark before a paragraph: "(mark)a"
 abbrev pub mark_text : List ℕ
@@ -98,8 +107,8 @@ abbrev pub mark_tree : t.Blocks
 mark_tree = t.More (t.Paragraph (codes "a" ∷ [])) t.End
 
 row-mark : Row mark_text mark_events mark_tree
-unfolding spelled
-row-mark = record { placed = refl; before = refl; after = refl; nested = search rules; lines = refl; chunks = refl; covers = search rules; each = search rules; empty = search rules }
+unfolding spelled keeps_grammar
+row-mark = record { placed = refl; before = refl; after = refl; nested = search rules; lines = refl; chunks = refl; grammar = refl; grammar_after = refl; pieces_are = refl; pieces_after = refl; endings = refl; endings_after = refl; covers = search rules; each = search rules; empty = search rules }
 
 -- a paragraph of two lines, which lose their leading spaces: "  a\n b \n"
 abbrev pub paragraph_text : List ℕ
@@ -117,8 +126,8 @@ abbrev pub paragraph_tree : t.Blocks
 paragraph_tree = t.More (t.Paragraph (codes "a" ∷ codes "b " ∷ [])) t.End
 
 row-paragraph : Row paragraph_text paragraph_events paragraph_tree
-unfolding spelled
-row-paragraph = record { placed = refl; before = refl; after = refl; nested = search rules; lines = refl; chunks = refl; covers = search rules; each = search rules; empty = search rules }
+unfolding spelled keeps_grammar
+row-paragraph = record { placed = refl; before = refl; after = refl; nested = search rules; lines = refl; chunks = refl; grammar = refl; grammar_after = refl; pieces_are = refl; pieces_after = refl; endings = refl; endings_after = refl; covers = search rules; each = search rules; empty = search rules }
 
 -- a thematic break: "* **"
 abbrev pub break_text : List ℕ
@@ -135,8 +144,8 @@ abbrev pub break_tree : t.Blocks
 break_tree = t.More (t.Break) t.End
 
 row-break : Row break_text break_events break_tree
-unfolding spelled
-row-break = record { placed = refl; before = refl; after = refl; nested = search rules; lines = refl; chunks = refl; covers = search rules; each = search rules; empty = search rules }
+unfolding spelled keeps_grammar
+row-break = record { placed = refl; before = refl; after = refl; nested = search rules; lines = refl; chunks = refl; grammar = refl; grammar_after = refl; pieces_are = refl; pieces_after = refl; endings = refl; endings_after = refl; covers = search rules; each = search rules; empty = search rules }
 
 -- an ATX heading with a closing sequence: "# a b ##"
 abbrev pub heading_text : List ℕ
@@ -156,8 +165,8 @@ abbrev pub heading_tree : t.Blocks
 heading_tree = t.More (t.Heading 1 (codes "a b" ∷ [])) t.End
 
 row-heading : Row heading_text heading_events heading_tree
-unfolding spelled
-row-heading = record { placed = refl; before = refl; after = refl; nested = search rules; lines = refl; chunks = refl; covers = search rules; each = search rules; empty = search rules }
+unfolding spelled keeps_grammar
+row-heading = record { placed = refl; before = refl; after = refl; nested = search rules; lines = refl; chunks = refl; grammar = refl; grammar_after = refl; pieces_are = refl; pieces_after = refl; endings = refl; endings_after = refl; covers = search rules; each = search rules; empty = search rules }
 
 -- an ATX heading without text: "##"
 abbrev pub empty_heading_text : List ℕ
@@ -172,8 +181,8 @@ abbrev pub empty_heading_tree : t.Blocks
 empty_heading_tree = t.More (t.Heading 2 []) t.End
 
 row-empty-heading : Row empty_heading_text empty_heading_events empty_heading_tree
-unfolding spelled
-row-empty-heading = record { placed = refl; before = refl; after = refl; nested = search rules; lines = refl; chunks = refl; covers = search rules; each = search rules; empty = search rules }
+unfolding spelled keeps_grammar
+row-empty-heading = record { placed = refl; before = refl; after = refl; nested = search rules; lines = refl; chunks = refl; grammar = refl; grammar_after = refl; pieces_are = refl; pieces_after = refl; endings = refl; endings_after = refl; covers = search rules; each = search rules; empty = search rules }
 
 -- a setext heading of two lines: "a\r\nb\n---\n"
 abbrev pub underlined_text : List ℕ
@@ -194,8 +203,8 @@ abbrev pub underlined_tree : t.Blocks
 underlined_tree = t.More (t.Heading 2 (codes "a" ∷ codes "b" ∷ [])) t.End
 
 row-underlined : Row underlined_text underlined_events underlined_tree
-unfolding spelled
-row-underlined = record { placed = refl; before = refl; after = refl; nested = search rules; lines = refl; chunks = refl; covers = search rules; each = search rules; empty = search rules }
+unfolding spelled keeps_grammar
+row-underlined = record { placed = refl; before = refl; after = refl; nested = search rules; lines = refl; chunks = refl; grammar = refl; grammar_after = refl; pieces_are = refl; pieces_after = refl; endings = refl; endings_after = refl; covers = search rules; each = search rules; empty = search rules }
 
 -- a quote whose second line is lazy: "> a\nb"
 abbrev pub lazy_text : List ℕ
@@ -215,8 +224,8 @@ abbrev pub lazy_tree : t.Blocks
 lazy_tree = t.More (t.Quote (t.More (t.Paragraph (codes "a" ∷ codes "b" ∷ [])) t.End)) t.End
 
 row-lazy : Row lazy_text lazy_events lazy_tree
-unfolding spelled
-row-lazy = record { placed = refl; before = refl; after = refl; nested = search rules; lines = refl; chunks = refl; covers = search rules; each = search rules; empty = search rules }
+unfolding spelled keeps_grammar
+row-lazy = record { placed = refl; before = refl; after = refl; nested = search rules; lines = refl; chunks = refl; grammar = refl; grammar_after = refl; pieces_are = refl; pieces_after = refl; endings = refl; endings_after = refl; covers = search rules; each = search rules; empty = search rules }
 
 -- a quote whose second line has the prefix, behind a space: "> a\n > b"
 abbrev pub prefix_text : List ℕ
@@ -240,8 +249,8 @@ abbrev pub prefix_tree : t.Blocks
 prefix_tree = t.More (t.Quote (t.More (t.Paragraph (codes "a" ∷ codes "b" ∷ [])) t.End)) t.End
 
 row-prefix : Row prefix_text prefix_events prefix_tree
-unfolding spelled
-row-prefix = record { placed = refl; before = refl; after = refl; nested = search rules; lines = refl; chunks = refl; covers = search rules; each = search rules; empty = search rules }
+unfolding spelled keeps_grammar
+row-prefix = record { placed = refl; before = refl; after = refl; nested = search rules; lines = refl; chunks = refl; grammar = refl; grammar_after = refl; pieces_are = refl; pieces_after = refl; endings = refl; endings_after = refl; covers = search rules; each = search rules; empty = search rules }
 
 -- an ordered list, with the digits as written: "01) a\n7) b"
 abbrev pub ordered_text : List ℕ
@@ -270,8 +279,8 @@ abbrev pub ordered_tree : t.Blocks
 ordered_tree = t.More (t.ListOf 41 (t.More (t.Item 41 (codes "01") (t.More (t.Paragraph (codes "a" ∷ [])) t.End)) (t.More (t.Item 41 (codes "7") (t.More (t.Paragraph (codes "b" ∷ [])) t.End)) t.End))) t.End
 
 row-ordered : Row ordered_text ordered_events ordered_tree
-unfolding spelled
-row-ordered = record { placed = refl; before = refl; after = refl; nested = search rules; lines = refl; chunks = refl; covers = search rules; each = search rules; empty = search rules }
+unfolding spelled keeps_grammar
+row-ordered = record { placed = refl; before = refl; after = refl; nested = search rules; lines = refl; chunks = refl; grammar = refl; grammar_after = refl; pieces_are = refl; pieces_after = refl; endings = refl; endings_after = refl; covers = search rules; each = search rules; empty = search rules }
 
 -- items before they are grouped into lists: "- a\n+ b"
 abbrev pub items_text : List ℕ
@@ -296,9 +305,9 @@ items_events =
 abbrev pub items_tree : t.Blocks
 items_tree = t.More (t.Item 45 [] (t.More (t.Paragraph (codes "a" ∷ [])) t.End)) (t.More (t.Item 43 [] (t.More (t.Paragraph (codes "b" ∷ [])) t.End)) t.End)
 
-row-items : Row items_text items_events items_tree
+row-items : spelled items_events items_text ≡ items_tree
 unfolding spelled
-row-items = record { placed = refl; before = refl; after = refl; nested = search rules; lines = refl; chunks = refl; covers = search rules; each = search rules; empty = search rules }
+row-items = refl
 
 -- a list in a quote, with a blank line and a line of the second paragraph indented: "> - a\n>\n>   b\n> -"
 abbrev pub nested_text : List ℕ
@@ -339,8 +348,8 @@ abbrev pub nested_tree : t.Blocks
 nested_tree = t.More (t.Quote (t.More (t.ListOf 45 (t.More (t.Item 45 [] (t.More (t.Paragraph (codes "a" ∷ [])) (t.More (t.Paragraph (codes "b" ∷ [])) t.End))) (t.More (t.Item 45 [] t.End) t.End))) t.End)) t.End
 
 row-nested : Row nested_text nested_events nested_tree
-unfolding spelled
-row-nested = record { placed = refl; before = refl; after = refl; nested = search rules; lines = refl; chunks = refl; covers = search rules; each = search rules; empty = search rules }
+unfolding spelled keeps_grammar
+row-nested = record { placed = refl; before = refl; after = refl; nested = search rules; lines = refl; chunks = refl; grammar = refl; grammar_after = refl; pieces_are = refl; pieces_after = refl; endings = refl; endings_after = refl; covers = search rules; each = search rules; empty = search rules }
 
 -- a closed fence with info, meta and an empty line: "```r x y\na\n\n b\n```\n"
 abbrev pub fence_text : List ℕ
@@ -370,8 +379,8 @@ abbrev pub fence_tree : t.Blocks
 fence_tree = t.More (t.Fence 96 (Some (codes "r")) (Some (codes "x y")) (line 0 (codes "a") ∷ line 0 ([]) ∷ line 0 (codes " b") ∷ []) true) t.End
 
 row-fence : Row fence_text fence_events fence_tree
-unfolding spelled
-row-fence = record { placed = refl; before = refl; after = refl; nested = search rules; lines = refl; chunks = refl; covers = search rules; each = search rules; empty = search rules }
+unfolding spelled keeps_grammar
+row-fence = record { placed = refl; before = refl; after = refl; nested = search rules; lines = refl; chunks = refl; grammar = refl; grammar_after = refl; pieces_are = refl; pieces_after = refl; endings = refl; endings_after = refl; covers = search rules; each = search rules; empty = search rules }
 
 -- an open fence, whose last line ending opens no line: "~~~\na\n"
 abbrev pub open_fence_text : List ℕ
@@ -390,8 +399,8 @@ abbrev pub open_fence_tree : t.Blocks
 open_fence_tree = t.More (t.Fence 126 None None (line 0 (codes "a") ∷ []) false) t.End
 
 row-open-fence : Row open_fence_text open_fence_events open_fence_tree
-unfolding spelled
-row-open-fence = record { placed = refl; before = refl; after = refl; nested = search rules; lines = refl; chunks = refl; covers = search rules; each = search rules; empty = search rules }
+unfolding spelled keeps_grammar
+row-open-fence = record { placed = refl; before = refl; after = refl; nested = search rules; lines = refl; chunks = refl; grammar = refl; grammar_after = refl; pieces_are = refl; pieces_after = refl; endings = refl; endings_after = refl; covers = search rules; each = search rules; empty = search rules }
 
 -- an open fence whose container ends behind a blank line: "- ```\n\nb"
 abbrev pub left_fence_text : List ℕ
@@ -416,8 +425,8 @@ abbrev pub left_fence_tree : t.Blocks
 left_fence_tree = t.More (t.ListOf 45 (t.More (t.Item 45 [] (t.More (t.Fence 96 None None (line 0 ([]) ∷ []) false) t.End)) t.End)) (t.More (t.Paragraph (codes "b" ∷ [])) t.End)
 
 row-left-fence : Row left_fence_text left_fence_events left_fence_tree
-unfolding spelled
-row-left-fence = record { placed = refl; before = refl; after = refl; nested = search rules; lines = refl; chunks = refl; covers = search rules; each = search rules; empty = search rules }
+unfolding spelled keeps_grammar
+row-left-fence = record { placed = refl; before = refl; after = refl; nested = search rules; lines = refl; chunks = refl; grammar = refl; grammar_after = refl; pieces_are = refl; pieces_after = refl; endings = refl; endings_after = refl; covers = search rules; each = search rules; empty = search rules }
 
 -- a tab that a prefix, the indent of a fence and a line share: ">  ~~~\n>\ta"
 abbrev pub shared_tab_text : List ℕ
@@ -444,8 +453,8 @@ abbrev pub shared_tab_tree : t.Blocks
 shared_tab_tree = t.More (t.Quote (t.More (t.Fence 126 None None (line 1 (codes "a") ∷ []) false) t.End)) t.End
 
 row-shared-tab : Row shared_tab_text shared_tab_events shared_tab_tree
-unfolding spelled
-row-shared-tab = record { placed = refl; before = refl; after = refl; nested = search rules; lines = refl; chunks = refl; covers = search rules; each = search rules; empty = search rules }
+unfolding spelled keeps_grammar
+row-shared-tab = record { placed = refl; before = refl; after = refl; nested = search rules; lines = refl; chunks = refl; grammar = refl; grammar_after = refl; pieces_are = refl; pieces_after = refl; endings = refl; endings_after = refl; covers = search rules; each = search rules; empty = search rules }
 
 -- indented code with a blank line inside: "    a\n  \n      b\n"
 abbrev pub code_text : List ℕ
@@ -467,8 +476,8 @@ abbrev pub code_tree : t.Blocks
 code_tree = t.More (t.Code (line 0 (codes "a") ∷ line 0 ([]) ∷ line 0 (codes "  b") ∷ [])) t.End
 
 row-code : Row code_text code_events code_tree
-unfolding spelled
-row-code = record { placed = refl; before = refl; after = refl; nested = search rules; lines = refl; chunks = refl; covers = search rules; each = search rules; empty = search rules }
+unfolding spelled keeps_grammar
+row-code = record { placed = refl; before = refl; after = refl; nested = search rules; lines = refl; chunks = refl; grammar = refl; grammar_after = refl; pieces_are = refl; pieces_after = refl; endings = refl; endings_after = refl; covers = search rules; each = search rules; empty = search rules }
 
 -- code behind tabs that are cut: ">\t\ta"
 abbrev pub tabs_text : List ℕ
@@ -488,8 +497,8 @@ abbrev pub tabs_tree : t.Blocks
 tabs_tree = t.More (t.Quote (t.More (t.Code (line 2 (codes "a") ∷ [])) t.End)) t.End
 
 row-tabs : Row tabs_text tabs_events tabs_tree
-unfolding spelled
-row-tabs = record { placed = refl; before = refl; after = refl; nested = search rules; lines = refl; chunks = refl; covers = search rules; each = search rules; empty = search rules }
+unfolding spelled keeps_grammar
+row-tabs = record { placed = refl; before = refl; after = refl; nested = search rules; lines = refl; chunks = refl; grammar = refl; grammar_after = refl; pieces_are = refl; pieces_after = refl; endings = refl; endings_after = refl; covers = search rules; each = search rules; empty = search rules }
 
 -- HTML, its first line in two pieces, and a blank line in it: " <?\n\n x\n"
 abbrev pub html_text : List ℕ
@@ -509,8 +518,8 @@ abbrev pub html_tree : t.Blocks
 html_tree = t.More (t.Html (line 0 (codes " <?") ∷ line 0 ([]) ∷ line 0 (codes " x") ∷ [])) t.End
 
 row-html : Row html_text html_events html_tree
-unfolding spelled
-row-html = record { placed = refl; before = refl; after = refl; nested = search rules; lines = refl; chunks = refl; covers = search rules; each = search rules; empty = search rules }
+unfolding spelled keeps_grammar
+row-html = record { placed = refl; before = refl; after = refl; nested = search rules; lines = refl; chunks = refl; grammar = refl; grammar_after = refl; pieces_are = refl; pieces_after = refl; endings = refl; endings_after = refl; covers = search rules; each = search rules; empty = search rules }
 
 -- closed math with meta: "$$ m\na\n$$"
 abbrev pub math_text : List ℕ
@@ -534,8 +543,8 @@ abbrev pub math_tree : t.Blocks
 math_tree = t.More (t.Math (Some (codes "m")) (line 0 (codes "a") ∷ []) true) t.End
 
 row-math : Row math_text math_events math_tree
-unfolding spelled
-row-math = record { placed = refl; before = refl; after = refl; nested = search rules; lines = refl; chunks = refl; covers = search rules; each = search rules; empty = search rules }
+unfolding spelled keeps_grammar
+row-math = record { placed = refl; before = refl; after = refl; nested = search rules; lines = refl; chunks = refl; grammar = refl; grammar_after = refl; pieces_are = refl; pieces_after = refl; endings = refl; endings_after = refl; covers = search rules; each = search rules; empty = search rules }
 
 -- frontmatter with an empty line, and a paragraph: "+++\nx\n\n+++ \na"
 abbrev pub frontmatter_text : List ℕ
@@ -561,8 +570,8 @@ abbrev pub frontmatter_tree : t.Blocks
 frontmatter_tree = t.More (t.Frontmatter 43 (codes "x" ∷ [] ∷ [])) (t.More (t.Paragraph (codes "a" ∷ [])) t.End)
 
 row-frontmatter : Row frontmatter_text frontmatter_events frontmatter_tree
-unfolding spelled
-row-frontmatter = record { placed = refl; before = refl; after = refl; nested = search rules; lines = refl; chunks = refl; covers = search rules; each = search rules; empty = search rules }
+unfolding spelled keeps_grammar
+row-frontmatter = record { placed = refl; before = refl; after = refl; nested = search rules; lines = refl; chunks = refl; grammar = refl; grammar_after = refl; pieces_are = refl; pieces_after = refl; endings = refl; endings_after = refl; covers = search rules; each = search rules; empty = search rules }
 
 -- a definition over four lines of a quote: "> [a\n> b]: c\n> 'd\n>e'"
 abbrev pub definition_text : List ℕ
@@ -607,8 +616,8 @@ abbrev pub definition_tree : t.Blocks
 definition_tree = t.More (t.Quote (t.More (t.Definition (codes "a" ∷ codes "b" ∷ []) (codes "c") (Some (codes "d" ∷ codes "e" ∷ []))) t.End)) t.End
 
 row-definition : Row definition_text definition_events definition_tree
-unfolding spelled
-row-definition = record { placed = refl; before = refl; after = refl; nested = search rules; lines = refl; chunks = refl; covers = search rules; each = search rules; empty = search rules }
+unfolding spelled keeps_grammar
+row-definition = record { placed = refl; before = refl; after = refl; nested = search rules; lines = refl; chunks = refl; grammar = refl; grammar_after = refl; pieces_are = refl; pieces_after = refl; endings = refl; endings_after = refl; covers = search rules; each = search rules; empty = search rules }
 
 -- a definition with an empty last line of its label, an empty destination and an empty title: "[a\n]: <> ''"
 abbrev pub empty_parts_text : List ℕ
@@ -637,8 +646,8 @@ abbrev pub empty_parts_tree : t.Blocks
 empty_parts_tree = t.More (t.Definition (codes "a" ∷ [] ∷ []) [] (Some ([] ∷ []))) t.End
 
 row-empty-parts : Row empty_parts_text empty_parts_events empty_parts_tree
-unfolding spelled
-row-empty-parts = record { placed = refl; before = refl; after = refl; nested = search rules; lines = refl; chunks = refl; covers = search rules; each = search rules; empty = search rules }
+unfolding spelled keeps_grammar
+row-empty-parts = record { placed = refl; before = refl; after = refl; nested = search rules; lines = refl; chunks = refl; grammar = refl; grammar_after = refl; pieces_are = refl; pieces_after = refl; endings = refl; endings_after = refl; covers = search rules; each = search rules; empty = search rules }
 
 -- a definition with empty first lines of its label and its title: "[\n a]: b '\n c'"
 abbrev pub empty_lines_text : List ℕ
@@ -672,8 +681,8 @@ abbrev pub empty_lines_tree : t.Blocks
 empty_lines_tree = t.More (t.Definition ([] ∷ codes "a" ∷ []) (codes "b") (Some ([] ∷ codes "c" ∷ []))) t.End
 
 row-empty-lines : Row empty_lines_text empty_lines_events empty_lines_tree
-unfolding spelled
-row-empty-lines = record { placed = refl; before = refl; after = refl; nested = search rules; lines = refl; chunks = refl; covers = search rules; each = search rules; empty = search rules }
+unfolding spelled keeps_grammar
+row-empty-lines = record { placed = refl; before = refl; after = refl; nested = search rules; lines = refl; chunks = refl; grammar = refl; grammar_after = refl; pieces_are = refl; pieces_after = refl; endings = refl; endings_after = refl; covers = search rules; each = search rules; empty = search rules }
 
 -- a table with a row of one empty cell: "| a | b\n:-|-\n|\n"
 abbrev pub table_text : List ℕ
@@ -716,8 +725,8 @@ abbrev pub table_tree : t.Blocks
 table_tree = t.More (t.Table (codes ":-|-") ((codes "a" ∷ codes "b" ∷ []) ∷ ([] ∷ []) ∷ [])) t.End
 
 row-table : Row table_text table_events table_tree
-unfolding spelled
-row-table = record { placed = refl; before = refl; after = refl; nested = search rules; lines = refl; chunks = refl; covers = search rules; each = search rules; empty = search rules }
+unfolding spelled keeps_grammar
+row-table = record { placed = refl; before = refl; after = refl; nested = search rules; lines = refl; chunks = refl; grammar = refl; grammar_after = refl; pieces_are = refl; pieces_after = refl; endings = refl; endings_after = refl; covers = search rules; each = search rules; empty = search rules }
 
 -- a footnote definition with two paragraphs: "[^a]: b\n\n    c"
 abbrev pub footnote_text : List ℕ
@@ -747,8 +756,8 @@ abbrev pub footnote_tree : t.Blocks
 footnote_tree = t.More (t.Footnote (codes "a") (t.More (t.Paragraph (codes "b" ∷ [])) (t.More (t.Paragraph (codes "c" ∷ [])) t.End))) t.End
 
 row-footnote : Row footnote_text footnote_events footnote_tree
-unfolding spelled
-row-footnote = record { placed = refl; before = refl; after = refl; nested = search rules; lines = refl; chunks = refl; covers = search rules; each = search rules; empty = search rules }
+unfolding spelled keeps_grammar
+row-footnote = record { placed = refl; before = refl; after = refl; nested = search rules; lines = refl; chunks = refl; grammar = refl; grammar_after = refl; pieces_are = refl; pieces_after = refl; endings = refl; endings_after = refl; covers = search rules; each = search rules; empty = search rules }
 
 -- What is no block list.
 

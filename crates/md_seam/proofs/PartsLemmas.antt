@@ -13,7 +13,7 @@ use Rattle.md_seam.specs.Places.{first_point, is_placed, are_placed, at_or_befor
 use Rattle.md_seam.specs.Nested.{Forward, is_exit}
 use Rattle.md_seam.specs.Spelled.{Role, spelled}
 use Rattle.md_seam.specs.Inline.{Part, Piece, IsPart, KeepsFrame, is_linked, is_inline, together, piece_of, pieces_from, pieces, in_order, chunk_placed, are_lines}
-use Rattle.md_seam.specs.Tiles.{is_part, parts, part_kind, part_of, part_at, part_end, is_white_piece, part_stands, parts_stand, inside_part, chunks, IsBlockList, EachRead, Tiles}
+use Rattle.md_seam.specs.Tiles.{begins_at, is_part, parts, part_kind, part_of, part_at, part_end, is_white_piece, part_stands, parts_stand, inside_part, chunks, IsBlockList, EachRead, Tiles}
 use Rattle.md_seam.proofs.NestedLemmas.{at_or_before-refl, at_or_before-trans}
 use Rattle.md_seam.proofs.SpelledLemmas.{Roles, QuietOrEnding}
 use Rattle.md_seam.proofs.FilledLemmas.{EachInline, inline-role, spelled-filled}
@@ -97,9 +97,10 @@ part-is : (bytes : List ℕ) (kind : PartKind) (end : Point) (list : List Chunk)
 part-is bytes kind end [] lines order placed = tt
 part-is bytes kind end (chunk ∷ list) lines order placed = (record { end = end; lines = lines; some = omega arith; order = order; placed = placed }, tt)
 
-parts-at : (bytes : List ℕ) (p : Point) (kind : Kind) (part : Option PartKind) (es : List Event) → part_stands bytes kind part es ≡ true → Forward p es → are_placed bytes es ≡ true → IsTrue (at_or_before first_point p) → EachPart (IsPart bytes) (part_at kind part es)
+parts-at : (bytes : List ℕ) (p : Point) (kind : Kind) (part : Option PartKind) (es : List Event) → part_stands bytes kind part p es ≡ true → Forward p es → are_placed bytes es ≡ true → IsTrue (at_or_before first_point p) → EachPart (IsPart bytes) (part_at kind part es)
 parts-at bytes p Enter (Some kind) es stands forward placed h =
-    part-is bytes kind (part_end es) (chunks (pieces (inside_part es))) (and_parts (list_all (is_white_piece bytes) (pieces (inside_part es))) (are_lines bytes (part_end es) (chunks (pieces (inside_part es)))) stands).1
+    let list : List Chunk = chunks (pieces (inside_part es)) in
+    part-is bytes kind (part_end es) list (and_parts (begins_at p list && list_all (is_white_piece bytes) (pieces (inside_part es))) (are_lines bytes (part_end es) list) stands).1
     (order-from first_point p (chunks (pieces (inside_part es))) h (order-chunks p (inside_part es) (inside-forward p es forward)))
     (placed-chunks bytes (inside_part es) (inside-placed bytes es placed))
 parts-at bytes p Enter None es stands forward placed h = tt
@@ -108,7 +109,7 @@ parts-at bytes p Exit part es stands forward placed h = tt
 parts-from : (bytes : List ℕ) (p : Point) (es : List Event) → parts_stand bytes es ≡ true → Forward p es → are_placed bytes es ≡ true → IsTrue (at_or_before first_point p) → EachPart (IsPart bytes) (parts es)
 parts-from bytes p [] stands forward placed h = tt
 parts-from bytes p (e ∷ es) stands forward placed h =
-    let lines : (part_stands bytes e.kind (part_kind e.name) es ≡ true) × (parts_stand bytes es ≡ true) = and_parts (part_stands bytes e.kind (part_kind e.name) es) (parts_stand bytes es) stands in
+    let lines : (part_stands bytes e.kind (part_kind e.name) e.point es ≡ true) × (parts_stand bytes es ≡ true) = and_parts (part_stands bytes e.kind (part_kind e.name) e.point es) (parts_stand bytes es) stands in
     let points : (is_placed bytes e.point ≡ true) × (are_placed bytes es ≡ true) = and_parts (is_placed bytes e.point) (are_placed bytes es) placed in
     let behind : IsTrue (at_or_before first_point e.point) = at_or_before-trans first_point p e.point h forward.0 in
     each-part-append (IsPart bytes) (part_at e.kind (part_kind e.name) es) (parts es)

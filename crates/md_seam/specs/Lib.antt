@@ -6,6 +6,10 @@ pub mod Nested
 pub mod Places
 pub mod Spelled
 pub mod Texts
+pub mod Names
+pub mod Grammar
+pub mod Pieces
+pub mod Endings
 pub mod Tiles
 pub mod Tree
 pub mod Lines

@@ -11,8 +11,11 @@ use Rattle.md_seam.specs.declared.inline.PartKind.{PartKind}
 use Rattle.md_seam.specs.declared.inline.PartKind.TheVariants as k
 use Rattle.md_seam.specs.declared.inline.Chunk.{Chunk}
 use Rattle.md_seam.specs.Rest.{is_blank}
-use Rattle.md_seam.specs.Places.{first_point, are_placed}
+use Rattle.md_seam.specs.Places.{first_point, are_placed, same_place}
 use Rattle.md_seam.specs.Nested.{Nested, is_exit}
+use Rattle.md_seam.specs.Pieces.{pieces_stand}
+use Rattle.md_seam.specs.Endings.{endings_stand}
+use Rattle.md_seam.specs.Grammar.{keeps_grammar, unread_text}
 use Rattle.md_seam.specs.Inline.{Part, Piece, pieces, Covers, Fills, are_lines, is_linked, together}
 
 -- the point behind the last byte
@@ -90,16 +93,22 @@ is_space_or_tab _ = false
 abbrev pub is_white_piece : List ℕ → Piece → Bool
 is_white_piece bytes piece = not (is_space_or_tab piece.name) || is_blank (slice_range bytes piece.first.index piece.after.index)
 
-abbrev pub part_stands : List ℕ → Kind → Option PartKind → List Event → Bool
-part_stands bytes Enter (Some kind) es = list_all (is_white_piece bytes) (pieces (inside_part es)) && are_lines bytes (part_end es) (chunks (pieces (inside_part es)))
-part_stands bytes Enter None es = true
-part_stands bytes Exit kind es = true
+-- whether the first chunk begins at a point; there is one, since a part that would be empty does not stand
+abbrev pub begins_at : Point → List Chunk → Bool
+begins_at p [] = false
+begins_at p (chunk ∷ chunks) = same_place p chunk.first
 
--- Whether each text part stands as one chunk a line, which reaches over the line's ending where the part goes on behind it,
--- and nothing else is left out of the chunks but spaces, tabs and container prefixes.
+abbrev pub part_stands : List ℕ → Kind → Option PartKind → Point → List Event → Bool
+part_stands bytes Enter (Some kind) p es =
+    begins_at p (chunks (pieces (inside_part es))) && list_all (is_white_piece bytes) (pieces (inside_part es)) && are_lines bytes (part_end es) (chunks (pieces (inside_part es)))
+part_stands bytes Enter None p es = true
+part_stands bytes Exit kind p es = true
+
+-- Whether each text part stands as one chunk a line, from where it begins, and each reaches over the line's ending where the part
+-- goes on behind it; nothing else is left out of the chunks but spaces, tabs and container prefixes.
 abbrev pub parts_stand : List ℕ → List Event → Bool
 parts_stand bytes [] = true
-parts_stand bytes (e ∷ es) = part_stands bytes e.kind (part_kind e.name) es && parts_stand bytes es
+parts_stand bytes (e ∷ es) = part_stands bytes e.kind (part_kind e.name) e.point es && parts_stand bytes es
 
 -- how many parts are open behind an event
 abbrev pub depth_behind : Kind → ℕ → ℕ
@@ -127,6 +136,12 @@ pub record IsBlockList (bytes : List ℕ) (events : List Event) : Type 0 where
   pub placed : IsTrue (are_placed bytes events)
   pub lines : IsTrue (parts_stand bytes events)
   pub chunks : IsTrue (chunks_stand 0 events)
+  -- each part stands where the grammar has it, with what it must hold
+  pub grammar : IsTrue (keeps_grammar unread_text events)
+  -- each piece is over what its name says, and no block is a piece
+  pub pieces_are : IsTrue (pieces_stand bytes (pieces events))
+  -- endings of blank lines are told from others
+  pub endings : IsTrue (endings_stand events)
 
 -- The chunks are read.
 

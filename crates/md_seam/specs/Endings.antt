@@ -1,0 +1,68 @@
+-- Which line endings end a blank line.
+--
+-- A line is blank if nothing but whitespace stands on it behind the prefixes of its containers, and no leaf goes on over it. Its
+-- ending is a `BlankLineEnding`; any other is a `LineEnding`.
+use Rattle.std.specs.Prelude.{Bool, true, false, ◌&&◌, ◌||◌, not, List, [], ◌∷◌}
+use Rattle.md_engine.specs.declared.event.Event.{Event}
+use Rattle.md_engine.specs.declared.event.Kind.{Kind}
+use Rattle.md_engine.specs.declared.event.Kind.TheVariants.{Enter, Exit}
+use Rattle.md_engine.specs.declared.event.Name.{Name}
+use Rattle.md_engine.specs.declared.event.Name.TheVariants as n
+
+-- What a name says of the line on which it stands.
+pub data OnLine : Type 0 where
+  -- a leaf block begins or ends
+  IsLeaf : OnLine
+  -- an ending, of a blank line or of another
+  Ends : Bool → OnLine
+  IsOther : OnLine
+
+abbrev pub on_line : Name → OnLine
+on_line n.Frontmatter = IsLeaf
+on_line n.HeadingAtx = IsLeaf
+on_line n.HeadingSetext = IsLeaf
+on_line n.ThematicBreak = IsLeaf
+on_line n.CodeIndented = IsLeaf
+on_line n.CodeFenced = IsLeaf
+on_line n.MathFlow = IsLeaf
+on_line n.HtmlFlow = IsLeaf
+on_line n.Definition = IsLeaf
+on_line n.Paragraph = IsLeaf
+on_line n.GfmTable = IsLeaf
+on_line n.LineEnding = Ends false
+on_line n.BlankLineEnding = Ends true
+on_line _ = IsOther
+
+-- where one is in a text: whether in a leaf, and whether one stood on the line before here
+pub record Spot : Type 0 where
+  pub in_leaf : Bool
+  pub after_leaf : Bool
+
+-- whether the line holds a leaf, so far
+abbrev pub is_filled : Spot → Bool
+is_filled s = s.in_leaf || s.after_leaf
+
+abbrev pub spot_behind : Kind → OnLine → Spot → Spot
+spot_behind Enter IsLeaf s = record { in_leaf = true; after_leaf = true }
+spot_behind Exit IsLeaf s = record s { in_leaf = false }
+spot_behind Enter (Ends blank) s = s
+spot_behind Exit (Ends blank) s = record s { after_leaf = false }
+spot_behind Enter IsOther s = record s { after_leaf = is_filled s }
+spot_behind Exit IsOther s = s
+
+-- whether an ending has the right name
+abbrev pub ends_rightly : Kind → OnLine → Spot → Bool
+ends_rightly Enter (Ends true) s = not (is_filled s)
+ends_rightly Enter (Ends false) s = is_filled s
+ends_rightly kind x s = true
+
+abbrev pub endings_stand_from : Spot → List Event → Bool
+endings_stand_from s [] = true
+endings_stand_from s (e ∷ es) = ends_rightly e.kind (on_line e.name) s && endings_stand_from (spot_behind e.kind (on_line e.name) s) es
+
+-- at the begin of a line, outside of leaves
+abbrev pub line_start : Spot
+line_start = record { in_leaf = false; after_leaf = false }
+
+abbrev pub endings_stand : List Event → Bool
+endings_stand events = endings_stand_from line_start events

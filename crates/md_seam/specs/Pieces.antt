@@ -1,0 +1,96 @@
+-- What the pieces of a text are: the innermost pairs of its events, each over its bytes.
+--
+-- A piece is never empty and never a block, so every byte of a text stands in a piece that says what it is.
+use Rattle.std.specs.Prelude.{ℕ, Bool, true, false, ◌&&◌, ◌||◌, ◌==◌, not, nat_le, if◌then◌else◌, List, [], ◌∷◌, codes, length, slice_range}
+use Rattle.std.specs.List.{list_all}
+use Rattle.std.specs.Str.{bytes_eq}
+use Rattle.md_engine.specs.declared.event.Name.{Name}
+use Rattle.md_engine.specs.declared.event.Name.TheVariants as n
+use Rattle.md_seam.specs.Inline.{Piece, is_one_line}
+use Rattle.md_seam.specs.Lines.{is_ending}
+use Rattle.md_seam.specs.Places.{same_place}
+use Rattle.md_seam.specs.Rest.{is_blank}
+use Rattle.md_seam.specs.Texts.{split_lines}
+
+-- Bytes.
+
+-- so many of this byte at least, and nothing else
+abbrev pub is_run : ℕ → ℕ → List ℕ → Bool
+is_run least byte text = nat_le least (length text) && list_all (λ b. b == byte) text
+
+-- one of these bytes
+abbrev pub is_one_of : List ℕ → List ℕ → Bool
+is_one_of bytes [] = false
+is_one_of bytes (b ∷ []) = not (list_all (λ c. not (b == c)) bytes)
+is_one_of bytes (b ∷ c ∷ text) = false
+
+-- LF, CR or CR LF (CommonMark 2.1)
+abbrev pub is_line_ending : List ℕ → Bool
+is_line_ending text = bytes_eq text (10 ∷ []) || bytes_eq text (13 ∷ []) || bytes_eq text (13 ∷ 10 ∷ [])
+
+-- bytes of one line
+abbrev pub is_in_line : List ℕ → Bool
+is_in_line text = list_all (λ b. not (is_ending b)) text
+
+abbrev pub is_digit : ℕ → Bool
+is_digit b = nat_le 48 b && nat_le b 57
+
+-- What a piece of each name may be over; a name that has no line here is no piece's.
+abbrev pub stands_over : Name → List ℕ → Bool
+stands_over n.SpaceOrTab text = is_blank text
+stands_over n.LineEnding text = is_line_ending text
+stands_over n.BlankLineEnding text = is_line_ending text
+stands_over n.ByteOrderMark text = bytes_eq text (239 ∷ 187 ∷ 191 ∷ [])
+stands_over n.Data text = is_in_line text
+stands_over n.FrontmatterSequence text = bytes_eq text (codes "---") || bytes_eq text (codes "+++")
+stands_over n.FrontmatterChunk text = is_in_line text
+stands_over n.BlockQuoteMarker text = is_one_of (codes ">") text
+stands_over n.ListItemValue text = nat_le (length text) 9 && list_all is_digit text
+stands_over n.ListItemMarker text = is_one_of (codes "*+-.)") text
+stands_over n.GfmFootnoteDefinitionLabelMarker text = is_one_of (codes "[]") text
+stands_over n.GfmFootnoteDefinitionMarker text = is_one_of (codes "^") text
+stands_over n.HeadingAtxSequence text = is_run 1 35 text
+stands_over n.HeadingSetextUnderlineSequence text = is_run 1 61 text || is_run 1 45 text
+stands_over n.ThematicBreakSequence text = is_run 1 42 text || is_run 1 45 text || is_run 1 95 text
+stands_over n.CodeFencedFenceSequence text = is_run 3 96 text || is_run 3 126 text
+stands_over n.CodeFlowChunk text = is_in_line text
+stands_over n.MathFlowFenceSequence text = is_run 2 36 text
+stands_over n.MathFlowChunk text = is_in_line text
+stands_over n.HtmlFlowData text = is_in_line text
+stands_over n.DefinitionLabelMarker text = is_one_of (codes "[]") text
+stands_over n.DefinitionMarker text = is_one_of (codes ":") text
+stands_over n.DefinitionDestinationLiteralMarker text = is_one_of (codes "<>") text
+stands_over n.DefinitionTitleMarker text = is_one_of (codes "\"'()") text
+stands_over n.GfmTableCellDivider text = is_one_of (codes "|") text
+stands_over n.GfmTableDelimiterMarker text = is_one_of (codes ":") text
+stands_over n.GfmTableDelimiterFiller text = is_run 1 45 text
+stands_over _ text = false
+
+-- what may begin within a tab: what a cut tab leaves of the line
+abbrev pub begins_in_tab : Name → Bool
+begins_in_tab n.SpaceOrTab = true
+begins_in_tab n.CodeFlowChunk = true
+begins_in_tab n.MathFlowChunk = true
+begins_in_tab n.HtmlFlowData = true
+begins_in_tab n.Data = true
+begins_in_tab _ = false
+
+-- what may end within a tab: an indent, and the whitespace of a prefix
+abbrev pub ends_in_tab : Name → Bool
+ends_in_tab n.SpaceOrTab = true
+ends_in_tab _ = false
+
+abbrev pub piece_text : List ℕ → Piece → List ℕ
+piece_text bytes piece = slice_range bytes piece.first.index piece.after.index
+
+-- Whether a piece may stand where it does: it is not empty, it is over what its name says, and a chunk that is not read yet is
+-- a line, with its ending or not.
+abbrev pub piece_stands : List ℕ → Piece → Bool
+piece_stands bytes piece =
+    not (same_place piece.first piece.after)
+    && ((piece.first.vs == 0) || begins_in_tab piece.name)
+    && ((piece.after.vs == 0) || ends_in_tab piece.name)
+    && (if piece.linked then is_one_line (split_lines (piece_text bytes piece)) true else stands_over piece.name (piece_text bytes piece))
+
+abbrev pub pieces_stand : List ℕ → List Piece → Bool
+pieces_stand bytes pieces = list_all (piece_stands bytes) pieces
