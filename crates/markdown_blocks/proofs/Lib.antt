@@ -35,6 +35,9 @@ pub mod NestedRows
 pub mod BetweenRows
 pub mod TreeRows
 pub mod TextQuoted
+pub mod GrammarRows
+pub mod PieceRows
+pub mod EndingRows
 pub mod Parses
 pub mod TextCuts
 pub mod Sketches

@@ -13,13 +13,18 @@ use Rattle.md_content.specs.ContentReads.{content_readings, wants_content}
 use Rattle.md_content.specs.Joined.{joined}
 use Rattle.md_content.specs.Resolves.{Resolves}
 use Rattle.md_leaves.specs.HeadingText.{headings_resolved}
+use Rattle.md_seam.specs.Endings.{endings_stand}
+use Rattle.md_seam.specs.Grammar.{keeps_grammar, plain_text}
+use Rattle.md_seam.specs.Inline.{pieces}
 use Rattle.md_seam.specs.Meaning.{tree}
 use Rattle.md_seam.specs.Nested.{Nested}
+use Rattle.md_seam.specs.Pieces.{pieces_stand}
 use Rattle.md_seam.specs.Places.{are_placed}
 use Rattle.md_seam.specs.Spelled.{spelled}
 use Rattle.md_seam.specs.Substituted.{Readings, Substituted}
 use Rattle.md_seam.specs.Texts.{split_lines}
-use Rattle.md_seam.specs.Tiles.{Tiles}
+use Rattle.md_seam.specs.Tiles.{Tiles, parts, plain_lists, plain_read}
+use Rattle.markdown_blocks.specs.BlockList.{block_list}
 use Rattle.markdown_blocks.specs.Document.{body_point, mark_events}
 use Rattle.markdown_blocks.specs.FlowReads.{FlowReads, ReadsContent, ReadsNone, SetsHeadings, SetsNone, text_cells, text_rows}
 use Rattle.markdown_blocks.specs.Outlined.{IsOutlined, are_shallow}
@@ -28,12 +33,15 @@ use Rattle.markdown_blocks.specs.Resolved.{resolved_as}
 use Rattle.markdown_blocks.specs.Rows.{Row, groups, groups_events}
 use Rattle.markdown_blocks.specs.Unread.{titled_groups, unread_groups}
 use Rattle.markdown_blocks.proofs.BetweenRows.{rows-between}
+use Rattle.markdown_blocks.proofs.EndingRows.{blocks-endings, events-endings}
+use Rattle.markdown_blocks.proofs.GrammarRows.{blocks-grammar, events-grammar}
 use Rattle.markdown_blocks.proofs.GroupLemmas.{ReadsText, content-read, headings-set, no-content, no-headings, text-read}
 use Rattle.markdown_blocks.proofs.JoinedLemmas.{EachNoContent, rows_at-no_content}
 use Rattle.markdown_blocks.proofs.MarkLemmas.{body-between, body-column, body-index, body-vs, mark-nested, mark-outlined, mark-spelled}
 use Rattle.markdown_blocks.proofs.NestedRows.{Nests, rows-nest}
 use Rattle.markdown_blocks.proofs.ParagraphReads.{content-reads}
 use Rattle.markdown_blocks.proofs.PartFacts.{EachUnlinked, rows_at-unlinked}
+use Rattle.markdown_blocks.proofs.PieceRows.{blocks-pieces, events-pieces}
 use Rattle.markdown_blocks.proofs.PlainEvents.{groups-outlined}
 use Rattle.markdown_blocks.proofs.RowFacts.{AreRows}
 use Rattle.markdown_blocks.proofs.RowLemmas.{fresh-rows}
@@ -122,20 +130,33 @@ tiles-are options bytes built small placed =
         placed = placed;
         lines = blocks-stand options bytes [] false p lines rows are (text-quiet options bytes p) (text-unlinked options bytes);
         chunks = blocks-chunks options bytes [] false p lines rows are (text-quiet options bytes p) (text-unlinked options bytes);
+        grammar = blocks-grammar options bytes lines rows are;
+        pieces_are = blocks-pieces options bytes lines rows are;
+        endings = blocks-endings options bytes lines rows are;
       };
       covers = blocks-cover options bytes lines rows are;
-      lists = fills.lists;
+      lists = plain_lists bytes (parts (mark_events bytes ++ titled_groups bytes (groups rows)));
       each = fills.each;
       read = fills.read;
       empty = groups-empty options bytes;
     }
+
+-- The block list is made of the events of the mark and of the lines.
+block_list-is : (options : ParseOptions) (bytes : List ℕ) → mark_events bytes ++ titled_groups bytes (groups (rows_of options bytes)) ≡ block_list options bytes
+unfolding block_list
+block_list-is options bytes = refl
 
 -- What is known of all events of a text, by those that stood there before its text parts were read.
 pub record Reads (options : ParseOptions) (bytes : List ℕ) (blocks events : List Event) : Type 0 where
   pub nested : Nested events
   pub outlined : IsOutlined events bytes
   pub tree : spelled events bytes ≡ tree options bytes
-  pub tiles : IsTrue (are_placed bytes blocks) → Tiles (reads_plain bytes) bytes events
+  pub blocks_are : blocks ≡ block_list options bytes
+  pub events_are : events ≡ plain_read bytes (block_list options bytes)
+  pub tiles : IsTrue (are_placed bytes blocks) → (tiles : Tiles (reads_plain bytes) bytes events) × (tiles.blocks ≡ blocks)
+  pub grammar : keeps_grammar plain_text events ≡ true
+  pub pieces_are : pieces_stand bytes (pieces events) ≡ true
+  pub endings : endings_stand events ≡ true
 
 pub text-reads : (options : ParseOptions) (bytes : List ℕ) → IsBuilt options → IsUtf8 bytes → length bytes < 2 ^ 61 → (events : List Event) → events ≡ groups_events bytes (groups (text_rows options bytes (body_point bytes))) →
     Reads options bytes (mark_events bytes ++ titled_groups bytes (groups (text_rows options bytes (body_point bytes)))) (mark_events bytes ++ events)
@@ -151,7 +172,12 @@ text-reads options bytes built utf8 small events is =
       nested = mark-nested bytes body nests.balanced nests.forward;
       outlined = mark-outlined bytes body (groups-outlined options bytes p lines rows are utf8 nests.balanced (rows-between options bytes p lines rows (body-between bytes) are) (ap are_shallow spells ∙ tree-shallow options bytes built));
       tree = mark-spelled bytes body ∙ spells;
-      tiles = tiles-are options bytes built small;
+      blocks_are = block_list-is options bytes;
+      events_are = (text-filled options bytes p lines are).read ∙ ap (plain_read bytes) (block_list-is options bytes);
+      tiles = λ placed. (tiles-are options bytes built small placed, refl);
+      grammar = events-grammar options bytes lines rows are;
+      pieces_are = events-pieces options bytes lines rows are;
+      endings = events-endings options bytes lines rows are;
     })
 
 -- The same in the words of the calls that `parse` makes.

@@ -24,7 +24,7 @@ use Rattle.md_seam.specs.Nested.{around, enter, exit, pair}
 use Rattle.md_seam.specs.Places.{at_or_before}
 use Rattle.md_seam.specs.Preamble.{has_mark}
 use Rattle.md_seam.specs.State.{Container}
-use Rattle.md_seam.specs.Tiles.{EachRead, chunks, filled, filled_from, first_list, further_lists, part_at, part_kind, part_of, parts}
+use Rattle.md_seam.specs.Tiles.{EachRead, chunks, filled, filled_from, first_list, further_lists, part_at, part_kind, part_of, parts, plain_lists, plain_read}
 use Rattle.md_seam.proofs.InlineLemmas.{plain-fills, before-text}
 use Rattle.md_seam.proofs.NestedLemmas.{at_or_before-refl, at_or_before-trans}
 use Rattle.md_seam.proofs.NestsLemmas.{part-none, together-append}
@@ -47,29 +47,34 @@ use Rattle.markdown_blocks.proofs.TitleNests.{blank-no_heading, break-no_heading
 
 -- events that are those of a block list, with what is read in the place of each chunk
 pub record IsFilled (bytes : List ℕ) (blocks events : List Event) : Type 0 where
-  pub lists : List (List (List Event))
-  pub each : EachRead (reads_plain bytes) (parts blocks) lists
-  pub read : events ≡ filled blocks (together lists)
+  pub each : EachRead (reads_plain bytes) (parts blocks) (plain_lists bytes (parts blocks))
+  pub read : events ≡ plain_read bytes blocks
 
 -- The same, whatever stands behind them: the events have these parts, and each is read.
 record Fill (bytes : List ℕ) (blocks events : List Event) : Type 0 where
   own : List Part
-  lists : List (List (List Event))
-  each : EachRead (reads_plain bytes) own lists
+  each : EachRead (reads_plain bytes) own (plain_lists bytes own)
   parts_are : (ys : List Event) → parts (blocks ++ ys) ≡ own ++ parts ys
-  read : (ys : List Event) (more : List (List Event)) → filled_from false (blocks ++ ys) (together lists ++ more) ≡ events ++ filled_from false ys more
+  read : (ys : List Event) (more : List (List Event)) → filled_from false (blocks ++ ys) (together (plain_lists bytes own) ++ more) ≡ events ++ filled_from false ys more
 
 -- nothing stands behind them
 fill-all : (bytes : List ℕ) (blocks events : List Event) → Fill bytes blocks events → IsFilled bytes blocks events
-fill-all bytes blocks events fill = record {
-  lists = fill.lists;
-  each = subst (λ (l : List Part). EachRead (reads_plain bytes) l fill.lists) (sym (ap parts (sym (append-nil blocks)) ∙ fill.parts_are [] ∙ append-nil fill.own)) fill.each;
-  read =
-      sym (append-nil events)
-      ∙ sym (fill.read [] [])
-      ∙ ap (λ (l : List Event). filled_from false l (together fill.lists ++ [])) (append-nil blocks)
-      ∙ ap (λ (l : List (List Event)). filled_from false blocks l) (append-nil (together fill.lists));
-}
+fill-all bytes blocks events fill =
+    let own : fill.own ≡ parts blocks = sym (ap parts (sym (append-nil blocks)) ∙ fill.parts_are [] ∙ append-nil fill.own) in
+    record {
+      each = subst (λ (l : List Part). EachRead (reads_plain bytes) l (plain_lists bytes l)) own fill.each;
+      read =
+          sym (append-nil events)
+          ∙ sym (fill.read [] [])
+          ∙ ap (λ (l : List Event). filled_from false l (together (plain_lists bytes fill.own) ++ [])) (append-nil blocks)
+          ∙ ap (λ (l : List (List Event)). filled_from false blocks l) (append-nil (together (plain_lists bytes fill.own)))
+          ∙ ap (λ (l : List Part). filled blocks (together (plain_lists bytes l))) own;
+    }
+
+-- what is read of parts, and of others behind them
+lists-append : (bytes : List ℕ) (ps qs : List Part) → plain_lists bytes (ps ++ qs) ≡ plain_lists bytes ps ++ plain_lists bytes qs
+lists-append bytes [] qs = refl
+lists-append bytes (part ∷ ps) qs = ap (λ (l : List (List (List Event))). plain_chunks bytes part.chunks ∷ l) (lists-append bytes ps qs)
 
 each-append : (bytes : List ℕ) (ps qs : List Part) (xs ys : List (List (List Event))) → EachRead (reads_plain bytes) ps xs → EachRead (reads_plain bytes) qs ys → EachRead (reads_plain bytes) (ps ++ qs) (xs ++ ys)
 each-append bytes [] qs [] ys h k = k
@@ -80,13 +85,16 @@ each-append bytes (part ∷ ps) qs (l ∷ xs) ys h k = (h.0, h.1, each-append by
 fill-append : (bytes : List ℕ) (xs zs more done : List Event) → Fill bytes xs zs → Fill bytes more done → Fill bytes (xs ++ more) (zs ++ done)
 fill-append bytes xs zs more done h k = record {
   own = h.own ++ k.own;
-  lists = h.lists ++ k.lists;
-  each = each-append bytes h.own k.own h.lists k.lists h.each k.each;
+  each =
+      subst (EachRead (reads_plain bytes) (h.own ++ k.own)) (sym (lists-append bytes h.own k.own)) (each-append bytes h.own k.own (plain_lists bytes h.own) (plain_lists bytes k.own) h.each k.each);
   parts_are = λ ys. ap parts (append_assoc xs more ys) ∙ h.parts_are (more ++ ys) ∙ ap (λ (l : List Part). h.own ++ l) (k.parts_are ys) ∙ sym (append_assoc h.own k.own (parts ys));
   read = λ ys rest.
-      ap (λ (l : List Event). filled_from false l (together (h.lists ++ k.lists) ++ rest)) (append_assoc xs more ys)
-      ∙ ap (λ (l : List (List Event)). filled_from false (xs ++ (more ++ ys)) l) (ap (λ (l : List (List Event)). l ++ rest) (together-append h.lists k.lists) ∙ append_assoc (together h.lists) (together k.lists) rest)
-      ∙ h.read (more ++ ys) (together k.lists ++ rest)
+      let first : List (List (List Event)) = plain_lists bytes h.own in
+      let then : List (List (List Event)) = plain_lists bytes k.own in
+      ap (λ (l : List (List (List Event))). filled_from false ((xs ++ more) ++ ys) (together l ++ rest)) (lists-append bytes h.own k.own)
+      ∙ ap (λ (l : List Event). filled_from false l (together (first ++ then) ++ rest)) (append_assoc xs more ys)
+      ∙ ap (λ (l : List (List Event)). filled_from false (xs ++ (more ++ ys)) l) (ap (λ (l : List (List Event)). l ++ rest) (together-append first then) ∙ append_assoc (together first) (together then) rest)
+      ∙ h.read (more ++ ys) (together then ++ rest)
       ∙ ap (λ (l : List Event). zs ++ l) (k.read ys rest)
       ∙ sym (append_assoc zs done (filled_from false ys rest));
 }
@@ -105,7 +113,7 @@ passes-filled (e ∷ xs) ys lists h =
     ∙ ap (λ (l : List Event). e ∷ l) (passes-filled xs ys lists h.1)
 
 fill-same : (bytes : List ℕ) (xs : List Event) → NoLinks xs → NoParts xs → Fill bytes xs xs
-fill-same bytes xs h k = record { own = []; lists = []; each = tt; parts_are = λ ys. passes-parts xs ys k; read = λ ys more. passes-filled xs ys more h }
+fill-same bytes xs h k = record { own = []; each = tt; parts_are = λ ys. passes-parts xs ys k; read = λ ys more. passes-filled xs ys more h }
 
 -- and so does what stands around others
 fill-around : (bytes : List ℕ) (name : Name) (p q : Point) (xs zs : List Event) → part_kind name ≡ None → Fill bytes xs zs → Fill bytes (around name p q xs) (around name p q zs)
@@ -121,16 +129,11 @@ linked-filled bytes link (chunk ∷ list) ys more =
     ap (λ (l : List Event). plain_chunk bytes chunk ++ l) (linked-filled bytes link list ys more)
     ∙ sym (append_assoc (plain_chunk bytes chunk) (together (plain_chunks bytes list)) (filled_from false ys more))
 
--- what is read of the chunks of a part, if it has any
-abbrev lists_of : List ℕ → List Chunk → List (List (List Event))
-lists_of bytes [] = []
-lists_of bytes (chunk ∷ list) = plain_chunks bytes (chunk ∷ list) ∷ []
+lists-together : (bytes : List ℕ) (kind : PartKind) (list : List Chunk) → together (plain_lists bytes (part_of kind list)) ≡ plain_chunks bytes list
+lists-together bytes kind [] = refl
+lists-together bytes kind (chunk ∷ list) = append-nil (plain_chunks bytes (chunk ∷ list))
 
-lists-together : (bytes : List ℕ) (list : List Chunk) → together (lists_of bytes list) ≡ plain_chunks bytes list
-lists-together bytes [] = refl
-lists-together bytes (chunk ∷ list) = append-nil (plain_chunks bytes (chunk ∷ list))
-
-lists-read : (bytes : List ℕ) (kind : PartKind) (list : List Chunk) → Fills list (plain_chunks bytes list) → EachRead (reads_plain bytes) (part_of kind list) (lists_of bytes list)
+lists-read : (bytes : List ℕ) (kind : PartKind) (list : List Chunk) → Fills list (plain_chunks bytes list) → EachRead (reads_plain bytes) (part_of kind list) (plain_lists bytes (part_of kind list))
 lists-read bytes kind [] h = tt
 lists-read bytes kind (chunk ∷ list) h = (h, refl, tt)
 
@@ -143,7 +146,6 @@ fill-part : (bytes : List ℕ) (name : Name) (kind : PartKind) (p q : Point) (li
     Fill bytes (around name p q inside) (around name p q out)
 fill-part bytes name kind p q list inside out is h fills into = record {
   own = part_of kind list;
-  lists = lists_of bytes list;
   each = lists-read bytes kind list fills;
   parts_are = λ ys.
       ap (λ (es : List Event). part_at (enter name p).kind (part_kind name) es ++ parts es) (append_assoc inside (exit name q ∷ []) ys)
@@ -152,8 +154,8 @@ fill-part bytes name kind p q list inside out is h fills into = record {
       ∙ ap (λ (l : List Chunk). part_of kind l ++ parts (inside ++ exit name q ∷ ys)) h.has
       ∙ ap (λ (l : List Part). part_of kind list ++ l) (passes-parts inside (exit name q ∷ ys) h.outside);
   read = λ ys more.
-      ap (λ (l : List Event). enter name p ∷ filled_from false l (together (lists_of bytes list) ++ more)) (append_assoc inside (exit name q ∷ []) ys)
-      ∙ ap (λ (l : List (List Event)). enter name p ∷ filled_from false (inside ++ exit name q ∷ ys) (l ++ more)) (lists-together bytes list)
+      ap (λ (l : List Event). enter name p ∷ filled_from false l (together (plain_lists bytes (part_of kind list)) ++ more)) (append_assoc inside (exit name q ∷ []) ys)
+      ∙ ap (λ (l : List (List Event)). enter name p ∷ filled_from false (inside ++ exit name q ∷ ys) (l ++ more)) (lists-together bytes kind list)
       ∙ ap (λ (l : List Event). enter name p ∷ l) (into (exit name q ∷ ys) more)
       ∙ ap (λ (l : List Event). enter name p ∷ l) (sym (append_assoc out (exit name q ∷ []) (filled_from false ys more)));
 }

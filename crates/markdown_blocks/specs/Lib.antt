@@ -11,6 +11,7 @@ pub mod Sections
 pub mod Stands
 pub mod Between
 pub mod TextRows
+pub mod BlockList
 pub mod Fed
 pub mod FlowReads
 pub mod Unread

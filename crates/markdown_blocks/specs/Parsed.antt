@@ -4,15 +4,19 @@ use Rattle.std.specs.List.{list_all}
 use Rattle.md_engine.specs.declared.configuration.ParseOptions.{ParseOptions}
 use Rattle.md_engine.specs.declared.event.Event.{Event}
 use Rattle.md_engine.specs.declared.parse_state.ParseState.{ParseState}
-use Rattle.md_seam.specs.Inline.{Part, plain_events}
+use Rattle.md_seam.specs.Endings.{endings_stand}
+use Rattle.md_seam.specs.Grammar.{keeps_grammar, plain_text}
+use Rattle.md_seam.specs.Inline.{Part, pieces, plain_events}
 use Rattle.md_seam.specs.Meaning.{tree}
 use Rattle.md_seam.specs.Nested.{Nested}
+use Rattle.md_seam.specs.Pieces.{pieces_stand}
 use Rattle.md_seam.specs.Places.{are_placed}
 use Rattle.md_seam.specs.Preamble.{has_mark}
 use Rattle.md_seam.specs.Spelled.{spelled}
-use Rattle.md_seam.specs.Tiles.{Tiles}
+use Rattle.md_seam.specs.Tiles.{Tiles, plain_read}
 use Rattle.md_seam.specs.Tree.{End, More, Quote}
 use Rattle.md_seam.specs.Wrapped.{quoted}
+use Rattle.markdown_blocks.specs.BlockList.{block_list}
 use Rattle.markdown_blocks.specs.Outlined.{IsOutlined}
 
 -- a text that points have room for: at most an eighth of the greatest `usize`
@@ -58,8 +62,17 @@ pub record IsParsed (text : List ℕ) (options : ParseOptions) (events : List Ev
   -- with `> ` before each line, the text means one block quote with this tree in it, unchanged
   pub in_quote : options.constructs.block_quote ≡ true → IsQuotable text → tree options (quoted text) ≡ More (Quote (spelled events text)) End
   pub tree : spelled events text ≡ tree options text
+  -- one for one, the events are those of the lines of the text, with what the plain layer reads in the place of each chunk
+  pub events_are : events ≡ plain_read text (block_list options text)
   -- every byte is accounted for: the innermost pairs lie side by side, `Data` over each line of a text part among them
   pub tiles : Tiles (reads_plain text) text events
+  pub blocks_are : tiles.blocks ≡ block_list options text
+  -- each part stands where the grammar has it, with what it must hold
+  pub grammar : keeps_grammar plain_text events ≡ true
+  -- each piece is over what its name says, and no block is a piece
+  pub pieces_are : pieces_stand text (pieces events) ≡ true
+  -- endings of blank lines are told from others
+  pub endings : endings_stand events ≡ true
   -- `outline` shows that tree
   pub outlined : IsOutlined events text
   pub definitions : state.definitions.items ≡ []

@@ -1,5 +1,5 @@
 -- Every byte of a text is accounted for: the innermost pairs of its events lie side by side.
-use Rattle.std.specs.Prelude.{◌≡◌, ℕ, zero, suc, Bool, true, false, ◌&&◌, ◌||◌, ◌==◌, not, if◌then◌else◌, IsTrue, List, [], ◌∷◌, ◌++◌, length, slice_range, Option, Some, None}
+use Rattle.std.specs.Prelude.{◌≡◌, ℕ, zero, suc, Bool, true, false, ◌&&◌, ◌||◌, ◌==◌, not, if◌then◌else◌, IsTrue, List, [], ◌∷◌, ◌++◌, length, map, slice_range, Option, Some, None}
 use Rattle.std.specs.List.{list_all}
 use Rattle.md_engine.specs.declared.event.Point.{Point}
 use Rattle.md_engine.specs.declared.event.Event.{Event}
@@ -16,7 +16,7 @@ use Rattle.md_seam.specs.Nested.{Nested, is_exit}
 use Rattle.md_seam.specs.Pieces.{pieces_stand}
 use Rattle.md_seam.specs.Endings.{endings_stand}
 use Rattle.md_seam.specs.Grammar.{keeps_grammar, unread_text}
-use Rattle.md_seam.specs.Inline.{Part, Piece, pieces, Covers, Fills, are_lines, is_linked, together}
+use Rattle.md_seam.specs.Inline.{Part, Piece, pieces, Covers, Fills, are_lines, is_linked, plain_chunks, together}
 
 -- the point behind the last byte
 abbrev pub end_point : List ℕ → Point
@@ -161,6 +161,14 @@ filled_from false (e ∷ es) lists = if is_linked e then first_list lists ++ fil
 
 abbrev pub filled : List Event → List (List Event) → List Event
 filled events lists = filled_from false events lists
+
+-- what the plain layer reads in the place of each chunk of these parts
+abbrev pub plain_lists : List ℕ → List Part → List (List (List Event))
+plain_lists bytes parts = map (λ (part : Part). plain_chunks bytes part.chunks) parts
+
+-- a block list with what the plain layer reads in the place of each chunk
+abbrev pub plain_read : List ℕ → List Event → List Event
+plain_read bytes blocks = filled blocks (together (plain_lists bytes (parts blocks)))
 
 -- each part is read as the layer reads it, chunk by chunk
 abbrev pub EachRead : (Part → List Event → Type 0) → List Part → List (List (List Event)) → Type 0

@@ -1,4 +1,4 @@
-use Rattle.std.proofs.Common.{◌≡◌, ◌++◌, ap, refl, subst, sym}
+use Rattle.std.proofs.Common.{◌≡◌, ◌++◌, ◌∙◌, ap, refl, subst, sym}
 use Rattle.std.proofs.lemmas.List.Elements.{All-append}
 use Rattle.std.specs.String.{string_bytes}
 use Rattle.md_engine.specs.declared.event.Event.{Event}
@@ -47,6 +47,7 @@ returns c =
     let before : ArePlaced bytes (c.in_ok-front.front.events.items ++ c.deref.result.now) = All-append (λ (e : Event). IsPlaced bytes e.point) c.in_ok-front.front.events.items c.deref.result.now of_mark of_flow in
     let placed : ArePlaced bytes c.in_ok-events.events.items =
     rw c.in_ok-events.ensures (All-append (λ (e : Event). IsPlaced bytes e.point) c.in_ok-front.front.events.items body of_mark c.in_ok-body.ensures.placed) in
+    let tiled = read.tiles (events-placed c.args.value.now (c.in_ok-front.front.events.items ++ c.deref.result.now) (rw c.as_bytes-bytes.ensures.value at before)) in
     record {
       bytes = c.as_bytes-bytes.ensures.value;
       options_are = refl;
@@ -54,7 +55,12 @@ returns c =
       placed = events-placed c.args.value.now c.in_ok-events.events.items (rw c.as_bytes-bytes.ensures.value at placed);
       tree = read.tree;
       in_quote = λ on may. text-quoted c.args.options.now c.args.value.now c.in_ok-events.events.items c.requires.built read.tree on may;
-      tiles = read.tiles (events-placed c.args.value.now (c.in_ok-front.front.events.items ++ c.deref.result.now) (rw c.as_bytes-bytes.ensures.value at before));
+      events_are = read.events_are;
+      tiles = tiled.0;
+      blocks_are = tiled.1 ∙ read.blocks_are;
+      grammar = read.grammar;
+      pieces_are = read.pieces_are;
+      endings = read.endings;
       outlined = read.outlined;
       definitions = map-nil string_bytes c.in_ok-tokenizer.found.definitions.items none.definitions;
       footnotes = map-nil string_bytes c.in_ok-tokenizer.found.gfm_footnote_definitions.items none.footnotes;
