@@ -25,7 +25,8 @@ use Rattle.md_seam.specs.Nested.{Nested, around, enter, enter_link, exit, pair, 
 use Rattle.md_seam.specs.Places.{at_or_before, first_point, same_place}
 use Rattle.md_seam.specs.Preamble.{has_mark}
 use Rattle.md_seam.specs.State.{Container, InQuote}
-use Rattle.md_seam.specs.Tiles.{chunks, chunks_stand, inside_part, is_part, is_white_piece, part_end, part_kind, part_stands, parts_stand, stands_in_part}
+use Rattle.md_seam.specs.Tiles.{begins_at, chunks, chunks_stand, inside_part, is_part, is_white_piece, part_end, part_kind, part_stands, parts_stand, stands_in_part}
+use Rattle.md_seam.proofs.InlineLemmas.{same-refl}
 use Rattle.md_seam.proofs.NestedLemmas.{at_or_before-refl, balanced-none}
 use Rattle.markdown_blocks.specs.Change.{ends_of}
 use Rattle.markdown_blocks.specs.Document.{body_point, mark_end, mark_events}
@@ -46,13 +47,13 @@ use Rattle.markdown_blocks.proofs.TitleNests.{text-order, text_begin, text_end}
 
 -- Events outside of text parts.
 
-outside-stands : (bytes : List ℕ) (kind : Kind) (part : Option PartKind) (es : List Event) → part ≡ None → part_stands bytes kind part es ≡ true
-outside-stands bytes Enter part es h = ap (λ (x : Option PartKind). part_stands bytes Enter x es) h
-outside-stands bytes Exit part es h = refl
+outside-stands : (bytes : List ℕ) (kind : Kind) (part : Option PartKind) (p : Point) (es : List Event) → part ≡ None → part_stands bytes kind part p es ≡ true
+outside-stands bytes Enter part p es h = ap (λ (x : Option PartKind). part_stands bytes Enter x p es) h
+outside-stands bytes Exit part p es h = refl
 
 outside-parts : (bytes : List ℕ) (xs ys : List Event) → NoParts xs → parts_stand bytes (xs ++ ys) ≡ parts_stand bytes ys
 outside-parts bytes [] ys h = refl
-outside-parts bytes (e ∷ xs) ys h = ap (λ (x : Bool). x && parts_stand bytes (xs ++ ys)) (outside-stands bytes e.kind (part_kind e.name) (xs ++ ys) h.0) ∙ outside-parts bytes xs ys h.1
+outside-parts bytes (e ∷ xs) ys h = ap (λ (x : Bool). x && parts_stand bytes (xs ++ ys)) (outside-stands bytes e.kind (part_kind e.name) e.point (xs ++ ys) h.0) ∙ outside-parts bytes xs ys h.1
 
 outside-chunks : (xs ys : List Event) → NoParts xs → NoLinks xs → chunks_stand 0 (xs ++ ys) ≡ chunks_stand 0 ys
 outside-chunks [] ys h k = refl
@@ -185,9 +186,10 @@ stands-line bytes name row last es other front h =
     (stands-append bytes (ends_of last.leaves last.end) (ending_events name last) (stands-outside bytes (ends_of last.leaves last.end) (ends-no_parts last.leaves last.end) (ends-unlinked last.leaves last.end))
     (stands-ending bytes name last other))
 
--- A text part of chunks that are lines.
-stands-part : (bytes : List ℕ) (name : Name) (kind : PartKind) (p q : Point) (cs : List Chunk) (inside : List Event) → part_kind name ≡ Some kind → Inside bytes cs inside → are_lines bytes q cs ≡ true → Stands bytes (around name p q inside)
-stands-part bytes name kind p q cs inside named h lines = record {
+-- A text part of chunks that are lines, which begins with the first of them.
+stands-part : (bytes : List ℕ) (name : Name) (kind : PartKind) (p q : Point) (cs : List Chunk) (inside : List Event) → part_kind name ≡ Some kind → Inside bytes cs inside → begins_at p cs ≡ true → are_lines bytes q cs ≡ true →
+    Stands bytes (around name p q inside)
+stands-part bytes name kind p q cs inside named h begins lines = record {
   parts = λ ys.
       let rest : List Event = inside ++ exit name q ∷ ys in
       ap (λ (l : List Event). parts_stand bytes (enter name p ∷ l)) (append_assoc inside (exit name q ∷ []) ys)
@@ -204,16 +206,18 @@ stands-part bytes name kind p q cs inside named h lines = record {
     end : (ys : List Event) → part_end (inside ++ exit name q ∷ ys) ≡ q
     end ys = end-goes inside (exit name q ∷ ys) h.outside ∙ ap (λ (x : Option PartKind). cond ((elim x [ None ↦ false | Some kind ↦ true ]) && true) q (part_end ys)) named
 
-    stands : (ys : List Event) → part_stands bytes Enter (part_kind name) (inside ++ exit name q ∷ ys) ≡ true
+    held : (ys : List Event) → chunks (pieces (inside_part (inside ++ exit name q ∷ ys))) ≡ cs
+    held ys = ap (λ (l : List Event). chunks (pieces l)) (part-inside name kind q inside ys named h.outside) ∙ h.has
+
+    stands : (ys : List Event) → part_stands bytes Enter (part_kind name) p (inside ++ exit name q ∷ ys) ≡ true
     stands ys =
         let rest : List Event = inside ++ exit name q ∷ ys in
-        ap (λ (x : Option PartKind). part_stands bytes Enter x rest) named
-        ∙ and_from (list_all (is_white_piece bytes) (pieces (inside_part rest))) (are_lines bytes (part_end rest) (chunks (pieces (inside_part rest))))
-        (ap (λ (l : List Event). list_all (is_white_piece bytes) (pieces l)) (part-inside name kind q inside ys named h.outside) ∙ h.white)
-        (ap (λ (r : Point). are_lines bytes r (chunks (pieces (inside_part rest)))) (end ys)
-        ∙ ap (λ (l : List Event). are_lines bytes q (chunks (pieces l))) (part-inside name kind q inside ys named h.outside)
-        ∙ ap (are_lines bytes q) h.has
-        ∙ lines)
+        let list : List Chunk = chunks (pieces (inside_part rest)) in
+        let white : Bool = list_all (is_white_piece bytes) (pieces (inside_part rest)) in
+        ap (λ (x : Option PartKind). part_stands bytes Enter x p rest) named
+        ∙ and_from (begins_at p list && white) (are_lines bytes (part_end rest) list)
+        (and_from (begins_at p list) white (ap (begins_at p) (held ys) ∙ begins) (ap (λ (l : List Event). list_all (is_white_piece bytes) (pieces l)) (part-inside name kind q inside ys named h.outside) ∙ h.white))
+        (ap (λ (r : Point). are_lines bytes r list) (end ys) ∙ ap (are_lines bytes q) (held ys) ∙ lines)
 
 -- Headings.
 
@@ -237,7 +241,9 @@ stands-title options bytes line row is =
 
     text : (x : Bool) → (length (text_of line) == 0) ≡ x → Stands bytes (linked_text (cond x None (Some chunk)))
     text true e = stands-outside bytes [] tt tt
-    text false e = stands-part bytes n.HeadingAtxText Text begin end (chunk ∷ []) (linked n.Data heading_link (chunk ∷ [])) refl (inside-linked bytes heading_link (chunk ∷ [])) (title-lines options bytes line row is (grind (arith, nat_tests)))
+    text false e =
+        stands-part bytes n.HeadingAtxText Text begin end (chunk ∷ []) (linked n.Data heading_link (chunk ∷ [])) refl (inside-linked bytes heading_link (chunk ∷ [])) (same-refl begin)
+        (title-lines options bytes line row is (grind (arith, nat_tests)))
 
 -- Groups.
 
@@ -256,12 +262,17 @@ stands-single options bytes row is unlinked BreakRow e =
     stands-line bytes n.LineEnding row row (around n.ThematicBreak row.first row.end row.inside) refl is.front (stands-around bytes n.ThematicBreak row.first row.end row.inside refl stands)
 stands-single options bytes row is unlinked TextRow e = absurd (is.other e)
 
+-- a paragraph begins with its first chunk
+chunks-begin : (row : Row) (rows : List Row) → begins_at row.first (chunks_of row rows) ≡ true
+chunks-begin row [] = same-refl row.first
+chunks-begin row (next ∷ rows) = same-refl row.first
+
 -- lines of text that follow one another
 stands-lines : (options : ParseOptions) (bytes : List ℕ) (row : Row) (rows : List Row) → IsParagraph options bytes row rows → HasFront bytes row → Stands bytes (titled_group bytes (Lines row rows))
 stands-lines options bytes row rows is front =
     let last : Row = last_row row rows in
     stands-line bytes n.LineEnding row last (unread_paragraph row rows) refl front
-    (stands-part bytes n.Paragraph Text row.first last.end (chunks_of row rows) (linked_lines n.Data text_link row rows) refl (lines-inside options bytes row rows is) (paragraph-lines options bytes row rows is))
+    (stands-part bytes n.Paragraph Text row.first last.end (chunks_of row rows) (linked_lines n.Data text_link row rows) refl (lines-inside options bytes row rows is) (chunks-begin row rows) (paragraph-lines options bytes row rows is))
 
 stands-groups : (options : ParseOptions) (bytes : List ℕ) (gs : List Group) → AreGroups options bytes gs → AreUnlinked gs → Stands bytes (titled_groups bytes gs)
 stands-groups options bytes [] are unlinked = stands-outside bytes [] tt tt

@@ -780,3 +780,7 @@ refused-short = refl
 -- a chunk inside a container prefix
 refused-inner : chunks_stand 0 (around n.Paragraph (at 1 1 0) (at 1 2 1) (around n.BlockQuotePrefix (at 1 1 0) (at 1 2 1) (chunk (at 1 1 0) (at 1 2 1)))) ≡ false
 refused-inner = refl
+
+-- an ending that is only the CR of a CR LF
+refused-split : are_placed (13 ∷ 10 ∷ []) (pair n.BlankLineEnding (at 1 1 0) (at 2 1 1)) ≡ false
+refused-split = refl

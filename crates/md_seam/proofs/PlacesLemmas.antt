@@ -1,15 +1,16 @@
 -- Points of a text, and the points behind pieces of its lines.
 use Rattle.std.proofs.Common.{◌≡◌, ℕ, zero, suc, ◌+◌, ◌-◌, ◌%◌, ◌<◌, ◌≤◌, Bool, true, false, cond, ◌&&◌, ◌||◌, List, [], ◌∷◌, ◌++◌, length, take, drop, refl, ap, sym, ◌∙◌, subst, add-one, arith}
-use Rattle.std.specs.Prelude.{◌==◌, not, nat_lt, nat_le}
+use Rattle.std.specs.Prelude.{◌==◌, not, nat_lt, nat_le, slice_index}
 use Rattle.std.specs.List.{list_all, onto_first}
-use Rattle.std.proofs.lemmas.Bool.{and_parts, and_from, leb-true, eqb-true, eq-eqb}
+use Rattle.std.proofs.lemmas.Bool.{and_left, and_right, and_parts, and_from, leb-true, eqb-true, eq-eqb, not-true}
 use Rattle.std.proofs.lemmas.Bool.Decides.{nat_tests}
 use Rattle.md_engine.specs.declared.event.Point.{Point}
 use Rattle.md_engine.specs.declared.event.Event.{Event}
+use Rattle.md_engine.specs.Place.{is_pair}
 use Rattle.md_seam.specs.Lines.{is_ending, begins_with, ends_line}
 use Rattle.md_seam.specs.Rest.{tab_columns}
 use Rattle.md_seam.specs.Texts.{split_lines, first_byte}
-use Rattle.md_seam.specs.Places.{column_past, columns_from, last_line, columns_before, within_tab, is_placed, past_byte, past_text}
+use Rattle.md_seam.specs.Places.{column_past, columns_from, last_line, columns_before, within_tab, is_placed, past_byte, past_text, splits_pair}
 use Rattle.md_seam.proofs.TextsLemmas.{NoEnding, split-line}
 
 -- The last line grows by a byte that is no ending.
@@ -53,6 +54,14 @@ no_feed b h = go (b == 10) (b == 13) h
     go : (x y : Bool) → (x || y) ≡ false → x ≡ false
     go false y h = refl
     go true y h = h
+
+-- a byte of a line is no CR
+no_return : (b : ℕ) → is_ending b ≡ false → (b == 13) ≡ false
+no_return b h = go (b == 10) (b == 13) h
+  where
+    go : (x y : Bool) → (x || y) ≡ false → y ≡ false
+    go false y h = h
+    go true y h = cc
 
 begins-snoc : (b : ℕ) (text : List ℕ) → is_ending b ≡ false → begins_with 10 (text ++ b ∷ []) ≡ begins_with 10 text
 begins-snoc b [] h = no_feed b h
@@ -119,32 +128,53 @@ index-next (suc index) (c ∷ bytes) b rest e = let h : suc index ≤ length byt
 same_stop : (column vs : ℕ) → vs < 4 - column % 4 → (column + vs) + (4 - (column + vs) % 4) ≡ column + (4 - column % 4)
 same_stop column vs h = omega arith
 
+-- the first byte that is left
+slice-next : (index : ℕ) (bytes : List ℕ) (b : ℕ) (rest : List ℕ) → drop index bytes ≡ b ∷ rest → slice_index bytes index ≡ b
+slice-next zero [] b rest e = cc
+slice-next zero (c ∷ bytes) b rest e = ap first_byte e
+slice-next (suc index) [] b rest e = cc
+slice-next (suc index) (c ∷ bytes) b rest e = slice-next index bytes b rest e
+
+-- behind a byte that is no CR, no ending goes on
+pub apart-behind : (bytes : List ℕ) (i : ℕ) → (slice_index bytes i == 13) ≡ false → splits_pair bytes (i + 1) ≡ false
+apart-behind bytes i h = and_right (nat_lt 0 (i + 1)) (is_pair bytes (i + 1 - 1)) (ap (is_pair bytes) same ∙ and_left (slice_index bytes i == 13) (slice_index bytes (i + 1) == 10) h)
+  where
+    same : i + 1 - 1 ≡ i
+    same = omega arith
+
 -- What it means that a point is one of the text.
 pub record Placed (bytes : List ℕ) (p : Point) : Type 0 where
   pub index : p.index ≤ length bytes
   pub within : within_tab bytes p ≡ true
   pub line : p.line ≡ length (split_lines (take p.index bytes))
   pub column : p.column ≡ columns_before bytes p.index + p.vs + 1
+  pub apart : splits_pair bytes p.index ≡ false
 
 pub placed-facts : (bytes : List ℕ) (p : Point) → is_placed bytes p ≡ true → Placed bytes p
 placed-facts bytes p h =
-    let outer : (nat_le p.index (length bytes) && within_tab bytes p && (p.line == length (split_lines (take p.index bytes))) ≡ true) × ((p.column == columns_before bytes p.index + p.vs + 1) ≡ true) =
-    and_parts (nat_le p.index (length bytes) && within_tab bytes p && (p.line == length (split_lines (take p.index bytes)))) (p.column == columns_before bytes p.index + p.vs + 1) h in
-    let middle : (nat_le p.index (length bytes) && within_tab bytes p ≡ true) × ((p.line == length (split_lines (take p.index bytes))) ≡ true) =
-    and_parts (nat_le p.index (length bytes) && within_tab bytes p) (p.line == length (split_lines (take p.index bytes))) outer.0 in
+    let line : Bool = p.line == length (split_lines (take p.index bytes)) in
+    let column : Bool = p.column == columns_before bytes p.index + p.vs + 1 in
+    let whole : (nat_le p.index (length bytes) && within_tab bytes p && line && column ≡ true) × (not (splits_pair bytes p.index) ≡ true) =
+    and_parts (nat_le p.index (length bytes) && within_tab bytes p && line && column) (not (splits_pair bytes p.index)) h in
+    let outer : (nat_le p.index (length bytes) && within_tab bytes p && line ≡ true) × (column ≡ true) = and_parts (nat_le p.index (length bytes) && within_tab bytes p && line) column whole.0 in
+    let middle : (nat_le p.index (length bytes) && within_tab bytes p ≡ true) × (line ≡ true) = and_parts (nat_le p.index (length bytes) && within_tab bytes p) line outer.0 in
     let inner : (nat_le p.index (length bytes) ≡ true) × (within_tab bytes p ≡ true) = and_parts (nat_le p.index (length bytes)) (within_tab bytes p) middle.0 in
-    record { index = leb-true _ _ inner.0; within = inner.1; line = eqb-true _ _ middle.1; column = eqb-true _ _ outer.1 }
+    record { index = leb-true _ _ inner.0; within = inner.1; line = eqb-true _ _ middle.1; column = eqb-true _ _ outer.1; apart = not-true (splits_pair bytes p.index) whole.1 }
 
 le-test : (a b : ℕ) → a ≤ b → nat_le a b ≡ true
 le-test a b h = grind (arith, nat_tests)
 
 pub placed-from : (bytes : List ℕ) (p : Point) → Placed bytes p → is_placed bytes p ≡ true
 placed-from bytes p h =
-    and_from (nat_le p.index (length bytes) && within_tab bytes p && (p.line == length (split_lines (take p.index bytes)))) (p.column == columns_before bytes p.index + p.vs + 1)
-    (and_from (nat_le p.index (length bytes) && within_tab bytes p) (p.line == length (split_lines (take p.index bytes)))
+    let line : Bool = p.line == length (split_lines (take p.index bytes)) in
+    let column : Bool = p.column == columns_before bytes p.index + p.vs + 1 in
+    and_from (nat_le p.index (length bytes) && within_tab bytes p && line && column) (not (splits_pair bytes p.index))
+    (and_from (nat_le p.index (length bytes) && within_tab bytes p && line) column
+    (and_from (nat_le p.index (length bytes) && within_tab bytes p) line
     (and_from (nat_le p.index (length bytes)) (within_tab bytes p) (le-test p.index (length bytes) h.index) h.within)
     (eq-eqb p.line (length (split_lines (take p.index bytes))) h.line))
-    (eq-eqb p.column (columns_before bytes p.index + p.vs + 1) h.column)
+    (eq-eqb p.column (columns_before bytes p.index + p.vs + 1) h.column))
+    (ap not h.apart)
 
 -- the column behind a byte, from the columns before its point
 column-behind : (b before vs column : ℕ) → column ≡ before + vs + 1 → ((vs == 0) || ((b == 9) && nat_lt vs (tab_columns before))) ≡ true → column_past b (column - 1) ≡ column_past b before
@@ -182,6 +212,7 @@ placed-byte bytes p b rest placed next line =
       within = refl;
       line = placed.line ∙ sym (length-onto_last b (split_lines (take p.index bytes)) (some-split (take p.index bytes))) ∙ sym (ap length lines);
       column = omega arith;
+      apart = apart-behind bytes p.index (ap (λ (x : ℕ). x == 13) (slice-next p.index bytes b rest next) ∙ no_return b line);
     }
 
 -- So is the point behind a piece of a line.

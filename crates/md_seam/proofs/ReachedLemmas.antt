@@ -14,10 +14,10 @@ use Rattle.md_engine.specs.declared.event.Point.{Point}
 use Rattle.md_engine.specs.Place.{IsPlaced, IsReached, is_pair, next_point, stepped, walked}
 use Rattle.md_seam.specs.Lines.{ends_line, is_ending}
 use Rattle.md_seam.specs.Parts.{ArePlaced}
-use Rattle.md_seam.specs.Places.{are_placed, columns_before, columns_from, is_placed, last_line, past_byte}
+use Rattle.md_seam.specs.Places.{are_placed, columns_before, columns_from, is_placed, last_line, past_byte, splits_pair}
 use Rattle.md_seam.specs.Rest.{tab_columns}
 use Rattle.md_seam.specs.Texts.{first_byte, split_lines}
-use Rattle.md_seam.proofs.PlacesLemmas.{Placed, placed-byte, placed-from}
+use Rattle.md_seam.proofs.PlacesLemmas.{Placed, apart-behind, placed-byte, placed-from}
 use Rattle.md_seam.proofs.TextsLemmas.{Ending, Both, LineFeed, Return, ending_bytes}
 
 -- An ending at the end of a text.
@@ -98,11 +98,6 @@ last-empty (line ∷ next ∷ lines) = last-empty (next ∷ lines)
 
 -- Steps.
 
--- a point of the text that is not between the bytes of an ending
-record Stands (bytes : List ℕ) (p : Point) : Type 0 where
-  placed : Placed bytes p
-  apart : (ends_return (take p.index bytes) && (slice_index bytes p.index == 10)) ≡ false
-
 take-next : (bytes : List ℕ) (i b : ℕ) → i < length bytes → slice_index bytes i ≡ b → take (i + 1) bytes ≡ take i bytes ++ b ∷ []
 take-next bytes i b lt e = ap (λ (n : ℕ). take n bytes) (add-one i) ∙ take-suc bytes i 0 lt ∙ ap (λ (x : ℕ). take i bytes ++ x ∷ []) e
 
@@ -130,32 +125,18 @@ step-inside bytes p le = go (nat_lt p.index (length bytes)) refl
     go false k = let past : length bytes ≤ p.index = grind (arith, nat_tests) in omega (arith, beyond past)
 
 -- behind an ending
-stands-ended : (bytes : List ℕ) (p : Point) (ending : Ending) (i : ℕ) → Placed bytes p → i ≤ length bytes → take i bytes ≡ take p.index bytes ++ ending_bytes ending → StandsAfter (take p.index bytes) ending →
-    (ends_return (take i bytes) && (slice_index bytes i == 10)) ≡ false → Stands bytes (record { line = p.line + 1; column = 1; index = i; vs = 0 })
-stands-ended bytes p ending i placed le taken after apart =
+placed-ended : (bytes : List ℕ) (p : Point) (ending : Ending) (i : ℕ) → Placed bytes p → i ≤ length bytes → take i bytes ≡ take p.index bytes ++ ending_bytes ending → StandsAfter (take p.index bytes) ending → splits_pair bytes i ≡ false →
+    Placed bytes (record { line = p.line + 1; column = 1; index = i; vs = 0 })
+placed-ended bytes p ending i placed le taken after apart =
     let lines : split_lines (take i bytes) ≡ split_lines (take p.index bytes) ++ [] ∷ [] = ap split_lines taken ∙ split-ended (take p.index bytes) ending after in
     let columns : columns_before bytes i ≡ 0 = ap (λ (ls : List (List ℕ)). columns_from 0 (last_line ls)) lines ∙ ap (columns_from 0) (last-empty (split_lines (take p.index bytes))) in
     let count : length (split_lines (take i bytes)) ≡ length (split_lines (take p.index bytes)) + 1 = ap length lines ∙ length-append (split_lines (take p.index bytes)) ([] ∷ []) in
-    record {
-      placed = record {
-        index = le;
-        within = refl;
-        line = omega (arith, placed.line, count);
-        column = omega (arith, columns);
-      };
-      apart = apart;
-    }
+    record { index = le; within = refl; line = omega (arith, placed.line, count); column = omega (arith, columns); apart = apart }
 
 -- behind another byte
-stands-byte : (bytes : List ℕ) (p : Point) (b : ℕ) (q : Point) → Placed bytes p → p.index < length bytes → slice_index bytes p.index ≡ b → is_ending b ≡ false → past_byte b p ≡ q → Stands bytes q
-stands-byte bytes p b q placed lt e line same = subst (Stands bytes) same (record {
-  placed = placed-byte bytes p b (drop (suc p.index) bytes) placed (drop-cons bytes p.index 0 lt ∙ ap (λ (x : ℕ). x ∷ drop (suc p.index) bytes) e) line;
-  apart = ap (λ (t : List ℕ). ends_return t && (slice_index bytes (p.index + 1) == 10)) (take-next bytes p.index b lt e) ∙ ap (λ (x : Bool). x && (slice_index bytes (p.index + 1) == 10)) (ends_return-snoc (take p.index bytes) b ∙ no_return (b == 10) (b == 13) line);
-})
-  where
-    no_return : (x y : Bool) → (x || y) ≡ false → y ≡ false
-    no_return false y h = h
-    no_return true y h = cc
+placed-past : (bytes : List ℕ) (p : Point) (b : ℕ) (q : Point) → Placed bytes p → p.index < length bytes → slice_index bytes p.index ≡ b → is_ending b ≡ false → past_byte b p ≡ q → Placed bytes q
+placed-past bytes p b q placed lt e line same =
+    subst (Placed bytes) same (placed-byte bytes p b (drop (suc p.index) bytes) placed (drop-cons bytes p.index 0 lt ∙ ap (λ (x : ℕ). x ∷ drop (suc p.index) bytes) e) line)
 
 -- a tab has room where its next column begins no stop
 column-room : (before vs column : ℕ) → column ≡ before + vs + 1 → ((vs == 0) || nat_lt vs (4 - before % 4)) ≡ true → (column % 4 == 0) ≡ false → nat_lt (vs + 1) (4 - before % 4) ≡ true
@@ -174,14 +155,12 @@ column-room before vs column e h more = test room
     test lt = grind (arith, nat_tests)
 
 -- a column of a tab that is not its last
-stands-column : (bytes : List ℕ) (p : Point) → Stands bytes p → p.index < length bytes → slice_index bytes p.index ≡ 9 → (p.column % 4 == 0) ≡ false → Stands bytes (record p { column = p.column + 1; vs = p.vs + 1 })
-stands-column bytes p h lt e more = record {
-  placed = record {
-    index = h.placed.index;
-    within = rw tab (or_right (p.vs + 1 == 0) (nat_lt (p.vs + 1) (tab_columns (columns_before bytes p.index))) (column-room (columns_before bytes p.index) p.vs p.column h.placed.column within more));
-    line = h.placed.line;
-    column = omega (arith, h.placed.column);
-  };
+placed-column : (bytes : List ℕ) (p : Point) → Placed bytes p → p.index < length bytes → slice_index bytes p.index ≡ 9 → (p.column % 4 == 0) ≡ false → Placed bytes (record p { column = p.column + 1; vs = p.vs + 1 })
+placed-column bytes p h lt e more = record {
+  index = h.index;
+  within = rw tab (or_right (p.vs + 1 == 0) (nat_lt (p.vs + 1) (tab_columns (columns_before bytes p.index))) (column-room (columns_before bytes p.index) p.vs p.column h.column within more));
+  line = h.line;
+  column = omega (arith, h.column);
   apart = h.apart;
 }
   where
@@ -189,7 +168,7 @@ stands-column bytes p h lt e more = record {
     tab = drop-cons bytes p.index 0 lt ∙ ap (λ (x : ℕ). x ∷ drop (suc p.index) bytes) e
 
     within : ((p.vs == 0) || nat_lt p.vs (tab_columns (columns_before bytes p.index))) ≡ true
-    within = subst (λ (l : List ℕ). ((p.vs == 0) || ((first_byte l == 9) && nat_lt p.vs (tab_columns (columns_before bytes p.index)))) ≡ true) tab h.placed.within
+    within = subst (λ (l : List ℕ). ((p.vs == 0) || ((first_byte l == 9) && nat_lt p.vs (tab_columns (columns_before bytes p.index)))) ≡ true) tab h.within
 
 -- the last column of a tab, or a byte of one column
 same-behind : (b : ℕ) (p : Point) → 1 ≤ p.column → ((b == 9) && not (p.column % 4 == 0)) ≡ false → past_byte b p ≡ record p { column = p.column + 1; index = p.index + 1; vs = 0 }
@@ -201,25 +180,48 @@ same-behind b p some h = ap (λ (c : ℕ). record { line = p.line; column = c; i
     go true false k h = cc
 
 -- no CR stands before an LF that is reached
-apart-feed : (x y : Bool) → (x && y) ≡ false → y ≡ true → x ≡ false
-apart-feed false y h e = refl
-apart-feed true y h e = cc
-
-stands-feed : (bytes : List ℕ) (p : Point) → Stands bytes p → p.index < length bytes → slice_index bytes p.index ≡ 10 → Stands bytes (record { line = p.line + 1; column = 1; index = p.index + 1; vs = 0 })
-stands-feed bytes p h lt e = stands-ended bytes p LineFeed (p.index + 1) h.placed (omega arith) taken
-    (apart-feed (ends_return (take p.index bytes)) (slice_index bytes p.index == 10) h.apart (ap (λ (b : ℕ). b == 10) e))
-    (ap (λ (t : List ℕ). ends_return t && (slice_index bytes (p.index + 1) == 10)) taken ∙ ap (λ (x : Bool). x && (slice_index bytes (p.index + 1) == 10)) (ends_return-snoc (take p.index bytes) 10))
+return-before : (bytes : List ℕ) (i : ℕ) → i ≤ length bytes → ends_return (take i bytes) ≡ (nat_lt 0 i && (slice_index bytes (i - 1) == 13))
+return-before bytes zero le = refl
+return-before bytes (suc i) le =
+    ap ends_return (take-suc bytes i 0 le) ∙ ends_return-snoc (take i bytes) (slice_index bytes i) ∙ ap (λ (j : ℕ). slice_index bytes j == 13) less ∙ ap (λ (x : Bool). x && (slice_index bytes (suc i - 1) == 13)) some
   where
-    taken : take (p.index + 1) bytes ≡ take p.index bytes ++ 10 ∷ []
-    taken = take-next bytes p.index 10 lt e
+    less : i ≡ suc i - 1
+    less = omega arith
 
-stands-return : (bytes : List ℕ) (p : Point) → Stands bytes p → p.index < length bytes → slice_index bytes p.index ≡ 13 → (slice_index bytes (p.index + 1) == 10) ≡ false → Stands bytes (record { line = p.line + 1; column = 1; index = p.index + 1; vs = 0 })
-stands-return bytes p h lt e no_feed = stands-ended bytes p Return (p.index + 1) h.placed (omega arith) (take-next bytes p.index 13 lt e) tt
-    (and_right (ends_return (take (p.index + 1) bytes)) (slice_index bytes (p.index + 1) == 10) no_feed)
+    some : true ≡ nat_lt 0 (suc i)
+    some = grind (arith, nat_tests)
 
-stands-both : (bytes : List ℕ) (p : Point) → Stands bytes p → slice_index bytes p.index ≡ 13 → slice_index bytes (p.index + 1) ≡ 10 → Stands bytes (record { line = p.line + 1; column = 1; index = p.index + 2; vs = 0 })
-stands-both bytes p h e k = stands-ended bytes p Both (p.index + 2) h.placed (omega (arith, lt)) (taken ∙ append_assoc (take p.index bytes) (13 ∷ []) (10 ∷ [])) tt
-    (ap (λ (t : List ℕ). ends_return t && (slice_index bytes (p.index + 2) == 10)) taken ∙ ap (λ (x : Bool). x && (slice_index bytes (p.index + 2) == 10)) (ends_return-snoc (take p.index bytes ++ 13 ∷ []) 10))
+no_return-before : (bytes : List ℕ) (p : Point) → Placed bytes p → p.index < length bytes → slice_index bytes p.index ≡ 10 → ends_return (take p.index bytes) ≡ false
+no_return-before bytes p h lt e = return-before bytes p.index h.index ∙ go (nat_lt 0 p.index) refl
+  where
+    apart : (x y : Bool) → (x && y) ≡ false → y ≡ true → x ≡ false
+    apart false y h e = refl
+    apart true y h e = cc
+
+    go : (x : Bool) → nat_lt 0 p.index ≡ x → (x && (slice_index bytes (p.index - 1) == 13)) ≡ false
+    go false k = refl
+    go true k =
+        let behind : (p.index - 1) + 1 ≡ p.index = grind (arith, nat_tests) in
+        let feed : (slice_index bytes ((p.index - 1) + 1) == 10) ≡ true = ap (λ (j : ℕ). slice_index bytes j == 10) behind ∙ ap (λ (b : ℕ). b == 10) e in
+        apart (slice_index bytes (p.index - 1) == 13) (slice_index bytes ((p.index - 1) + 1) == 10) (ap (λ (x : Bool). x && is_pair bytes (p.index - 1)) (sym k) ∙ h.apart) feed
+
+placed-feed : (bytes : List ℕ) (p : Point) → Placed bytes p → p.index < length bytes → slice_index bytes p.index ≡ 10 → Placed bytes (record { line = p.line + 1; column = 1; index = p.index + 1; vs = 0 })
+placed-feed bytes p h lt e =
+    placed-ended bytes p LineFeed (p.index + 1) h (omega arith) (take-next bytes p.index 10 lt e) (no_return-before bytes p h lt e) (apart-behind bytes p.index (ap (λ (b : ℕ). b == 13) e))
+
+placed-return : (bytes : List ℕ) (p : Point) → Placed bytes p → p.index < length bytes → slice_index bytes p.index ≡ 13 → (slice_index bytes (p.index + 1) == 10) ≡ false → Placed bytes (record { line = p.line + 1; column = 1; index = p.index + 1; vs = 0 })
+placed-return bytes p h lt e no_feed = placed-ended bytes p Return (p.index + 1) h (omega arith) (take-next bytes p.index 13 lt e) tt apart
+  where
+    same : p.index + 1 - 1 ≡ p.index
+    same = omega arith
+
+    apart : splits_pair bytes (p.index + 1) ≡ false
+    apart = and_right (nat_lt 0 (p.index + 1)) (is_pair bytes (p.index + 1 - 1)) (ap (is_pair bytes) same ∙ and_right (slice_index bytes p.index == 13) (slice_index bytes (p.index + 1) == 10) no_feed)
+
+placed-both : (bytes : List ℕ) (p : Point) → Placed bytes p → slice_index bytes p.index ≡ 13 → slice_index bytes (p.index + 1) ≡ 10 → Placed bytes (record { line = p.line + 1; column = 1; index = p.index + 2; vs = 0 })
+placed-both bytes p h e k =
+    placed-ended bytes p Both (p.index + 2) h (omega (arith, lt)) (taken ∙ append_assoc (take p.index bytes) (13 ∷ []) (10 ∷ [])) tt
+    (subst (λ (i : ℕ). splits_pair bytes i ≡ false) next (apart-behind bytes (p.index + 1) (ap (λ (b : ℕ). b == 13) k)))
   where
     lt : p.index + 1 < length bytes
     lt = byte-inside bytes (p.index + 1) 10 k (omega arith)
@@ -234,24 +236,24 @@ stands-both bytes p h e k = stands-ended bytes p Both (p.index + 2) h.placed (om
         ∙ ap (λ (t : List ℕ). t ++ 10 ∷ []) (take-next bytes p.index 13 (omega (arith, lt)) e)
 
 -- The point behind what is seen at such a point is one.
-stands-next : (bytes : List ℕ) (p : Point) → Stands bytes p → (next_point bytes p).index ≤ length bytes → Stands bytes (next_point bytes p)
-stands-next bytes p h le = go (slice_index bytes p.index == 10) (slice_index bytes p.index == 13) (slice_index bytes (p.index + 1) == 10) ((slice_index bytes p.index == 9) && not (p.column % 4 == 0)) refl refl refl refl
+placed-next : (bytes : List ℕ) (p : Point) → Placed bytes p → (next_point bytes p).index ≤ length bytes → Placed bytes (next_point bytes p)
+placed-next bytes p h le = go (slice_index bytes p.index == 10) (slice_index bytes p.index == 13) (slice_index bytes (p.index + 1) == 10) ((slice_index bytes p.index == 9) && not (p.column % 4 == 0)) refl refl refl refl
   where
     lt : p.index < length bytes
     lt = step-inside bytes p le
 
     go : (x y z t : Bool) → (slice_index bytes p.index == 10) ≡ x → (slice_index bytes p.index == 13) ≡ y → (slice_index bytes (p.index + 1) == 10) ≡ z → ((slice_index bytes p.index == 9) && not (p.column % 4 == 0)) ≡ t →
-        Stands bytes (cond (x || y) (record { line = p.line + 1; column = 1; index = cond (y && z) (p.index + 2) (p.index + 1); vs = 0 }) (cond t (record p { column = p.column + 1; vs = p.vs + 1 }) (record p { column = p.column + 1; index = p.index + 1; vs = 0 })))
+        Placed bytes (cond (x || y) (record { line = p.line + 1; column = 1; index = cond (y && z) (p.index + 2) (p.index + 1); vs = 0 }) (cond t (record p { column = p.column + 1; vs = p.vs + 1 }) (record p { column = p.column + 1; index = p.index + 1; vs = 0 })))
     go true true z t e f g k = absurd (omega (arith, eqb-true (slice_index bytes p.index) 10 e, eqb-true (slice_index bytes p.index) 13 f))
-    go true false z t e f g k = stands-feed bytes p h lt (eqb-true (slice_index bytes p.index) 10 e)
-    go false true true t e f g k = stands-both bytes p h (eqb-true (slice_index bytes p.index) 13 f) (eqb-true (slice_index bytes (p.index + 1)) 10 g)
-    go false true false t e f g k = stands-return bytes p h lt (eqb-true (slice_index bytes p.index) 13 f) g
+    go true false z t e f g k = placed-feed bytes p h lt (eqb-true (slice_index bytes p.index) 10 e)
+    go false true true t e f g k = placed-both bytes p h (eqb-true (slice_index bytes p.index) 13 f) (eqb-true (slice_index bytes (p.index + 1)) 10 g)
+    go false true false t e f g k = placed-return bytes p h lt (eqb-true (slice_index bytes p.index) 13 f) g
     go false false z true e f g k =
         let parts : ((slice_index bytes p.index == 9) ≡ true) × (not (p.column % 4 == 0) ≡ true) = and_parts (slice_index bytes p.index == 9) (not (p.column % 4 == 0)) k in
-        stands-column bytes p h lt (eqb-true (slice_index bytes p.index) 9 parts.0) (not-true (p.column % 4 == 0) parts.1)
+        placed-column bytes p h lt (eqb-true (slice_index bytes p.index) 9 parts.0) (not-true (p.column % 4 == 0) parts.1)
     go false false z false e f g k =
-        stands-byte bytes p (slice_index bytes p.index) _ h.placed lt refl (ap (λ (x : Bool). x || (slice_index bytes p.index == 13)) e ∙ f)
-        (same-behind (slice_index bytes p.index) p (omega (arith, h.placed.column)) k)
+        placed-past bytes p (slice_index bytes p.index) _ h lt refl (ap (λ (x : Bool). x || (slice_index bytes p.index == 13)) e ∙ f)
+        (same-behind (slice_index bytes p.index) p (omega (arith, h.column)) k)
 
 index-behind : (bytes : List ℕ) (p : Point) → p.index ≤ (next_point bytes p).index
 index-behind bytes p = go (is_ending (slice_index bytes p.index)) (is_pair bytes p.index) ((slice_index bytes p.index == 9) && not (p.column % 4 == 0))
@@ -263,14 +265,14 @@ index-behind bytes p = go (is_ending (slice_index bytes p.index)) (is_pair bytes
     go false y false = omega arith
 
 -- So is each point within the text that one comes to.
-stands-walked : (bytes : List ℕ) (n : ℕ) → (walked bytes n).index ≤ length bytes → Stands bytes (walked bytes n)
+placed-walked : (bytes : List ℕ) (n : ℕ) → (walked bytes n).index ≤ length bytes → Placed bytes (walked bytes n)
 unfolding walked
-stands-walked bytes zero le = record { placed = record { index = le; within = refl; line = refl; column = refl }; apart = refl }
-stands-walked bytes (suc n) le = stands-next bytes (walked bytes n) (stands-walked bytes n (omega (arith, le, index-behind bytes (walked bytes n)))) le
+placed-walked bytes zero le = record { index = le; within = refl; line = refl; column = refl; apart = refl }
+placed-walked bytes (suc n) le = placed-next bytes (walked bytes n) (placed-walked bytes n (omega (arith, le, index-behind bytes (walked bytes n)))) le
 
--- A point within the text that one comes to has its line and column right.
+-- A point within the text that one comes to has its line and column right, and stands inside no ending.
 pub reached-placed : (bytes : List ℕ) (p : Point) → IsReached bytes p → p.index ≤ length bytes → is_placed bytes p ≡ true
-reached-placed bytes p (n, e) le = placed-from bytes p (subst (Placed bytes) (sym e) (stands-walked bytes n (subst (λ (q : Point). q.index ≤ length bytes) e le)).placed)
+reached-placed bytes p (n, e) le = placed-from bytes p (subst (Placed bytes) (sym e) (placed-walked bytes n (subst (λ (q : Point). q.index ≤ length bytes) e le)))
 
 pub point-placed : (bytes : List ℕ) (p : Point) → IsPlaced bytes p → is_placed bytes p ≡ true
 point-placed bytes p h = ∥∥₁_elim h.reached (Bool-set (is_placed bytes p) true) (λ r. reached-placed bytes p r h.index)
