@@ -116,30 +116,32 @@ text-unlinked options bytes = rows_at-unlinked options (suc (length (text_cells 
 
 -- With what was read in the place of its chunks, the block list of a text tiles it.
 tiles-are : (options : ParseOptions) (bytes : List ℕ) → IsBuilt options → length bytes < 2 ^ 61 → IsTrue (are_placed bytes (mark_events bytes ++ titled_groups bytes (groups (rows_of options bytes)))) →
-    Tiles (reads_plain bytes) bytes (mark_events bytes ++ groups_events bytes (groups (rows_of options bytes)))
+    (tiles : Tiles (reads_plain bytes) bytes (mark_events bytes ++ groups_events bytes (groups (rows_of options bytes)))) × (tiles.blocks ≡ mark_events bytes ++ titled_groups bytes (groups (rows_of options bytes)))
 tiles-are options bytes built small placed =
     let p : Point = body_point bytes in
     let lines : List (List ℕ) = lines_of bytes in
     let rows : List Row = rows_of options bytes in
     let are : AreRows options bytes [] false p lines rows = text-are options bytes built small in
-    let fills = text-filled options bytes p lines are in
-    record {
-      blocks = mark_events bytes ++ titled_groups bytes (groups rows);
-      block_list = record {
-        nested = blocks-nested options bytes lines rows are;
-        placed = placed;
-        lines = blocks-stand options bytes [] false p lines rows are (text-quiet options bytes p) (text-unlinked options bytes);
-        chunks = blocks-chunks options bytes [] false p lines rows are (text-quiet options bytes p) (text-unlinked options bytes);
-        grammar = blocks-grammar options bytes lines rows are;
-        pieces_are = blocks-pieces options bytes lines rows are;
-        endings = blocks-endings options bytes lines rows are;
-      };
-      covers = blocks-cover options bytes lines rows are;
-      lists = plain_lists bytes (parts (mark_events bytes ++ titled_groups bytes (groups rows)));
-      each = fills.each;
-      read = fills.read;
-      empty = groups-empty options bytes;
-    }
+    let fills = text-filled options bytes p lines are in (
+      record {
+        blocks = mark_events bytes ++ titled_groups bytes (groups rows);
+        block_list = record {
+          nested = blocks-nested options bytes lines rows are;
+          placed = placed;
+          lines = blocks-stand options bytes [] false p lines rows are (text-quiet options bytes p) (text-unlinked options bytes);
+          chunks = blocks-chunks options bytes [] false p lines rows are (text-quiet options bytes p) (text-unlinked options bytes);
+          grammar = blocks-grammar options bytes lines rows are;
+          pieces_are = blocks-pieces options bytes lines rows are;
+          endings = blocks-endings options bytes lines rows are;
+        };
+        covers = blocks-cover options bytes lines rows are;
+        lists = plain_lists bytes (parts (mark_events bytes ++ titled_groups bytes (groups rows)));
+        each = fills.each;
+        read = fills.read;
+        empty = groups-empty options bytes;
+      },
+      refl,
+    )
 
 -- The block list is made of the events of the mark and of the lines.
 block_list-is : (options : ParseOptions) (bytes : List ℕ) → mark_events bytes ++ titled_groups bytes (groups (rows_of options bytes)) ≡ block_list options bytes
@@ -174,7 +176,7 @@ text-reads options bytes built utf8 small events is =
       tree = mark-spelled bytes body ∙ spells;
       blocks_are = block_list-is options bytes;
       events_are = (text-filled options bytes p lines are).read ∙ ap (plain_read bytes) (block_list-is options bytes);
-      tiles = λ placed. (tiles-are options bytes built small placed, refl);
+      tiles = tiles-are options bytes built small;
       grammar = events-grammar options bytes lines rows are;
       pieces_are = events-pieces options bytes lines rows are;
       endings = events-endings options bytes lines rows are;
