@@ -298,10 +298,12 @@ impl<'a> Reading<'a> {
         ensures bytes { self.new.bytes ≡ self.old.bytes }
         ensures read { sketch_of self.new ≡ told_title text.now (sketch_of self.old) }
     {
-        if let Some(Leaf::Heading {
-            markers,
-            text: None,
-        }) = self.leaf
+        if let Some(
+            Leaf::Heading {
+                markers,
+                text: None,
+            },
+        ) = self.leaf
         {
             self.leaf = Some(Leaf::Heading {
                 markers,

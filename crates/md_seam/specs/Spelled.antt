@@ -67,7 +67,7 @@ pub data LeafKind : Type 0 where
 
 -- What was found so far in a leaf block that is open. What is not there yet is an empty list or `None`.
 
--- what stands at fences and between them
+-- in a block between fences
 pub record Fenced : Type 0 where
   -- the markers of the first fence
   pub markers : List ℕ
@@ -76,7 +76,7 @@ pub record Fenced : Type 0 where
   pub closed : Bool
 
 pub record HeadingSoFar : Type 0 where
-  -- the opening run of an ATX heading, the underline of a setext heading
+  -- the first run of an ATX heading, or the underline of a setext heading
   pub markers : List ℕ
   -- the lines of its text
   pub text : List (List ℕ)
@@ -85,7 +85,7 @@ pub record DefinitionSoFar : Type 0 where
   -- the lines of the label
   pub label : List (List ℕ)
   pub destination : List ℕ
-  -- the lines of the title: of one that has begun, none before its text
+  -- the lines of the title; none where it has begun, before its text
   pub title : Option (List (List ℕ))
 
 pub record TableSoFar : Type 0 where
@@ -93,6 +93,7 @@ pub record TableSoFar : Type 0 where
   -- the cells of each row, the head first
   pub rows : List (List (List ℕ))
 
+-- A leaf block that is open, by its kind.
 pub data OpenLeaf : Type 0 where
   FrontmatterLeaf : Fenced → OpenLeaf
   HeadingAtxLeaf : HeadingSoFar → OpenLeaf
@@ -264,7 +265,7 @@ fresh OfHtml = HtmlLeaf (empty_line ∷ [])
 fresh OfDefinition = DefinitionLeaf (record { label = []; destination = []; title = None })
 fresh OfTable = TableLeaf (record { delimiter = []; rows = [] })
 
--- A part of a leaf block, changed. A block of a kind that has no such part stays as it is.
+-- A leaf block with a part of it changed, if it is of a kind that has such a part.
 
 abbrev pub on_fences : (Fenced → Fenced) → OpenLeaf → OpenLeaf
 on_fences f (FrontmatterLeaf fences) = FrontmatterLeaf (f fences)
@@ -277,60 +278,51 @@ on_lines f (CodeLeaf lines) = CodeLeaf (f lines)
 on_lines f (HtmlLeaf lines) = HtmlLeaf (f lines)
 on_lines f leaf = on_fences (λ (fences : Fenced). record fences { lines = f fences.lines }) leaf
 
-abbrev pub on_heading : (HeadingSoFar → HeadingSoFar) → OpenLeaf → OpenLeaf
-on_heading f (HeadingAtxLeaf heading) = HeadingAtxLeaf (f heading)
-on_heading f (HeadingSetextLeaf heading) = HeadingSetextLeaf (f heading)
-on_heading f leaf = leaf
-
 abbrev pub on_markers : (List ℕ → List ℕ) → OpenLeaf → OpenLeaf
 on_markers f (HeadingAtxLeaf heading) = HeadingAtxLeaf (record heading { markers = f heading.markers })
 on_markers f (HeadingSetextLeaf heading) = HeadingSetextLeaf (record heading { markers = f heading.markers })
 on_markers f leaf = on_fences (λ (fences : Fenced). record fences { markers = f fences.markers }) leaf
 
-abbrev pub on_definition : (DefinitionSoFar → DefinitionSoFar) → OpenLeaf → OpenLeaf
-on_definition f (DefinitionLeaf definition) = DefinitionLeaf (f definition)
-on_definition f leaf = leaf
+-- What begins or ends in a leaf block.
 
-abbrev pub on_title : (Option (List (List ℕ)) → Option (List (List ℕ))) → OpenLeaf → OpenLeaf
-on_title f leaf = on_definition (λ (definition : DefinitionSoFar). record definition { title = f definition.title }) leaf
-
-abbrev pub on_table : (TableSoFar → TableSoFar) → OpenLeaf → OpenLeaf
-on_table f (TableLeaf table) = TableLeaf (f table)
-on_table f leaf = leaf
-
-abbrev pub on_rows : (List (List (List ℕ)) → List (List (List ℕ))) → OpenLeaf → OpenLeaf
-on_rows f leaf = on_table (λ (table : TableSoFar). record table { rows = f table.rows }) leaf
-
--- a line ending opens a line
+-- a line
 abbrev pub next_line : OpenLeaf → OpenLeaf
 next_line leaf = on_lines (λ (lines : List Line). lines ++ empty_line ∷ []) leaf
 
--- The fence behind the opening one is the closing one: it is no line.
-abbrev pub closed_by : Fenced → Fenced
-closed_by fences = if (length fences.markers == 0) || fences.closed then fences else record fences { lines = without_last fences.lines; closed = true }
+-- a fence: the second is the closing one, and it is no line
+abbrev pub with_fence : Fenced → Fenced
+with_fence fences =
+    if (length fences.markers == 0) || fences.closed then fences
+    else record fences { lines = without_last fences.lines; closed = true }
 
 abbrev pub at_fence : OpenLeaf → OpenLeaf
-at_fence leaf = on_fences closed_by leaf
+at_fence leaf = on_fences with_fence leaf
 
--- a title begins
+-- a title
 abbrev pub at_title : OpenLeaf → OpenLeaf
-at_title leaf = on_title (λ (title : Option (List (List ℕ))). first_some title []) leaf
+at_title (DefinitionLeaf definition) = DefinitionLeaf (record definition { title = first_some definition.title [] })
+at_title leaf = leaf
 
--- a title has this text, if it has none yet
-abbrev pub with_title : List (List ℕ) → OpenLeaf → OpenLeaf
-with_title text leaf = on_title (option_map (λ (lines : List (List ℕ)). first_told lines text)) leaf
+-- a title with these lines, if it has none yet
+abbrev pub with_title : List (List ℕ) → DefinitionSoFar → DefinitionSoFar
+with_title now definition =
+    record definition { title = option_map (λ (lines : List (List ℕ)). first_told lines now) definition.title }
 
--- a title ends: one without a text is an empty line
+-- a title that ends without a text is an empty line
 abbrev pub behind_title : OpenLeaf → OpenLeaf
-behind_title leaf = with_title ([] ∷ []) leaf
+behind_title (DefinitionLeaf definition) = DefinitionLeaf (with_title ([] ∷ []) definition)
+behind_title leaf = leaf
 
--- a row of a table begins
+-- a row of a table
 abbrev pub at_row : OpenLeaf → OpenLeaf
-at_row leaf = on_rows (λ (rows : List (List (List ℕ))). rows ++ [] ∷ []) leaf
+at_row (TableLeaf table) = TableLeaf (record table { rows = table.rows ++ [] ∷ [] })
+at_row leaf = leaf
 
--- a cell of the last row begins
+-- a cell of its last row
 abbrev pub at_cell : OpenLeaf → OpenLeaf
-at_cell leaf = on_rows (on_last (λ (row : List (List ℕ)). row ++ [] ∷ [])) leaf
+at_cell (TableLeaf table) =
+    TableLeaf (record table { rows = on_last (λ (row : List (List ℕ)). row ++ [] ∷ []) table.rows })
+at_cell leaf = leaf
 
 -- a line and the next piece of it
 abbrev pub joined : Line → Line → Line
@@ -353,19 +345,29 @@ block_of (HtmlLeaf lines) = Html lines
 block_of (DefinitionLeaf definition) = Definition definition.label definition.destination definition.title
 block_of (TableLeaf table) = Table table.delimiter table.rows
 
--- What a text of a leaf block says of it. Pieces of a line are joined. Of any other purpose the first text stands.
+-- a heading with this text, if it has none yet
+abbrev pub with_text : List ℕ → HeadingSoFar → HeadingSoFar
+with_text now heading = record heading { text = first_told heading.text (trim_each (split_lines now)) }
+
+-- What a text of a leaf block says of it. Pieces of a line are joined; of any other purpose the first text stands.
 abbrev pub noted : Purpose → Line → OpenLeaf → OpenLeaf
-noted AsHeading line leaf = on_heading (λ (h : HeadingSoFar). record h { text = first_told h.text (trim_each (split_lines line.text)) }) leaf
+noted AsHeading line (HeadingAtxLeaf heading) = HeadingAtxLeaf (with_text line.text heading)
+noted AsHeading line (HeadingSetextLeaf heading) = HeadingSetextLeaf (with_text line.text heading)
 noted AsMarkers line leaf = on_markers (λ (markers : List ℕ). first_told markers line.text) leaf
 noted AsLine line leaf = on_lines (on_last (λ (l : Line). joined l line)) leaf
 noted AsInfo line (FenceLeaf fences info meta) = FenceLeaf fences (first_some info line.text) meta
 noted AsMeta line (FenceLeaf fences info meta) = FenceLeaf fences info (first_some meta line.text)
 noted AsMeta line (MathLeaf fences meta) = MathLeaf fences (first_some meta line.text)
-noted AsLabel line leaf = on_definition (λ (d : DefinitionSoFar). record d { label = first_told d.label (trim_further (split_lines line.text)) }) leaf
-noted AsDestination line leaf = on_definition (λ (d : DefinitionSoFar). record d { destination = first_told d.destination line.text }) leaf
-noted AsTitle line leaf = with_title (trim_further (split_lines line.text)) leaf
-noted AsCell line leaf = on_rows (on_last (on_last (λ (cell : List ℕ). first_told cell line.text))) leaf
-noted AsDelimiter line leaf = on_table (λ (t : TableSoFar). record t { delimiter = first_told t.delimiter (trim line.text) }) leaf
+noted AsLabel line (DefinitionLeaf definition) =
+    DefinitionLeaf (record definition { label = first_told definition.label (trim_further (split_lines line.text)) })
+noted AsDestination line (DefinitionLeaf definition) =
+    DefinitionLeaf (record definition { destination = first_told definition.destination line.text })
+noted AsTitle line (DefinitionLeaf definition) =
+    DefinitionLeaf (with_title (trim_further (split_lines line.text)) definition)
+noted AsCell line (TableLeaf table) =
+    TableLeaf (record table { rows = on_last (on_last (λ (cell : List ℕ). first_told cell line.text)) table.rows })
+noted AsDelimiter line (TableLeaf table) =
+    TableLeaf (record table { delimiter = first_told table.delimiter (trim line.text) })
 noted _ line leaf = leaf
 
 -- Shapes.
