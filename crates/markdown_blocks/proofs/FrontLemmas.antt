@@ -9,7 +9,7 @@ use Rattle.md_engine.specs.declared.event.Point.{Point}
 use Rattle.md_seam.specs.Inline.{pair_unless_empty}
 use Rattle.md_seam.specs.Nested.{Balanced, Matches, enter, exit, last_point, open_after, pair}
 use Rattle.md_seam.specs.Places.{at_or_before, same_place}
-use Rattle.md_seam.specs.Spelled.{FootnoteShape, IsQuiet, ItemShape, ListShape, QuoteShape, Role, Shape, role}
+use Rattle.md_seam.specs.Spelled.{FootnoteShape, IsQuiet, ItemShape, OrderedShape, QuoteShape, Role, Shape, UnorderedShape, role}
 use Rattle.md_seam.specs.Spelled as spelled
 use Rattle.md_seam.specs.State.{Container, InFootnote, InItem, InQuote}
 use Rattle.md_seam.proofs.NestedLemmas.{at_or_before-refl, at_or_before-trans, balanced-append, balanced-matches, balanced-none, balanced-open, forward-last, matches-append, open_after-append}
@@ -145,7 +145,8 @@ names-append (c ∷ a) b = ap (λ (l : List Name). l ++ container_name c ∷ [])
 -- the events of a container tell its name by its shape
 abbrev shape_name : Shape → Name
 shape_name QuoteShape = n.BlockQuote
-shape_name ListShape = n.ListUnordered
+shape_name OrderedShape = n.ListOrdered
+shape_name UnorderedShape = n.ListUnordered
 shape_name (ItemShape marker digits) = n.ListItem
 shape_name (FootnoteShape label) = n.GfmFootnoteDefinition
 

@@ -19,11 +19,12 @@ use Rattle.md_seam.specs.Nested.{Balanced, Fits, Matches, open_after, open_behin
 use Rattle.md_seam.specs.Outline.{Entry, block_entries, entries, entry, outline}
 use Rattle.md_seam.specs.Places.{last_line}
 use Rattle.md_seam.specs.Rest.{is_blank}
-use Rattle.md_seam.specs.Spelled.{Around, AsHeading, AsMarkers, AsParagraph, FootnoteShape, Holds, IsEnding, IsPrefix, IsQuiet, ItemShape, ListShape, OfBreak, OfHeadingAtx, OpenLeaf, Opens, QuoteShape, Reading, Shape, Tells, Text, after_prefix, at_ending, before_prefix, begun, block_around, block_of, byte_at, finished, left, next_line, on_leaf, read, read_by, read_enter, read_exit, spelled, text_to, unread}
+use Rattle.md_seam.specs.Spelled.{Around, AsHeading, AsMarkers, AsParagraph, BreakLeaf, FootnoteShape, HeadingAtxLeaf, HeadingSoFar, Holds, IsEnding, IsPrefix, IsQuiet, ItemShape, OfBreak, OfHeadingAtx, OpenLeaf, Opens, OrderedShape, QuoteShape, Reading, Shape, Tells, Text, UnorderedShape, after_prefix, at_ending, before_prefix, begun, block_around, block_of, byte_at, finished, first_told, left, next_line, on_leaf, read, read_by, read_enter, read_exit, spelled, text_to, unread}
 use Rattle.md_seam.specs.Spelled as spelled
 use Rattle.md_seam.specs.State.{then_block}
 use Rattle.md_seam.specs.Texts.{split_lines, trim_each}
 use Rattle.md_seam.specs.Tree.{Block, Blocks, Break, End, Heading, Line, More, Paragraph, Quote}
+use Rattle.md_seam.proofs.PlacesLemmas.{Some_line, some-split}
 use Rattle.markdown_blocks.specs.Between.{is_between}
 use Rattle.markdown_blocks.specs.Outlined.{IsOutlined, are_parted, are_shallow, begins_line, has_plain_name, is_plain, is_shallow, is_told, is_unparted, parts_by, span_by, tells_between}
 use Rattle.markdown_blocks.specs.Sketched.{BeginsBetween, BreakSketch, HeadingSketch, IsCut, LeafIsText, LeafSketch, Sketch, begin_entries, byte_depth, full_entries, heading_entries, leaf_ended, marked, parted_at, shown_as, sketch_by, sketch_enter, sketch_exit, sketched, text_entries, titled, title_entries, told_at, unsketched}
@@ -163,7 +164,8 @@ IsShallow r = (are_shallow r.here ≡ true) × (outer_shallow r.outer ≡ true)
 
 shallow-around : (shape : Shape) (bs : Blocks) → is_shallow (block_around shape bs) ≡ true → are_shallow bs ≡ true
 shallow-around QuoteShape bs h = h
-shallow-around ListShape bs h = h
+shallow-around OrderedShape bs h = h
+shallow-around UnorderedShape bs h = h
 shallow-around (ItemShape marker digits) bs h = h
 shallow-around (FootnoteShape label) bs h = h
 
@@ -176,7 +178,7 @@ shallow-left (around ∷ outer) r e d = (
 
 shallow-finished : (leaf : Option OpenLeaf) (r : Reading) → IsShallow (finished leaf r) → IsShallow r
 shallow-finished None r d = d
-shallow-finished (Some leaf) r d = (shallow-before r.here (block_of leaf leaf.kind) d.0, d.1)
+shallow-finished (Some leaf) r d = (shallow-before r.here (block_of leaf) d.0, d.1)
 
 shallow-told : (bytes : List ℕ) (x : spelled.Purpose) (p : Point) (text : Option Text) (r : Reading) → is_plain (Tells x) ≡ true → IsShallow (spelled.told_at bytes x p text r) → IsShallow r
 shallow-told bytes x p None r h d = d
@@ -216,15 +218,15 @@ abbrev title_lines : Option (List ℕ) → List (List ℕ)
 title_lines None = []
 title_lines (Some text) = trim_each (split_lines text)
 
-record IsHeading (markers : ℕ) (text : Option (List ℕ)) (leaf : OpenLeaf) : Type 0 where
-  pub kind : leaf.kind ≡ OfHeadingAtx
-  pub markers_are : length leaf.markers ≡ markers
-  pub text_is : leaf.text ≡ title_lines text
+record IsHeading (markers : ℕ) (text : Option (List ℕ)) (heading : HeadingSoFar) : Type 0 where
+  pub markers_are : length heading.markers ≡ markers
+  pub text_is : heading.text ≡ title_lines text
 
 -- what a sketch knows of a leaf
 abbrev LeafIs : LeafSketch → OpenLeaf → Type 0
-LeafIs BreakSketch leaf = leaf.kind ≡ OfBreak
-LeafIs (HeadingSketch markers text) leaf = IsHeading markers text leaf
+LeafIs BreakSketch BreakLeaf = Unit {0}
+LeafIs (HeadingSketch markers text) (HeadingAtxLeaf heading) = IsHeading markers text heading
+LeafIs _ _ = ⊥
 
 abbrev SameLeaf : Option LeafSketch → Option OpenLeaf → Type 0
 SameLeaf None None = Unit {0}
@@ -309,37 +311,53 @@ sketch-leaf : (s : Sketch) (r : Reading) (x : Option LeafSketch) (leaf : Option 
 sketch-leaf s r None None h k d is = is
 sketch-leaf s r None (Some leaf) h k d is = absurd h
 sketch-leaf s r (Some x) None h k d is = absurd h
-sketch-leaf s r (Some BreakSketch) (Some leaf) h k d is = sketch-block s r Break (block_of leaf leaf.kind) _ (ap (block_of leaf) h) refl k is
-sketch-leaf s r (Some (HeadingSketch markers text)) (Some leaf) h k d is =
-    let block : block_of leaf leaf.kind ≡ Heading markers (title_lines text) = ap (block_of leaf) h.kind ∙ ap (λ n. Heading n leaf.text) h.markers_are ∙ ap (Heading markers) h.text_is in
-    let shallow : is_shallow (Heading markers (title_lines text)) ≡ true = ap is_shallow (sym block) ∙ shallow-last r.here (block_of leaf leaf.kind) d in
-    sketch-block s r (Heading markers (title_lines text)) (block_of leaf leaf.kind) _ block (heading-shown s.depth markers text shallow) k is
+sketch-leaf s r (Some BreakSketch) (Some BreakLeaf) h k d is = sketch-block s r Break Break _ refl refl k is
+sketch-leaf s r (Some (HeadingSketch markers text)) (Some (HeadingAtxLeaf heading)) h k d is =
+    let block : Heading (length heading.markers) heading.text ≡ Heading markers (title_lines text) = ap (λ n. Heading n heading.text) h.markers_are ∙ ap (Heading markers) h.text_is in
+    let shallow : is_shallow (Heading markers (title_lines text)) ≡ true = ap is_shallow (sym block) ∙ shallow-last r.here (Heading (length heading.markers) heading.text) d in
+    sketch-block s r (Heading markers (title_lines text)) (Heading (length heading.markers) heading.text) _ block (heading-shown s.depth markers text shallow) k is
+sketch-leaf s r (Some x) (Some leaf) h k d is = absurd h
 
 -- a run of markers sets those of a leaf that has none
 same-markers : (x : Option LeafSketch) (leaf : Option OpenLeaf) (line : Line) (n : ℕ) → length line.text ≡ n → SameLeaf x leaf → SameLeaf (option_map (marked n) x) (option_map (spelled.noted AsMarkers line) leaf)
 same-markers None None line n e h = tt
 same-markers None (Some leaf) line n e h = absurd h
 same-markers (Some x) None line n e h = absurd h
-same-markers (Some x) (Some leaf) line n e h = go x leaf.markers refl h
+same-markers (Some BreakSketch) (Some BreakLeaf) line n e h = tt
+same-markers (Some (HeadingSketch markers text)) (Some (HeadingAtxLeaf heading)) line n e h = go heading.markers refl
   where
-    go : (x : LeafSketch) (ms : List ℕ) → leaf.markers ≡ ms → LeafIs x leaf → LeafIs (marked n x) (elim ms [ [] ↦ record leaf { markers = line.text } | m ∷ ms ↦ leaf ])
-    go BreakSketch [] is h = h
-    go BreakSketch (m ∷ ms) is h = h
-    go (HeadingSketch markers text) [] is h =
+    go : (ms : List ℕ) → heading.markers ≡ ms → IsHeading (cond (markers == 0) n markers) text (record heading { markers = first_told ms line.text })
+    go [] is =
         let none : markers ≡ 0 = sym h.markers_are ∙ ap length is in
-        record { kind = h.kind; markers_are = e ∙ sym (ap (λ k. cond (k == 0) n k) none); text_is = h.text_is }
-    go (HeadingSketch markers text) (m ∷ ms) is h =
+        record { markers_are = e ∙ sym (ap (λ k. cond (k == 0) n k) none); text_is = h.text_is }
+    go (m ∷ ms) is =
         let some : length (m ∷ ms) ≡ markers = sym (ap length is) ∙ h.markers_are in
         let none : (markers == 0) ≡ false = grind (arith, nat_tests) in
-        record { kind = h.kind; markers_are = h.markers_are ∙ sym (ap (λ x. cond x n markers) none); text_is = h.text_is }
+        record { markers_are = some ∙ sym (ap (λ x. cond x n markers) none); text_is = h.text_is }
+same-markers (Some x) (Some leaf) line n e h = absurd h
 
--- a text sets the lines of a leaf
+-- the lines of a title stand, whatever is told next
+title-stands : (text : List ℕ) (now : List (List ℕ)) → first_told (trim_each (split_lines text)) now ≡ trim_each (split_lines text)
+title-stands text now = go (split_lines text) (some-split text)
+  where
+    go : (lines : List (List ℕ)) → Some_line lines → first_told (trim_each lines) now ≡ trim_each lines
+    go [] h = absurd h
+    go (line ∷ lines) h = refl
+
+-- the first text sets the lines of a leaf
 same-title : (x : Option LeafSketch) (leaf : Option OpenLeaf) (line : Line) (text : List ℕ) → line.text ≡ text → SameLeaf x leaf → SameLeaf (option_map (titled text) x) (option_map (spelled.noted AsHeading line) leaf)
 same-title None None line text e h = tt
 same-title None (Some leaf) line text e h = absurd h
 same-title (Some x) None line text e h = absurd h
-same-title (Some BreakSketch) (Some leaf) line text e h = h
-same-title (Some (HeadingSketch markers before)) (Some leaf) line text e h = record { kind = h.kind; markers_are = h.markers_are; text_is = ap (λ t. trim_each (split_lines t)) e }
+same-title (Some BreakSketch) (Some BreakLeaf) line text e h = tt
+same-title (Some (HeadingSketch markers before)) (Some (HeadingAtxLeaf heading)) line text e h =
+    let lines : List (List ℕ) = trim_each (split_lines line.text) in
+    record { markers_are = h.markers_are; text_is = ap (λ t. first_told t lines) h.text_is ∙ go before }
+  where
+    go : (before : Option (List ℕ)) → first_told (title_lines before) (trim_each (split_lines line.text)) ≡ title_lines (spelled.first_some before text)
+    go None = ap (λ t. trim_each (split_lines t)) e
+    go (Some t) = title-stands t (trim_each (split_lines line.text))
+same-title (Some x) (Some leaf) line text e h = absurd h
 
 -- a piece that is not the first begins with no line feed
 begins-behind : (piece rest : List ℕ) → begins_with 10 piece ≡ false → begins_with 10 rest ≡ false → begins_with 10 (piece ++ rest) ≡ false
@@ -497,8 +515,9 @@ same-line : (x : Option LeafSketch) (leaf : Option OpenLeaf) → SameLeaf x leaf
 same-line None None h = refl
 same-line None (Some leaf) h = absurd h
 same-line (Some x) None h = absurd h
-same-line (Some BreakSketch) (Some leaf) h = ap (λ k. Some (cond (spelled.has_lines k) (record leaf { lines = leaf.lines ++ spelled.empty_line ∷ [] }) leaf)) h
-same-line (Some (HeadingSketch markers text)) (Some leaf) h = ap (λ k. Some (cond (spelled.has_lines k) (record leaf { lines = leaf.lines ++ spelled.empty_line ∷ [] }) leaf)) h.kind
+same-line (Some BreakSketch) (Some BreakLeaf) h = refl
+same-line (Some (HeadingSketch markers text)) (Some (HeadingAtxLeaf heading)) h = refl
+same-line (Some x) (Some leaf) h = absurd h
 
 sketch-ending : (bytes : List ℕ) (p : Point) (s : Sketch) (r : Reading) (text : Option Text) → IsSketch s r → IsSketch s (at_ending bytes p text r)
 sketch-ending bytes p s r (Some text) is = is
@@ -562,8 +581,8 @@ sketch-enter bytes (Holds QuoteShape) p s r h k is = record {
       is.text;
 }
 sketch-enter bytes IsPrefix p s r h k is = sketch-prefix bytes p s r s.text r.text refl is.text k is
-sketch-enter bytes (Opens OfBreak) p s r h k is = record { depth = is.depth; quotes = is.quotes; leaf = refl; text = is.text }
-sketch-enter bytes (Opens OfHeadingAtx) p s r h k is = record { depth = is.depth; quotes = is.quotes; leaf = record { kind = refl; markers_are = refl; text_is = refl }; text = is.text }
+sketch-enter bytes (Opens OfBreak) p s r h k is = record { depth = is.depth; quotes = is.quotes; leaf = tt; text = is.text }
+sketch-enter bytes (Opens OfHeadingAtx) p s r h k is = record { depth = is.depth; quotes = is.quotes; leaf = record { markers_are = refl; text_is = refl }; text = is.text }
 sketch-enter bytes (Tells AsParagraph) p s r h k is = sketch-begun p s r (apart-enter bytes (Tells AsParagraph) p s.text tt k) is
 sketch-enter bytes (Tells AsHeading) p s r h k is = sketch-begun p s r (apart-enter bytes (Tells AsHeading) p s.text tt k) is
 sketch-enter bytes (Tells AsMarkers) p s r h k is = sketch-begun p s r (apart-enter bytes (Tells AsMarkers) p s.text tt k) is
@@ -685,7 +704,8 @@ piece-end bytes part span end text s lines is u begins between epart elines =
 leaf-titled : (text : List ℕ) (leaf : Option LeafSketch) → IsUtf8 text → LeafIsText leaf → LeafIsText (option_map (titled text) leaf)
 leaf-titled text None u h = tt
 leaf-titled text (Some BreakSketch) u h = tt
-leaf-titled text (Some (HeadingSketch markers before)) u h = u
+leaf-titled text (Some (HeadingSketch markers None)) u h = u
+leaf-titled text (Some (HeadingSketch markers (Some before))) u h = h
 
 leaf-marked : (count : ℕ) (leaf : Option LeafSketch) → LeafIsText leaf → LeafIsText (option_map (marked count) leaf)
 leaf-marked count None h = tt

@@ -20,7 +20,7 @@ use Rattle.md_seam.specs.Leaves.{heading_lines, heading_text, without_closing}
 use Rattle.md_seam.specs.Nested.{around}
 use Rattle.md_seam.specs.Places.{past_byte, past_text}
 use Rattle.md_seam.specs.Rest.{is_parted, is_white, run_len, trim, trim_end, trim_start}
-use Rattle.md_seam.specs.Spelled.{AsHeading, AsMarkers, OfHeadingAtx, OpenLeaf, Reading, Tells, Text, add_block, begun, byte_at, columns_left, fresh, noted, read, read_exit, text_to, told_at}
+use Rattle.md_seam.specs.Spelled.{AsHeading, AsMarkers, HeadingAtxLeaf, HeadingSoFar, OfHeadingAtx, OpenLeaf, Reading, Tells, Text, add_block, begun, byte_at, columns_left, first_told, fresh, noted, read, read_exit, text_to, told_at}
 use Rattle.md_seam.specs.Texts.{split_lines, trim_each}
 use Rattle.md_seam.specs.Tree.{Heading}
 use Rattle.md_seam.proofs.BlocksLemmas.{read-leaf, read-told}
@@ -92,7 +92,7 @@ white-quiet (b ∷ bs) p = go (is_white b) refl (white-quiet bs (past_byte b p))
 
 -- a heading is open, with these markers
 abbrev marked : Reading → List ℕ → Reading
-marked r markers = record r { text = None; leaf = Some (record (fresh OfHeadingAtx) { markers = markers }) }
+marked r markers = record r { text = None; leaf = Some (HeadingAtxLeaf (record { markers = markers; text = [] })) }
 
 -- the first run of markers ends
 read-markers : (bytes : List ℕ) (r : Reading) (first p : Point) → r.text ≡ Some (begun first) → r.leaf ≡ Some (fresh OfHeadingAtx) → read_exit bytes (Tells AsMarkers) p r ≡ marked r (slice_range bytes (byte_at first) p.index)
@@ -217,21 +217,25 @@ read-opens bytes r White p t = ap (λ (x : Option Text). record r { text = x }) 
 read-opens bytes r rule.Text p t = ap (λ (x : Option Text). record r { text = x }) t
 
 -- a run behind the first one of markers says nothing
-read-closes : (bytes : List ℕ) (r : Reading) (leaf : OpenLeaf) (m : ℕ) (ms : List ℕ) (run : Run) (p : Point) → r.leaf ≡ Some leaf → leaf.markers ≡ m ∷ ms → InRun run r.text → read bytes r (closes run p) ≡ record r { text = None }
-read-closes bytes r leaf m ms Hashes p l e t =
+read-closes : (bytes : List ℕ) (r : Reading) (heading : HeadingSoFar) (m : ℕ) (ms : List ℕ) (run : Run) (p : Point) → r.leaf ≡ Some (HeadingAtxLeaf heading) → heading.markers ≡ m ∷ ms → InRun run r.text →
+    read bytes r (closes run p) ≡ record r { text = None }
+read-closes bytes r heading m ms Hashes p l e t =
+    let further : List ℕ = slice_range bytes (byte_at t.0) p.index in
+    let with_markers : List ℕ → Reading = λ markers. record r { text = None; leaf = Some (HeadingAtxLeaf (record heading { markers = markers })) } in
     ap (λ (x : Option Text). told_at bytes AsMarkers p x r) t.1
-    ∙ ap (λ (x : Option OpenLeaf). record r { text = None; leaf = option_map (noted AsMarkers (record { spaces = columns_left t.0; text = slice_range bytes (byte_at t.0) p.index })) x }) l
-    ∙ ap (λ (x : List ℕ). record r { text = None; leaf = Some (elim x [ [] ↦ record leaf { markers = slice_range bytes (byte_at t.0) p.index } | c ∷ cs ↦ leaf ]) }) e
+    ∙ ap (λ (x : Option OpenLeaf). record r { text = None; leaf = option_map (noted AsMarkers (record { spaces = columns_left t.0; text = further })) x }) l
+    ∙ ap (λ (x : List ℕ). with_markers (first_told x further)) e
+    ∙ ap with_markers (sym e)
     ∙ ap (λ (x : Option OpenLeaf). record r { text = None; leaf = x }) (sym l)
-read-closes bytes r leaf m ms Apart p l e t = ap (λ (x : Option Text). record r { text = x }) t
-read-closes bytes r leaf m ms White p l e t = ap (λ (x : Option Text). record r { text = x }) t
-read-closes bytes r leaf m ms rule.Text p l e t = ap (λ (x : Option Text). record r { text = x }) t
+read-closes bytes r heading m ms Apart p l e t = ap (λ (x : Option Text). record r { text = x }) t
+read-closes bytes r heading m ms White p l e t = ap (λ (x : Option Text). record r { text = x }) t
+read-closes bytes r heading m ms rule.Text p l e t = ap (λ (x : Option Text). record r { text = x }) t
 
-read-runs : (bytes : List ℕ) (r : Reading) (leaf : OpenLeaf) (m : ℕ) (ms : List ℕ) (run : Run) (line : List ℕ) (p : Point) → r.leaf ≡ Some leaf → leaf.markers ≡ m ∷ ms → InRun run r.text →
+read-runs : (bytes : List ℕ) (r : Reading) (heading : HeadingSoFar) (m : ℕ) (ms : List ℕ) (run : Run) (line : List ℕ) (p : Point) → r.leaf ≡ Some (HeadingAtxLeaf heading) → heading.markers ≡ m ∷ ms → InRun run r.text →
     read bytes r (line_runs run line p) ≡ record r { text = None }
-read-runs bytes r leaf m ms run [] p l e t = read-closes bytes r leaf m ms run p l e t
-read-runs bytes r leaf m ms run (b ∷ bs) p l e t =
-    go (goes_on run b) refl (read-runs bytes r leaf m ms run bs (past_byte b p) l e t) (read-runs bytes (record r { text = text_in (rule.begun b) p }) leaf m ms (rule.begun b) bs (past_byte b p) l e (in-run (rule.begun b) p))
+read-runs bytes r heading m ms run [] p l e t = read-closes bytes r heading m ms run p l e t
+read-runs bytes r heading m ms run (b ∷ bs) p l e t =
+    go (goes_on run b) refl (read-runs bytes r heading m ms run bs (past_byte b p) l e t) (read-runs bytes (record r { text = text_in (rule.begun b) p }) heading m ms (rule.begun b) bs (past_byte b p) l e (in-run (rule.begun b) p))
   where
     into : Run
     into = rule.begun b
@@ -245,7 +249,7 @@ read-runs bytes r leaf m ms run (b ∷ bs) p l e t =
     go false k same turned =
         ap (read bytes r) (run-turns run into b bs p k refl)
         ∙ read-from bytes r mid (closes run p ++ opens into p) (line_runs into bs (past_byte b p))
-        (read-from bytes r (record r { text = None }) (closes run p) (opens into p) (read-closes bytes r leaf m ms run p l e t) ∙ read-opens bytes (record r { text = None }) into p refl)
+        (read-from bytes r (record r { text = None }) (closes run p) (opens into p) (read-closes bytes r heading m ms run p l e t) ∙ read-opens bytes (record r { text = None }) into p refl)
         ∙ turned
 
 -- The text.
@@ -291,7 +295,7 @@ text-lines text none bare = ap trim_each (split-line text none) ∙ ap (λ (k : 
 
 -- a heading is open, with its markers and its text
 abbrev titled : Reading → List ℕ → List (List ℕ) → Reading
-titled r markers lines = record r { text = None; leaf = Some (record (fresh OfHeadingAtx) { markers = markers; text = lines }) }
+titled r markers lines = record r { text = None; leaf = Some (HeadingAtxLeaf (record { markers = markers; text = lines })) }
 
 read-part : (bytes : List ℕ) (r : Reading) (markers : List ℕ) (begin end : Point) (text : List ℕ) → begin.vs ≡ 0 → slice_range bytes begin.index end.index ≡ text → NoEnding text → Bare text →
     read bytes (marked r markers) (read_text bytes (chunk_unless_empty (length text) begin end)) ≡ titled r markers (heading_lines text)
@@ -348,12 +352,12 @@ markers-are bytes line p end is =
 
 -- what stands in a heading is read as its markers and its text
 read-inside : (bytes line : List ℕ) (p : Point) (end : ℕ) (r : Reading) → IsAt bytes line p end → r.text ≡ None →
-    read bytes (record r { leaf = Some (fresh OfHeadingAtx) }) (read_title bytes (title_of line p)) ≡ record r { leaf = Some (record (fresh OfHeadingAtx) { markers = markers_of bytes line p; text = heading_lines (text_of line) }) }
+    read bytes (record r { leaf = Some (fresh OfHeadingAtx) }) (read_title bytes (title_of line p)) ≡ record r { leaf = Some (HeadingAtxLeaf (record { markers = markers_of bytes line p; text = heading_lines (text_of line) })) }
 read-inside bytes line p end r is t =
     let opened : Reading = record r { leaf = Some (fresh OfHeadingAtx) } in
     let markers : List ℕ = markers_of bytes line p in
     let lines : List (List ℕ) = heading_lines (text_of line) in
-    let leaf : OpenLeaf = record (fresh OfHeadingAtx) { markers = markers; text = lines } in
+    let heading : HeadingSoFar = record { markers = markers; text = lines } in
     let first = front_len line in
     let size = length (text_of line) in
     let from = past_text (take first line) p in
@@ -364,14 +368,14 @@ read-inside bytes line p end r is t =
     read-from bytes opened (titled r markers lines) (title.front ++ read_text bytes title.text) title.back
     (read-from bytes opened (marked r markers) title.front (read_text bytes title.text) (read-front bytes opened Apart line p tt is.heading refl)
     ∙ read-part bytes r markers from to (text_of line) is.text_whole is.title.slice is.title.no_ending (bare-text (drop (prefix_len is_white line + run_len 35 (trim_start line)) line)))
-    ∙ read-runs bytes (titled r markers lines) leaf some.0 some.1 Apart (drop (first + size) line) to refl some.2 refl
-    ∙ ap (λ (x : Option Text). record r { text = x; leaf = Some leaf }) (sym t)
+    ∙ read-runs bytes (titled r markers lines) heading some.0 some.1 Apart (drop (first + size) line) to refl some.2 refl
+    ∙ ap (λ (x : Option Text). record r { text = x; leaf = Some (HeadingAtxLeaf heading) }) (sym t)
 
 read-at : (bytes line : List ℕ) (p q : Point) (end : ℕ) (r : Reading) → IsAt bytes line p end → r.text ≡ None → r.leaf ≡ None → read bytes r (around n.HeadingAtx p q (read_title bytes (title_of line p))) ≡ add_block (heading_block line) r
 read-at bytes line p q end r is t l =
     let indent = prefix_len is_white line in
     let depth = run_len 35 (trim_start line) in
-    let leaf : OpenLeaf = record (fresh OfHeadingAtx) { markers = markers_of bytes line p; text = heading_lines (text_of line) } in
+    let leaf : OpenLeaf = HeadingAtxLeaf (record { markers = markers_of bytes line p; text = heading_lines (text_of line) }) in
     read-leaf bytes r n.HeadingAtx OfHeadingAtx p q (read_title bytes (title_of line p)) leaf refl l (read-inside bytes line p end r is t)
     ∙ ap (λ (k : ℕ). add_block (Heading k (heading_lines (text_of line))) r) (markers-are bytes line p end is)
     ∙ ap (λ (x : List ℕ). add_block (Heading depth (heading_lines (heading_text x))) r) (sym (drop-drop depth indent line))

@@ -89,10 +89,10 @@ abbrev pub marked : ℕ → LeafSketch → LeafSketch
 marked count BreakSketch = BreakSketch
 marked count (HeadingSketch markers text) = HeadingSketch (if markers == 0 then count else markers) text
 
--- the leaf with this text
+-- the leaf behind this text
 abbrev pub titled : List ℕ → LeafSketch → LeafSketch
 titled text BreakSketch = BreakSketch
-titled text (HeadingSketch markers before) = HeadingSketch markers (Some text)
+titled text (HeadingSketch markers before) = HeadingSketch markers (spelled.first_some before text)
 
 abbrev pub leaf_entries : ℕ → LeafSketch → List Entry
 leaf_entries depth BreakSketch = block_entries depth Break

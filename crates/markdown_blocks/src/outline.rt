@@ -293,12 +293,18 @@ impl<'a> Reading<'a> {
         }
     }
 
-    /// Gives an open heading its text.
+    /// Tells an open heading of a text: it has the first.
     fn entitle(&mut self, text: &'a [u8])
         ensures bytes { self.new.bytes ≡ self.old.bytes }
         ensures read { sketch_of self.new ≡ told_title text.now (sketch_of self.old) }
     {
-        if let Some(Leaf::Heading { markers, .. }) = self.leaf {
+        if let Some(
+            Leaf::Heading {
+                markers,
+                text: None,
+            },
+        ) = self.leaf
+        {
             self.leaf = Some(Leaf::Heading {
                 markers,
                 text: Some(text),

@@ -20,12 +20,12 @@ read-around bytes r name p q inside = read-append bytes (read_enter bytes (role 
 -- A leaf block, by what was found in it.
 pub read-leaf : (bytes : List ℕ) (r : Reading) (name : Name) (kind : LeafKind) (p q : Point) (inside : List Event) (leaf : OpenLeaf) →
     role name ≡ Opens kind → r.leaf ≡ None → read bytes (record r { leaf = Some (fresh kind) }) inside ≡ record r { leaf = Some leaf } →
-    read bytes r (around name p q inside) ≡ add_block (block_of leaf leaf.kind) r
+    read bytes r (around name p q inside) ≡ add_block (block_of leaf) r
 read-leaf bytes r name kind p q inside leaf is_leaf none found =
     read-around bytes r name p q inside
     ∙ ap (λ (x : Role). read_exit bytes x q (read bytes (read_enter bytes x p r) inside)) is_leaf
     ∙ ap (λ (x : Reading). finished x.leaf x) found
-    ∙ ap (λ (x : Option OpenLeaf). add_block (block_of leaf leaf.kind) (record r { leaf = x })) (sym none)
+    ∙ ap (λ (x : Option OpenLeaf). add_block (block_of leaf) (record r { leaf = x })) (sym none)
 
 -- The events of a thematic break are read as a break.
 pub read-break : (bytes : List ℕ) (r : Reading) (p q : Point) (inside : List Event) → r.leaf ≡ None → Roles Quiet inside → read bytes r (around n.ThematicBreak p q inside) ≡ add_block t.Break r

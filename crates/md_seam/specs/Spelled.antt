@@ -2,7 +2,7 @@
 --
 -- A fold over the events. It goes on from a half-read tree: the containers that are open, the blocks that are finished in
 -- the innermost, the leaf block that is open, and the text that is being read.
-use Rattle.std.specs.Prelude.{ℕ, ◌+◌, ◌-◌, Bool, true, false, ◌==◌, nat_lt, if◌then◌else◌, List, [], ◌∷◌, ◌++◌, length, map, slice_range, Option, Some, None, option_map}
+use Rattle.std.specs.Prelude.{ℕ, ◌+◌, ◌-◌, Bool, true, false, ◌||◌, ◌==◌, nat_lt, if◌then◌else◌, List, [], ◌∷◌, ◌++◌, length, map, slice_range, Option, Some, None, option_map}
 use Rattle.md_engine.specs.declared.event.Point.{Point}
 use Rattle.md_engine.specs.declared.event.Event.{Event}
 use Rattle.md_engine.specs.declared.event.Kind.{Kind}
@@ -11,6 +11,7 @@ use Rattle.md_engine.specs.declared.event.Name.{Name}
 use Rattle.md_engine.specs.declared.event.Name.TheVariants as n
 use Rattle.md_seam.specs.Tree.{Line, Block, Blocks, Quote, ListOf, Item, Footnote, Heading, Break, Code, Html, Fence, Math, Definition, Paragraph, Table, End, More}
 use Rattle.md_seam.specs.Tree as t
+use Rattle.md_seam.specs.Containers.{is_bullet}
 use Rattle.md_seam.specs.Rest.{trim, tab_columns}
 use Rattle.md_seam.specs.State.{then_block}
 use Rattle.md_seam.specs.Texts.{split_lines, trim_each, trim_further, first_byte}
@@ -27,10 +28,22 @@ without_last [] = []
 without_last (x ∷ []) = []
 without_last (x ∷ y ∷ ys) = x ∷ without_last (y ∷ ys)
 
--- What is known of an open container: an item's marker and digits, the label of a footnote definition.
+-- What was told first stands: some items, or what is told now if there are none yet.
+abbrev pub first_told : {A : Type 0} → List A → List A → List A
+first_told [] now = now
+first_told (x ∷ xs) now = x ∷ xs
+
+-- the same of what may be there or not
+abbrev pub first_some : {A : Type 0} → Option A → A → Option A
+first_some None now = Some now
+first_some (Some x) now = Some x
+
+-- What is known of an open container: which list it is, an item's marker and digits, the label of a footnote definition.
+-- There is no marker yet where it is 0, and no digits or label where they are empty.
 pub data Shape : Type 0 where
   QuoteShape : Shape
-  ListShape : Shape
+  OrderedShape : Shape
+  UnorderedShape : Shape
   ItemShape : ℕ → List ℕ → Shape
   FootnoteShape : List ℕ → Shape
 
@@ -52,24 +65,50 @@ pub data LeafKind : Type 0 where
   OfDefinition : LeafKind
   OfTable : LeafKind
 
--- A leaf block that is open, and what was found in it so far.
-pub record OpenLeaf : Type 0 where
-  pub kind : LeafKind
-  -- its first run of markers
+-- What was found so far in a leaf block that is open. What is not there yet is an empty list or `None`.
+
+-- in a block between fences
+pub record Fenced : Type 0 where
+  -- the markers of the first fence
   pub markers : List ℕ
-  -- the lines of code, a fence, math, HTML or frontmatter
   pub lines : List Line
-  pub info : Option (List ℕ)
-  pub meta : Option (List ℕ)
   -- whether there is a closing fence
   pub closed : Bool
-  -- the lines of a heading, or of a definition's label
+
+pub record HeadingSoFar : Type 0 where
+  -- the first run of an ATX heading, or the underline of a setext heading
+  pub markers : List ℕ
+  -- the lines of its text
   pub text : List (List ℕ)
+
+pub record DefinitionSoFar : Type 0 where
+  -- the lines of the label
+  pub label : List (List ℕ)
   pub destination : List ℕ
+  -- the lines of the title; none where it has begun, before its text
   pub title : Option (List (List ℕ))
+
+pub record TableSoFar : Type 0 where
   pub delimiter : List ℕ
-  -- the cells of each row of a table
+  -- the cells of each row, the head first
   pub rows : List (List (List ℕ))
+
+-- A leaf block that is open, by its kind.
+pub data OpenLeaf : Type 0 where
+  FrontmatterLeaf : Fenced → OpenLeaf
+  HeadingAtxLeaf : HeadingSoFar → OpenLeaf
+  HeadingSetextLeaf : HeadingSoFar → OpenLeaf
+  BreakLeaf : OpenLeaf
+  -- the lines
+  CodeLeaf : List Line → OpenLeaf
+  -- the fences, `info` and `meta`
+  FenceLeaf : Fenced → Option (List ℕ) → Option (List ℕ) → OpenLeaf
+  -- the fences and `meta`
+  MathLeaf : Fenced → Option (List ℕ) → OpenLeaf
+  -- the lines
+  HtmlLeaf : List Line → OpenLeaf
+  DefinitionLeaf : DefinitionSoFar → OpenLeaf
+  TableLeaf : TableSoFar → OpenLeaf
 
 -- A text that is being read: the virtual spaces before it, what stands before the last container prefix in it, and the
 -- byte where the rest begins.
@@ -135,8 +174,8 @@ role n.FrontmatterSequence = Tells AsMarkers
 role n.FrontmatterChunk = Tells AsLine
 role n.BlockQuote = Holds QuoteShape
 role n.BlockQuotePrefix = IsPrefix
-role n.ListOrdered = Holds ListShape
-role n.ListUnordered = Holds ListShape
+role n.ListOrdered = Holds OrderedShape
+role n.ListUnordered = Holds UnorderedShape
 role n.ListItem = Holds (ItemShape 0 [])
 role n.ListItemValue = Tells AsDigits
 role n.ListItemMarker = Tells AsItemMarker
@@ -202,35 +241,88 @@ before_prefix bytes p text = record text { front = text_to bytes p.index text }
 abbrev pub after_prefix : Point → Text → Text
 after_prefix p text = record text { from = byte_at p }
 
--- OpenLeaf blocks.
+-- Leaf blocks that are open.
 
 abbrev pub empty_line : Line
 empty_line = record { spaces = 0; text = [] }
 
--- The lines that a leaf block begins with: code and HTML begin with their first line, a fence with none.
-abbrev pub first_lines : LeafKind → List Line
-first_lines OfCode = empty_line ∷ []
-first_lines OfHtml = empty_line ∷ []
-first_lines _ = []
+abbrev pub no_fences : Fenced
+no_fences = record { markers = []; lines = []; closed = false }
 
--- whether a line ending inside opens a line
-abbrev pub has_lines : LeafKind → Bool
-has_lines OfFrontmatter = true
-has_lines OfCode = true
-has_lines OfFence = true
-has_lines OfMath = true
-has_lines OfHtml = true
-has_lines _ = false
+abbrev pub no_heading : HeadingSoFar
+no_heading = record { markers = []; text = [] }
 
+-- What a leaf block begins with: code and HTML have their first line, all others nothing.
 abbrev pub fresh : LeafKind → OpenLeaf
-fresh kind = record { kind = kind; markers = []; lines = first_lines kind; info = None; meta = None; closed = false; text = []; destination = []; title = None; delimiter = []; rows = [] }
+fresh OfFrontmatter = FrontmatterLeaf no_fences
+fresh OfHeadingAtx = HeadingAtxLeaf no_heading
+fresh OfHeadingSetext = HeadingSetextLeaf no_heading
+fresh OfBreak = BreakLeaf
+fresh OfCode = CodeLeaf (empty_line ∷ [])
+fresh OfFence = FenceLeaf no_fences None None
+fresh OfMath = MathLeaf no_fences None
+fresh OfHtml = HtmlLeaf (empty_line ∷ [])
+fresh OfDefinition = DefinitionLeaf (record { label = []; destination = []; title = None })
+fresh OfTable = TableLeaf (record { delimiter = []; rows = [] })
 
+-- A leaf block with a part of it changed, if it is of a kind that has such a part.
+
+abbrev pub on_fences : (Fenced → Fenced) → OpenLeaf → OpenLeaf
+on_fences f (FrontmatterLeaf fences) = FrontmatterLeaf (f fences)
+on_fences f (FenceLeaf fences info meta) = FenceLeaf (f fences) info meta
+on_fences f (MathLeaf fences meta) = MathLeaf (f fences) meta
+on_fences f leaf = leaf
+
+abbrev pub on_lines : (List Line → List Line) → OpenLeaf → OpenLeaf
+on_lines f (CodeLeaf lines) = CodeLeaf (f lines)
+on_lines f (HtmlLeaf lines) = HtmlLeaf (f lines)
+on_lines f leaf = on_fences (λ (fences : Fenced). record fences { lines = f fences.lines }) leaf
+
+abbrev pub on_markers : (List ℕ → List ℕ) → OpenLeaf → OpenLeaf
+on_markers f (HeadingAtxLeaf heading) = HeadingAtxLeaf (record heading { markers = f heading.markers })
+on_markers f (HeadingSetextLeaf heading) = HeadingSetextLeaf (record heading { markers = f heading.markers })
+on_markers f leaf = on_fences (λ (fences : Fenced). record fences { markers = f fences.markers }) leaf
+
+-- What begins or ends in a leaf block.
+
+-- a line
 abbrev pub next_line : OpenLeaf → OpenLeaf
-next_line leaf = if has_lines leaf.kind then record leaf { lines = leaf.lines ++ empty_line ∷ [] } else leaf
+next_line leaf = on_lines (λ (lines : List Line). lines ++ empty_line ∷ []) leaf
 
--- A fence after the first is the closing one: it is no line.
+-- a fence: the second is the closing one, and it is no line
+abbrev pub with_fence : Fenced → Fenced
+with_fence fences =
+    if (length fences.markers == 0) || fences.closed then fences
+    else record fences { lines = without_last fences.lines; closed = true }
+
 abbrev pub at_fence : OpenLeaf → OpenLeaf
-at_fence leaf = elim leaf.markers [ [] ↦ leaf | m ∷ ms ↦ record leaf { lines = without_last leaf.lines; closed = true } ]
+at_fence leaf = on_fences with_fence leaf
+
+-- a title
+abbrev pub at_title : OpenLeaf → OpenLeaf
+at_title (DefinitionLeaf definition) = DefinitionLeaf (record definition { title = first_some definition.title [] })
+at_title leaf = leaf
+
+-- a title with these lines, if it has none yet
+abbrev pub with_title : List (List ℕ) → DefinitionSoFar → DefinitionSoFar
+with_title now definition =
+    record definition { title = option_map (λ (lines : List (List ℕ)). first_told lines now) definition.title }
+
+-- a title that ends without a text is an empty line
+abbrev pub behind_title : OpenLeaf → OpenLeaf
+behind_title (DefinitionLeaf definition) = DefinitionLeaf (with_title ([] ∷ []) definition)
+behind_title leaf = leaf
+
+-- a row of a table
+abbrev pub at_row : OpenLeaf → OpenLeaf
+at_row (TableLeaf table) = TableLeaf (record table { rows = table.rows ++ [] ∷ [] })
+at_row leaf = leaf
+
+-- a cell of its last row
+abbrev pub at_cell : OpenLeaf → OpenLeaf
+at_cell (TableLeaf table) =
+    TableLeaf (record table { rows = on_last (λ (row : List (List ℕ)). row ++ [] ∷ []) table.rows })
+at_cell leaf = leaf
 
 -- a line and the next piece of it
 abbrev pub joined : Line → Line → Line
@@ -240,50 +332,67 @@ joined line piece = record { spaces = line.spaces + piece.spaces; text = line.te
 abbrev pub underline_depth : ℕ → ℕ
 underline_depth marker = if marker == 61 then 1 else 2
 
-abbrev pub block_of : OpenLeaf → LeafKind → Block
-block_of leaf OfFrontmatter = t.Frontmatter (first_byte leaf.markers) (map (λ (line : Line). line.text) leaf.lines)
-block_of leaf OfHeadingAtx = Heading (length leaf.markers) leaf.text
-block_of leaf OfHeadingSetext = Heading (underline_depth (first_byte leaf.markers)) leaf.text
-block_of leaf OfBreak = Break
-block_of leaf OfCode = Code leaf.lines
-block_of leaf OfFence = Fence (first_byte leaf.markers) leaf.info leaf.meta leaf.lines leaf.closed
-block_of leaf OfMath = Math leaf.meta leaf.lines leaf.closed
-block_of leaf OfHtml = Html leaf.lines
-block_of leaf OfDefinition = Definition leaf.text leaf.destination leaf.title
-block_of leaf OfTable = Table leaf.delimiter leaf.rows
+-- the block that an open leaf block is, if it ends here
+abbrev pub block_of : OpenLeaf → Block
+block_of (FrontmatterLeaf fences) = t.Frontmatter (first_byte fences.markers) (map (λ (line : Line). line.text) fences.lines)
+block_of (HeadingAtxLeaf heading) = Heading (length heading.markers) heading.text
+block_of (HeadingSetextLeaf heading) = Heading (underline_depth (first_byte heading.markers)) heading.text
+block_of BreakLeaf = Break
+block_of (CodeLeaf lines) = Code lines
+block_of (FenceLeaf fences info meta) = Fence (first_byte fences.markers) info meta fences.lines fences.closed
+block_of (MathLeaf fences meta) = Math meta fences.lines fences.closed
+block_of (HtmlLeaf lines) = Html lines
+block_of (DefinitionLeaf definition) = Definition definition.label definition.destination definition.title
+block_of (TableLeaf table) = Table table.delimiter table.rows
 
--- What a text of a leaf block says of it.
+-- a heading with this text, if it has none yet
+abbrev pub with_text : List ℕ → HeadingSoFar → HeadingSoFar
+with_text now heading = record heading { text = first_told heading.text (trim_each (split_lines now)) }
+
+-- What a text of a leaf block says of it. Pieces of a line are joined; of any other purpose the first text stands.
 abbrev pub noted : Purpose → Line → OpenLeaf → OpenLeaf
-noted AsHeading line leaf = record leaf { text = trim_each (split_lines line.text) }
-noted AsMarkers line leaf = elim leaf.markers [ [] ↦ record leaf { markers = line.text } | m ∷ ms ↦ leaf ]
-noted AsLine line leaf = record leaf { lines = on_last (λ (l : Line). joined l line) leaf.lines }
-noted AsInfo line leaf = record leaf { info = Some line.text }
-noted AsMeta line leaf = record leaf { meta = Some line.text }
-noted AsLabel line leaf = record leaf { text = trim_further (split_lines line.text) }
-noted AsDestination line leaf = record leaf { destination = line.text }
-noted AsTitle line leaf = record leaf { title = Some (trim_further (split_lines line.text)) }
-noted AsCell line leaf = record leaf { rows = on_last (on_last (λ (cell : List ℕ). line.text)) leaf.rows }
-noted AsDelimiter line leaf = record leaf { delimiter = trim line.text }
+noted AsHeading line (HeadingAtxLeaf heading) = HeadingAtxLeaf (with_text line.text heading)
+noted AsHeading line (HeadingSetextLeaf heading) = HeadingSetextLeaf (with_text line.text heading)
+noted AsMarkers line leaf = on_markers (λ (markers : List ℕ). first_told markers line.text) leaf
+noted AsLine line leaf = on_lines (on_last (λ (l : Line). joined l line)) leaf
+noted AsInfo line (FenceLeaf fences info meta) = FenceLeaf fences (first_some info line.text) meta
+noted AsMeta line (FenceLeaf fences info meta) = FenceLeaf fences info (first_some meta line.text)
+noted AsMeta line (MathLeaf fences meta) = MathLeaf fences (first_some meta line.text)
+noted AsLabel line (DefinitionLeaf definition) =
+    DefinitionLeaf (record definition { label = first_told definition.label (trim_further (split_lines line.text)) })
+noted AsDestination line (DefinitionLeaf definition) =
+    DefinitionLeaf (record definition { destination = first_told definition.destination line.text })
+noted AsTitle line (DefinitionLeaf definition) =
+    DefinitionLeaf (with_title (trim_further (split_lines line.text)) definition)
+noted AsCell line (TableLeaf table) =
+    TableLeaf (record table { rows = on_last (on_last (λ (cell : List ℕ). first_told cell line.text)) table.rows })
+noted AsDelimiter line (TableLeaf table) =
+    TableLeaf (record table { delimiter = first_told table.delimiter (trim line.text) })
 noted _ line leaf = leaf
 
 -- Shapes.
 
--- the marker of the first item
-abbrev pub list_marker : Blocks → ℕ
-list_marker (More (Item marker digits blocks) items) = marker
-list_marker _ = 0
+-- `.` and `)` are markers of ordered lists (CommonMark 5.2)
+abbrev pub is_ordered : ℕ → Bool
+is_ordered b = (b == 46) || (b == 41)
+
+-- the marker of the first item, if it is one of such a list, else 0
+abbrev pub list_marker : (ℕ → Bool) → Blocks → ℕ
+list_marker is_marker (More (Item marker digits blocks) items) = if is_marker marker then marker else 0
+list_marker is_marker _ = 0
 
 abbrev pub block_around : Shape → Blocks → Block
 block_around QuoteShape blocks = Quote blocks
-block_around ListShape items = ListOf (list_marker items) items
+block_around OrderedShape items = ListOf (list_marker is_ordered items) items
+block_around UnorderedShape items = ListOf (list_marker is_bullet items) items
 block_around (ItemShape marker digits) blocks = Item marker digits blocks
 block_around (FootnoteShape label) blocks = Footnote label blocks
 
--- What a text of an opening prefix says of its container.
+-- What a text of an opening prefix says of its container. The first of each purpose stands.
 abbrev pub named : Purpose → List ℕ → Shape → Shape
-named AsDigits text (ItemShape marker digits) = ItemShape marker text
-named AsItemMarker text (ItemShape marker digits) = ItemShape (first_byte text) digits
-named AsFootnoteLabel text (FootnoteShape label) = FootnoteShape text
+named AsDigits text (ItemShape marker digits) = ItemShape marker (first_told digits text)
+named AsItemMarker text (ItemShape marker digits) = ItemShape (if marker == 0 then first_byte text else marker) digits
+named AsFootnoteLabel text (FootnoteShape label) = FootnoteShape (first_told label text)
 named _ text shape = shape
 
 -- The step of one event.
@@ -315,7 +424,7 @@ told_at bytes purpose p (Some text) r = told purpose (record { spaces = text.spa
 
 abbrev pub finished : Option OpenLeaf → Reading → Reading
 finished None r = r
-finished (Some leaf) r = add_block (block_of leaf leaf.kind) (record r { leaf = None })
+finished (Some leaf) r = add_block (block_of leaf) (record r { leaf = None })
 
 abbrev pub left : List Around → Reading → Reading
 left [] r = r
@@ -332,9 +441,9 @@ read_enter bytes (Holds shape) p r = record r { outer = (record { shape = shape;
 read_enter bytes (Opens kind) p r = record r { leaf = Some (fresh kind) }
 read_enter bytes (Tells purpose) p r = record r { text = Some (begun p) }
 read_enter bytes IsFence p r = on_leaf at_fence r
-read_enter bytes IsTitle p r = on_leaf (λ (leaf : OpenLeaf). record leaf { title = Some ([] ∷ []) }) r
-read_enter bytes IsRow p r = on_leaf (λ (leaf : OpenLeaf). record leaf { rows = leaf.rows ++ [] ∷ [] }) r
-read_enter bytes IsCell p r = on_leaf (λ (leaf : OpenLeaf). record leaf { rows = on_last (λ (row : List (List ℕ)). row ++ [] ∷ []) leaf.rows }) r
+read_enter bytes IsTitle p r = on_leaf at_title r
+read_enter bytes IsRow p r = on_leaf at_row r
+read_enter bytes IsCell p r = on_leaf at_cell r
 read_enter bytes IsPrefix p r = on_text (before_prefix bytes p) r
 read_enter bytes IsEnding p r = r
 read_enter bytes IsQuiet p r = r
@@ -343,6 +452,7 @@ abbrev pub read_exit : List ℕ → Role → Point → Reading → Reading
 read_exit bytes (Holds shape) p r = left r.outer r
 read_exit bytes (Opens kind) p r = finished r.leaf r
 read_exit bytes (Tells purpose) p r = told_at bytes purpose p r.text r
+read_exit bytes IsTitle p r = on_leaf behind_title r
 read_exit bytes IsPrefix p r = on_text (after_prefix p) r
 read_exit bytes IsEnding p r = at_ending bytes p r.text r
 read_exit bytes _ p r = r
