@@ -5,6 +5,8 @@ pub mod FlowMeans
 pub mod FlowRuns
 pub mod FlowEnds
 pub mod PiecesLemmas
+pub mod PieceFacts
+pub mod PieceRuns
 pub mod FrontFacts
 pub mod FrontLemmas
 pub mod FrontPlaces
