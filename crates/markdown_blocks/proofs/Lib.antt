@@ -6,7 +6,6 @@ pub mod FlowRuns
 pub mod FlowEnds
 pub mod PiecesLemmas
 pub mod PieceFacts
-pub mod PieceRuns
 pub mod FrontFacts
 pub mod FrontLemmas
 pub mod FrontPlaces
@@ -15,6 +14,8 @@ pub mod RowFacts
 pub mod ContainedLemmas
 pub mod HeadingSpread
 pub mod LineKinds
+pub mod PieceRuns
+pub mod PieceLeaves
 pub mod HeadingRuns
 pub mod RestRows
 pub mod FrontRows
