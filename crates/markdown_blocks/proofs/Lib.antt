@@ -54,4 +54,5 @@ pub mod DocumentStates
 pub mod DocumentMeans
 pub mod DocumentReads
 pub mod TileCovers
+pub mod PieceTitles
 pub mod TileReads
