@@ -55,4 +55,5 @@ pub mod DocumentMeans
 pub mod DocumentReads
 pub mod TileCovers
 pub mod PieceTitles
+pub mod PieceRows
 pub mod TileReads

@@ -47,7 +47,7 @@ covers-append p q r [] ys h k = covers-from p q r ys h k
 covers-append p q r (x ∷ xs) ys h k = (h.0, covers-append x.after q r xs ys h.1 k)
 
 -- no pair arises in front of an enter
-pieces-before : (e : Event) (es : List Event) → Begins es → pieces_from e es ≡ pieces es
+pub pieces-before : (e : Event) (es : List Event) → Begins es → pieces_from e es ≡ pieces es
 pieces-before e [] h = refl
 pieces-before e (f ∷ es) h = go e.kind f.kind h
   where
