@@ -1,23 +1,20 @@
 -- Pieces that stand over their bytes, and events all of whose pieces do.
-use Rattle.std.proofs.Common.{◌≡◌, ℕ, suc, ◌+◌, ◌<◌, Bool, true, false, cond, ◌&&◌, ◌||◌, List, [], ◌∷◌, ◌++◌, length, drop, slice_range, refl, ap, sym, ◌∙◌, subst, append_assoc, arith}
+use Rattle.std.proofs.Common.{◌≡◌, ℕ, ◌+◌, ◌<◌, Bool, true, false, cond, ◌&&◌, ◌||◌, List, [], ◌∷◌, ◌++◌, length, drop, slice_range, refl, ap, ◌∙◌, arith}
 use Rattle.std.specs.Prelude.{◌==◌, not}
-use Rattle.std.specs.List.{list_all}
-use Rattle.std.proofs.lemmas.Bool.{and_from, eq-eqb}
+use Rattle.std.proofs.lemmas.Bool.{and_from}
 use Rattle.std.proofs.lemmas.Bool.Decides.{nat_tests}
-use Rattle.std.proofs.lemmas.List.{length-append}
 use Rattle.std.proofs.lemmas.List.Folds.{list_all-append}
 use Rattle.md_engine.specs.declared.event.Event.{Event}
-use Rattle.md_engine.specs.declared.event.Kind.{Kind}
 use Rattle.md_engine.specs.declared.event.Kind.TheVariants.{Enter, Exit}
 use Rattle.md_engine.specs.declared.event.Name.{Name}
 use Rattle.md_engine.specs.declared.event.Point.{Point}
 use Rattle.md_seam.specs.Inline.{Piece, is_one_line, pair_unless_empty, pieces}
-use Rattle.md_seam.specs.Nested.{around, enter, exit, pair}
+use Rattle.md_seam.specs.Nested.{around, exit, pair}
 use Rattle.md_seam.specs.Pieces.{begins_in_tab, ends_in_tab, piece_stands, pieces_stand, stands_over}
 use Rattle.md_seam.specs.Places.{past_byte, past_text, same_place}
 use Rattle.md_seam.specs.Texts.{split_lines}
-use Rattle.md_seam.proofs.FeedLines.{drop-past, past_text-whole, slice-front}
-use Rattle.md_seam.proofs.InlineLemmas.{past-index, past_text-append}
+use Rattle.md_seam.proofs.FeedLines.{past_text-whole, slice-front}
+use Rattle.md_seam.proofs.InlineLemmas.{past-index}
 use Rattle.markdown_blocks.proofs.PiecesLemmas.{Ends, ends-append, ends-exit, pieces-around, pieces-ended}
 
 -- Bytes between two points.
@@ -121,10 +118,7 @@ stood-append bytes xs ys h k = record {
   stand = ap (pieces_stand bytes) (pieces-ended xs ys h.ends) ∙ pieces-both bytes (pieces xs) (pieces ys) h.stand k.stand;
 }
 
--- an enter with its exit
-pub stood-two : (bytes : List ℕ) (e f : Event) → e.kind ≡ Enter → f.kind ≡ Exit → pieces_stand bytes (pieces (e ∷ f ∷ [])) ≡ true → Stood bytes (e ∷ f ∷ [])
-stood-two bytes e f h k stand = record { ends = k; stand = stand }
-
+-- a pair
 pub stood-pair : (bytes : List ℕ) (name : Name) (p q : Point) → piece_stands bytes (record { name = name; linked = false; first = p; after = q }) ≡ true → Stood bytes (pair name p q)
 stood-pair bytes name p q h = record { ends = refl; stand = and_from (piece_stands bytes (record { name = name; linked = false; first = p; after = q })) true h refl }
 

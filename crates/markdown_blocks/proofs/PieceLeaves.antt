@@ -1,6 +1,6 @@
 -- What stands inside a blank line and a break is over its bytes.
-use Rattle.std.proofs.Common.{◌≡◌, ◌≢◌, ℕ, ◌+◌, ◌^◌, ◌<◌, ◌≤◌, Bool, true, false, cond, ◌&&◌, List, [], ◌∷◌, ◌++◌, length, take, drop, refl, ap, sym, ◌∙◌, subst, append_assoc, arith}
-use Rattle.std.specs.List.{list_all, prefix_len}
+use Rattle.std.proofs.Common.{◌≡◌, ◌≢◌, ℕ, ◌^◌, ◌<◌, ◌≤◌, Bool, true, false, cond, ◌&&◌, List, [], ◌∷◌, ◌++◌, length, drop, refl, ap, sym, ◌∙◌, subst, append_assoc, arith}
+use Rattle.std.specs.List.{prefix_len}
 use Rattle.std.proofs.lemmas.List.{take-append-drop}
 use Rattle.std.proofs.lemmas.List.Sums.{list_all-from_AllPass}
 use Rattle.md_engine.specs.declared.configuration.ParseOptions.{ParseOptions}
@@ -13,7 +13,7 @@ use Rattle.md_leaves.specs.BlankRule.{blank_events}
 use Rattle.md_leaves.specs.BreakRule.{Apart, runs}
 use Rattle.md_leaves.specs.HeadingRule.{is_heading}
 use Rattle.md_leaves.proofs.TitleTexts.{front-passes}
-use Rattle.md_seam.specs.Ahead.{begins_white, line_cells, line_end, white_end, white_rest}
+use Rattle.md_seam.specs.Ahead.{begins_white, line_cells, line_end, white_rest}
 use Rattle.md_seam.specs.Inline.{pieces}
 use Rattle.md_seam.specs.Leaves.{is_rule}
 use Rattle.md_seam.specs.Nested.{pair}
@@ -26,7 +26,7 @@ use Rattle.md_seam.proofs.InlineLemmas.{past-index, past-vs}
 use Rattle.md_seam.proofs.TextsLemmas.{NoEnding}
 use Rattle.markdown_blocks.specs.Rows.{BlankRow, BreakRow, HeadingRow, RowKind, TextRow, break_inside, first_cell, inside_of, line_kind}
 use Rattle.markdown_blocks.proofs.LineKinds.{front-white, no_ending-trim, small-end, small-rest, spread-line, spread-line_end, white_front}
-use Rattle.markdown_blocks.proofs.PieceFacts.{CutsFirst, Over, Stood, begins-cut, over-front, over-stands, pieces-both, stood-none, stood-pair, whole-first}
+use Rattle.markdown_blocks.proofs.PieceFacts.{CutsFirst, Stood, begins-cut, over-front, over-stands, pieces-both, stood-none, stood-pair, whole-first}
 use Rattle.markdown_blocks.proofs.PieceRuns.{rule-stand}
 use Rattle.markdown_blocks.proofs.PiecesLemmas.{pieces-ended}
 

@@ -1,6 +1,6 @@
 -- The pieces of every text stand over their bytes, before its text is read and behind.
-use Rattle.std.proofs.Common.{◌≡◌, ◌≢◌, ℕ, zero, suc, ◌+◌, ◌-◌, ◌<◌, Bool, true, false, cond, ◌&&◌, ◌||◌, List, [], ◌∷◌, ◌++◌, length, take, drop, slice_range, refl, ap, sym, ◌∙◌, subst, append_assoc, arith}
-use Rattle.std.specs.Prelude.{◌==◌, Option, Some, None, codes, slice_get}
+use Rattle.std.proofs.Common.{◌≡◌, ◌≢◌, ℕ, zero, suc, ◌-◌, ◌<◌, Bool, true, false, cond, ◌||◌, List, [], ◌∷◌, ◌++◌, length, take, drop, slice_range, refl, ap, sym, ◌∙◌, subst, arith}
+use Rattle.std.specs.Prelude.{◌==◌, Option, Some, None, slice_get}
 use Rattle.std.proofs.lemmas.Bool.{and_from}
 use Rattle.md_engine.specs.declared.configuration.ParseOptions.{ParseOptions}
 use Rattle.md_engine.specs.declared.event.Event.{Event}
@@ -8,27 +8,26 @@ use Rattle.md_engine.specs.declared.event.Name.{Name}
 use Rattle.md_engine.specs.declared.event.Name.TheVariants as n
 use Rattle.md_engine.specs.declared.event.Point.{Point}
 use Rattle.md_content.specs.Paragraph.{text_link}
-use Rattle.md_leaves.specs.HeadingTitle.{Title, title_of, unread_title}
-use Rattle.md_seam.specs.Inline.{pair_unless_empty, pieces, plain_chunk}
+use Rattle.md_leaves.specs.HeadingTitle.{title_of, unread_title}
+use Rattle.md_seam.specs.Inline.{pieces, plain_chunk}
 use Rattle.md_seam.specs.Nested.{around, enter, enter_link, exit, pair}
 use Rattle.md_seam.specs.Pieces.{piece_stands, pieces_stand, stands_over}
-use Rattle.md_seam.specs.Places.{first_point, past_text, same_place}
+use Rattle.md_seam.specs.Places.{first_point, same_place}
 use Rattle.md_seam.specs.Preamble.{has_mark}
 use Rattle.md_seam.specs.State.{Container, InQuote}
 use Rattle.md_seam.proofs.TextsLemmas.{Both, Ending, LineFeed, Return, ending_bytes}
 use Rattle.markdown_blocks.specs.Change.{container_name, ends_of}
 use Rattle.markdown_blocks.specs.Document.{body_point, mark_end, mark_events}
 use Rattle.markdown_blocks.specs.Fronted.{contained, rest_from, rest_line}
-use Rattle.markdown_blocks.specs.Rows.{BlankRow, BreakRow, Group, HeadingRow, Lines, Row, RowKind, Single, TextRow, behind_row, ending_events, ending_of, goes_on, group_events, groups, groups_events, is_text, last_row, line_kind, onto_groups, read_lines, read_title, row_events_by, row_title, single_events_by, tail_events}
+use Rattle.markdown_blocks.specs.Rows.{BlankRow, BreakRow, Group, HeadingRow, Lines, Row, RowKind, Single, TextRow, behind_row, ending_events, goes_on, group_events, groups, groups_events, is_text, last_row, line_kind, onto_groups, read_lines, read_title, row_events_by, row_title, single_events_by, tail_events}
 use Rattle.markdown_blocks.specs.Unread.{linked_lines, titled_group, titled_groups, titled_row_by}
 use Rattle.markdown_blocks.proofs.EachRow.{EachRow, last-each}
 use Rattle.markdown_blocks.proofs.FrontFacts.{Behind, Begins, Fronts, Goes, IsFurther, IsOpening, IsPrefix}
 use Rattle.markdown_blocks.proofs.GroupLemmas.{text-some}
-use Rattle.markdown_blocks.proofs.JoinedLemmas.{behind-is, behind-none}
 use Rattle.markdown_blocks.proofs.MarkLemmas.{mark-bytes}
-use Rattle.markdown_blocks.proofs.PieceFacts.{Over, Starts, Stood, begins-cut, begins-whole, over-stands, piece-stands, starts-append, stood-append, stood-around, stood-exit, stood-none, stood-pair}
+use Rattle.markdown_blocks.proofs.PieceFacts.{Starts, Stood, begins-cut, begins-whole, over-stands, piece-stands, starts-append, stood-append, stood-around, stood-exit, stood-none, stood-pair}
 use Rattle.markdown_blocks.proofs.PieceTitles.{Chunked, Titled, chunked-alone, chunked-ended, ending-stands, line-ending, starts-tiled, titled}
-use Rattle.markdown_blocks.proofs.PiecesLemmas.{Ends, pieces-before}
+use Rattle.markdown_blocks.proofs.PiecesLemmas.{pieces-before}
 use Rattle.markdown_blocks.proofs.RowFacts.{AreRows, IsEnding, IsLine, IsRow, behind_line}
 use Rattle.markdown_blocks.proofs.TitleNests.{blank-no_heading, break-no_heading}
 
@@ -66,13 +65,13 @@ white-stands bytes p q apart blank = piece-stands bytes n.SpaceOrTab p q apart (
         go false = refl
 
 -- What stands in front of a line: it stands, and begins with an enter if there is a prefix.
-record Front_stands (bytes : List ℕ) (es : List Event) : Type 0 where
+record FrontStands (bytes : List ℕ) (es : List Event) : Type 0 where
   stood : Stood bytes es
   starts : Starts es
 
 -- the prefix of a quote
-prefix-stands : (bytes : List ℕ) (p q : Point) (es : List Event) → IsPrefix bytes p q es → Front_stands bytes es
-prefix-stands bytes p q es is = subst (Front_stands bytes) (sym is.events) (go (same_place p is.marker) refl (same_place is.behind q) refl)
+prefix-stands : (bytes : List ℕ) (p q : Point) (es : List Event) → IsPrefix bytes p q es → FrontStands bytes es
+prefix-stands bytes p q es is = subst (FrontStands bytes) (sym is.events) (go (same_place p is.marker) refl (same_place is.behind q) refl)
   where
     prefix : Bool → Bool → List Event
     prefix x y =
@@ -87,23 +86,23 @@ prefix-stands bytes p q es is = subst (Front_stands bytes) (sym is.events) (go (
     behind : same_place is.behind q ≡ false → piece_stands bytes (record { name = n.SpaceOrTab; linked = false; first = is.behind; after = q }) ≡ true
     behind e = white-stands bytes is.behind q e is.white_behind
 
-    go : (x : Bool) → same_place p is.marker ≡ x → (y : Bool) → same_place is.behind q ≡ y → Front_stands bytes (prefix x y)
+    go : (x : Bool) → same_place p is.marker ≡ x → (y : Bool) → same_place is.behind q ≡ y → FrontStands bytes (prefix x y)
     go true e true f = record { stood = record { ends = refl; stand = and_from _ true marker refl }; starts = refl }
     go true e false f = record { stood = record { ends = refl; stand = and_from _ _ marker (and_from _ true (behind f) refl) }; starts = refl }
     go false e true f = record { stood = record { ends = refl; stand = and_from _ _ (before e) (and_from _ true marker refl) }; starts = refl }
     go false e false f = record { stood = record { ends = refl; stand = and_from _ _ (before e) (and_from _ _ marker (and_from _ true (behind f) refl)) }; starts = refl }
 
 -- of a container that goes on, and of one that opens
-further-stands : (bytes : List ℕ) (c : Container) (p q : Point) (es : List Event) → IsFurther bytes c p q es → Front_stands bytes es
+further-stands : (bytes : List ℕ) (c : Container) (p q : Point) (es : List Event) → IsFurther bytes c p q es → FrontStands bytes es
 further-stands bytes InQuote p q es is = prefix-stands bytes p q es is
 further-stands bytes c p q es is = absurd is
 
-opening-stands : (bytes : List ℕ) (c : Container) (p q : Point) (es : List Event) → IsOpening bytes c p q es → Front_stands bytes es
+opening-stands : (bytes : List ℕ) (c : Container) (p q : Point) (es : List Event) → IsOpening bytes c p q es → FrontStands bytes es
 opening-stands bytes InQuote p q es is = prefix-stands bytes p q es is
 opening-stands bytes c p q es is = absurd is
 
 -- the begin of a container in front of its prefix
-begun-stood : (bytes : List ℕ) (name : Name) (p : Point) (es : List Event) → Front_stands bytes es → Stood bytes (enter name p ∷ es)
+begun-stood : (bytes : List ℕ) (name : Name) (p : Point) (es : List Event) → FrontStands bytes es → Stood bytes (enter name p ∷ es)
 begun-stood bytes name p [] h = absurd h.starts
 begun-stood bytes name p (e ∷ es) h = record { ends = h.stood.ends; stand = ap (pieces_stand bytes) (pieces-before (enter name p) (e ∷ es) h.starts) ∙ h.stood.stand }
 
@@ -127,7 +126,7 @@ blank-ending Return = refl
 blank-ending Both = refl
 
 -- What is known of a line: what stands in front of it, in it and behind it stands.
-record Line_stands (bytes : List ℕ) (row : Row) : Type 0 where
+record LineStands (bytes : List ℕ) (row : Row) : Type 0 where
   front : Stood bytes row.front
   tail : (name : Name) → ((ending : Ending) → stands_over name (ending_bytes ending) ≡ true) → Stood bytes (tail_events name row)
   blank : row.kind ≡ BlankRow → Stood bytes row.inside
@@ -157,7 +156,7 @@ break-some : (options : ParseOptions) (line : List ℕ) → line_kind options li
 break-some options [] h = cc
 break-some options (b ∷ line) h = omega arith
 
-line-stands : (options : ParseOptions) (bytes line : List ℕ) (p : Point) (row : Row) (after : Option Point) → IsRow options bytes line row → Fronts bytes row.change.opens p row.first row.front → row.after ≡ after → Ended bytes row.end after → Line_stands bytes row
+line-stands : (options : ParseOptions) (bytes line : List ℕ) (p : Point) (row : Row) (after : Option Point) → IsRow options bytes line row → Fronts bytes row.change.opens p row.first row.front → row.after ≡ after → Ended bytes row.end after → LineStands bytes row
 line-stands options bytes line p row after is front same ended = record {
   front = fronts-stood bytes row.change.opens p row.first row.front front;
   tail = tail-stood bytes row after same is.end_whole ended;
@@ -184,7 +183,7 @@ line-stands options bytes line p row after is front same ended = record {
         (ap (λ (r : Point). slice_range bytes row.first.index r.index) (sym is.end) ∙ is.text) (subst (λ (r : Point). IsEnding bytes r q) is.end ended)
 
 -- each line of a text is such
-rows-stand : (options : ParseOptions) (bytes : List ℕ) (open_before : List Container) (going : Bool) (p : Point) (lines : List (List ℕ)) (rows : List Row) → AreRows options bytes open_before going p lines rows → EachRow (Line_stands bytes) rows
+rows-stand : (options : ParseOptions) (bytes : List ℕ) (open_before : List Container) (going : Bool) (p : Point) (lines : List (List ℕ)) (rows : List Row) → AreRows options bytes open_before going p lines rows → EachRow (LineStands bytes) rows
 rows-stand options bytes open_before going p (line ∷ []) (row ∷ []) are =
     let is : IsLine options bytes open_before going p line row = are.0 in
     (line-stands options bytes (rest_line (contained options open_before going (rest_from p line)).rest) p row None is.is is.front are.2 tt, tt)
@@ -198,19 +197,19 @@ rows-stand options bytes open_before going p lines rows are = absurd are
 -- Groups.
 
 -- a line of text
-abbrev Text_stands : List ℕ → Row → Type 0
-Text_stands bytes row = Line_stands bytes row × (row.kind ≡ TextRow)
+abbrev TextStands : List ℕ → Row → Type 0
+TextStands bytes row = LineStands bytes row × (row.kind ≡ TextRow)
 
 -- lines that are no text, and paragraphs
-abbrev Group_stands : List ℕ → Group → Type 0
-Group_stands bytes (Single row) = Line_stands bytes row × (row.kind ≢ TextRow)
-Group_stands bytes (Lines row rows) = Text_stands bytes row × EachRow (Text_stands bytes) rows
+abbrev GroupStands : List ℕ → Group → Type 0
+GroupStands bytes (Single row) = LineStands bytes row × (row.kind ≢ TextRow)
+GroupStands bytes (Lines row rows) = TextStands bytes row × EachRow (TextStands bytes) rows
 
-abbrev Groups_stand : List ℕ → List Group → Type 0
-Groups_stand bytes [] = Unit {0}
-Groups_stand bytes (group ∷ gs) = Group_stands bytes group × Groups_stand bytes gs
+abbrev GroupsStand : List ℕ → List Group → Type 0
+GroupsStand bytes [] = Unit {0}
+GroupsStand bytes (group ∷ gs) = GroupStands bytes group × GroupsStand bytes gs
 
-onto-stand : (bytes : List ℕ) (row : Row) (kind : RowKind) (gs : List Group) → Line_stands bytes row → row.kind ≡ kind → Groups_stand bytes gs → Groups_stand bytes (onto_groups row kind gs)
+onto-stand : (bytes : List ℕ) (row : Row) (kind : RowKind) (gs : List Group) → LineStands bytes row → row.kind ≡ kind → GroupsStand bytes gs → GroupsStand bytes (onto_groups row kind gs)
 onto-stand bytes row BlankRow gs h e more = ((h, λ k. cc), more)
 onto-stand bytes row HeadingRow gs h e more = ((h, λ k. cc), more)
 onto-stand bytes row BreakRow gs h e more = ((h, λ k. cc), more)
@@ -218,42 +217,42 @@ onto-stand bytes row TextRow [] h e more = (((h, e), tt), more)
 onto-stand bytes row TextRow (Single below ∷ gs) h e more = (((h, e), tt), more)
 onto-stand bytes row TextRow (Lines below rows ∷ gs) h e more = go (goes_on row below)
   where
-    go : (x : Bool) → Groups_stand bytes (cond x (Lines row (below ∷ rows) ∷ gs) (Lines row [] ∷ Lines below rows ∷ gs))
+    go : (x : Bool) → GroupsStand bytes (cond x (Lines row (below ∷ rows) ∷ gs) (Lines row [] ∷ Lines below rows ∷ gs))
     go true = (((h, e), more.0), more.1)
     go false = (((h, e), tt), more)
 
-groups-stand : (bytes : List ℕ) (rows : List Row) → EachRow (Line_stands bytes) rows → Groups_stand bytes (groups rows)
+groups-stand : (bytes : List ℕ) (rows : List Row) → EachRow (LineStands bytes) rows → GroupsStand bytes (groups rows)
 groups-stand bytes [] h = tt
 groups-stand bytes (row ∷ rows) h = onto-stand bytes row row.kind (groups rows) h.0 refl (groups-stand bytes rows h.1)
 
 -- what stands in front of a line, in it, and behind it or a further line
-whole-stood : (bytes : List ℕ) (name : Name) (row last : Row) (es : List Event) → ((ending : Ending) → stands_over name (ending_bytes ending) ≡ true) → Line_stands bytes row → Line_stands bytes last → Stood bytes es → Stood bytes (row.front ++ es ++ tail_events name last)
+whole-stood : (bytes : List ℕ) (name : Name) (row last : Row) (es : List Event) → ((ending : Ending) → stands_over name (ending_bytes ending) ≡ true) → LineStands bytes row → LineStands bytes last → Stood bytes es → Stood bytes (row.front ++ es ++ tail_events name last)
 whole-stood bytes name row last es named h k stood = stood-append bytes (row.front ++ es) (tail_events name last) (stood-append bytes row.front es h.front stood) (k.tail name named)
 
-blank-stood : (bytes : List ℕ) (row : Row) → Line_stands bytes row → row.kind ≡ BlankRow → Stood bytes (row_events_by BlankRow row)
+blank-stood : (bytes : List ℕ) (row : Row) → LineStands bytes row → row.kind ≡ BlankRow → Stood bytes (row_events_by BlankRow row)
 blank-stood bytes row h e = whole-stood bytes n.BlankLineEnding row row row.inside blank-ending h h (h.blank e)
 
-break-stood : (bytes : List ℕ) (row : Row) → Line_stands bytes row → row.kind ≡ BreakRow → Stood bytes (row_events_by BreakRow row)
+break-stood : (bytes : List ℕ) (row : Row) → LineStands bytes row → row.kind ≡ BreakRow → Stood bytes (row_events_by BreakRow row)
 break-stood bytes row h e =
     whole-stood bytes n.LineEnding row row (around n.ThematicBreak row.first row.end row.inside) line-ending h h (stood-around bytes n.ThematicBreak row.first row.end row.inside (h.break_starts e) (h.break_stood e))
 
 -- a heading with these parts
-heading-stood : (bytes : List ℕ) (row : Row) (parts : List Event) → Line_stands bytes row → Starts parts → Stood bytes parts → Stood bytes (row.front ++ around n.HeadingAtx row.first row.end parts ++ tail_events n.LineEnding row)
+heading-stood : (bytes : List ℕ) (row : Row) (parts : List Event) → LineStands bytes row → Starts parts → Stood bytes parts → Stood bytes (row.front ++ around n.HeadingAtx row.first row.end parts ++ tail_events n.LineEnding row)
 heading-stood bytes row parts h starts stood = whole-stood bytes n.LineEnding row row (around n.HeadingAtx row.first row.end parts) line-ending h h (stood-around bytes n.HeadingAtx row.first row.end parts starts stood)
 
 -- a paragraph with these lines
-paragraph-stood : (bytes : List ℕ) (row : Row) (rows : List Row) (parts : List Event) → Text_stands bytes row → EachRow (Text_stands bytes) rows → Starts parts → Stood bytes parts →
+paragraph-stood : (bytes : List ℕ) (row : Row) (rows : List Row) (parts : List Event) → TextStands bytes row → EachRow (TextStands bytes) rows → Starts parts → Stood bytes parts →
     Stood bytes (row.front ++ around n.Paragraph row.first (last_row row rows).end parts ++ tail_events n.LineEnding (last_row row rows))
 paragraph-stood bytes row rows parts h k starts stood =
     let last : Row = last_row row rows in
-    whole-stood bytes n.LineEnding row last (around n.Paragraph row.first last.end parts) line-ending h.0 (last-each (Text_stands bytes) row rows h k).0 (stood-around bytes n.Paragraph row.first last.end parts starts stood)
+    whole-stood bytes n.LineEnding row last (around n.Paragraph row.first last.end parts) line-ending h.0 (last-each (TextStands bytes) row rows h k).0 (stood-around bytes n.Paragraph row.first last.end parts starts stood)
 
 -- Before texts are read.
 
 linked-chunk : (bytes : List ℕ) (p q : Point) → Chunked bytes p q → Stood bytes (enter_link n.Data p text_link ∷ exit n.Data q ∷ [])
 linked-chunk bytes p q h = record { ends = refl; stand = and_from (piece_stands bytes (record { name = n.Data; linked = true; first = p; after = q })) true h.linked refl }
 
-linked-stood : (bytes : List ℕ) (row : Row) (rows : List Row) → Text_stands bytes row → EachRow (Text_stands bytes) rows → Stood bytes (linked_lines n.Data text_link row rows)
+linked-stood : (bytes : List ℕ) (row : Row) (rows : List Row) → TextStands bytes row → EachRow (TextStands bytes) rows → Stood bytes (linked_lines n.Data text_link row rows)
 linked-stood bytes row [] h k = linked-chunk bytes row.first row.end (h.0.alone h.1)
 linked-stood bytes row (next ∷ rows) h k =
     stood-append bytes (enter_link n.Data row.first text_link ∷ exit n.Data (behind_row row) ∷ []) (next.front ++ linked_lines n.Data text_link next rows) (linked-chunk bytes row.first (behind_row row) (h.0.ended h.1))
@@ -263,13 +262,13 @@ linked-starts : (row : Row) (rows : List Row) → Starts (linked_lines n.Data te
 linked-starts row [] = refl
 linked-starts row (next ∷ rows) = refl
 
-titled-row : (bytes : List ℕ) (row : Row) → Line_stands bytes row → (kind : RowKind) → row.kind ≡ kind → row.kind ≢ TextRow → Stood bytes (titled_row_by bytes kind row)
+titled-row : (bytes : List ℕ) (row : Row) → LineStands bytes row → (kind : RowKind) → row.kind ≡ kind → row.kind ≢ TextRow → Stood bytes (titled_row_by bytes kind row)
 titled-row bytes row h BlankRow e other = blank-stood bytes row h e
 titled-row bytes row h HeadingRow e other = heading-stood bytes row (unread_title (row_title bytes row)) h (h.title e).linked_starts (h.title e).linked
 titled-row bytes row h BreakRow e other = break-stood bytes row h e
 titled-row bytes row h TextRow e other = absurd (other e)
 
-titled-stood : (bytes : List ℕ) (gs : List Group) → Groups_stand bytes gs → Stood bytes (titled_groups bytes gs)
+titled-stood : (bytes : List ℕ) (gs : List Group) → GroupsStand bytes gs → Stood bytes (titled_groups bytes gs)
 titled-stood bytes [] h = stood-none bytes
 titled-stood bytes (Single row ∷ gs) h = stood-append bytes (titled_group bytes (Single row)) (titled_groups bytes gs) (titled-row bytes row h.0.0 row.kind refl h.0.1) (titled-stood bytes gs h.1)
 titled-stood bytes (Lines row rows ∷ gs) h =
@@ -278,25 +277,25 @@ titled-stood bytes (Lines row rows ∷ gs) h =
 
 -- Once they are read.
 
-read-stood : (bytes : List ℕ) (row : Row) (rows : List Row) → Text_stands bytes row → EachRow (Text_stands bytes) rows → Stood bytes (read_lines bytes row rows)
+read-stood : (bytes : List ℕ) (row : Row) (rows : List Row) → TextStands bytes row → EachRow (TextStands bytes) rows → Stood bytes (read_lines bytes row rows)
 read-stood bytes row [] h k = (h.0.alone h.1).read
 read-stood bytes row (next ∷ rows) h k =
     let chunk : List Event = plain_chunk bytes (record { first = row.first; after = behind_row row }) in
     stood-append bytes (chunk ++ next.front) (read_lines bytes next rows) (stood-append bytes chunk next.front (h.0.ended h.1).read k.0.0.front) (read-stood bytes next rows k.0 k.1)
 
-read-starts : (bytes : List ℕ) (row : Row) (rows : List Row) → Text_stands bytes row → Starts (read_lines bytes row rows)
+read-starts : (bytes : List ℕ) (row : Row) (rows : List Row) → TextStands bytes row → Starts (read_lines bytes row rows)
 read-starts bytes row [] h = (h.0.alone h.1).starts
 read-starts bytes row (next ∷ rows) h =
     let chunk : List Event = plain_chunk bytes (record { first = row.first; after = behind_row row }) in
     starts-append (chunk ++ next.front) (read_lines bytes next rows) (starts-append chunk next.front (h.0.ended h.1).starts)
 
-read-row : (bytes : List ℕ) (row : Row) → Line_stands bytes row → (kind : RowKind) → row.kind ≡ kind → row.kind ≢ TextRow → Stood bytes (single_events_by bytes kind row)
+read-row : (bytes : List ℕ) (row : Row) → LineStands bytes row → (kind : RowKind) → row.kind ≡ kind → row.kind ≢ TextRow → Stood bytes (single_events_by bytes kind row)
 read-row bytes row h BlankRow e other = blank-stood bytes row h e
 read-row bytes row h HeadingRow e other = heading-stood bytes row (read_title bytes (row_title bytes row)) h (h.title e).read_starts (h.title e).read
 read-row bytes row h BreakRow e other = break-stood bytes row h e
 read-row bytes row h TextRow e other = absurd (other e)
 
-groups-stood : (bytes : List ℕ) (gs : List Group) → Groups_stand bytes gs → Stood bytes (groups_events bytes gs)
+groups-stood : (bytes : List ℕ) (gs : List Group) → GroupsStand bytes gs → Stood bytes (groups_events bytes gs)
 groups-stood bytes [] h = stood-none bytes
 groups-stood bytes (Single row ∷ gs) h = stood-append bytes (group_events bytes (Single row)) (groups_events bytes gs) (read-row bytes row h.0.0 row.kind refl h.0.1) (groups-stood bytes gs h.1)
 groups-stood bytes (Lines row rows ∷ gs) h =

@@ -1,36 +1,34 @@
 -- The pieces of a heading and of chunks of text stand, before their text is read and behind.
-use Rattle.std.proofs.Common.{◌≡◌, ◌≢◌, ℕ, zero, suc, ◌+◌, ◌<◌, ◌≤◌, Bool, true, false, cond, ◌&&◌, List, [], ◌∷◌, ◌++◌, length, take, drop, slice_range, refl, ap, sym, ◌∙◌, subst, append_assoc, append-nil, drop-drop, arith}
-use Rattle.std.specs.Prelude.{◌==◌, not, nat_le, Option, Some, None}
-use Rattle.std.specs.List.{list_all}
+use Rattle.std.proofs.Common.{◌≡◌, ℕ, zero, suc, ◌+◌, ◌<◌, ◌≤◌, Bool, true, false, cond, List, [], ◌∷◌, ◌++◌, length, take, drop, slice_range, refl, ap, sym, ◌∙◌, subst, append_assoc, append-nil, arith}
+use Rattle.std.specs.Prelude.{◌==◌, not, nat_le, Some, None}
 use Rattle.std.proofs.lemmas.Bool.{and_from, and_parts}
 use Rattle.std.proofs.lemmas.Bool.Decides.{nat_tests}
 use Rattle.std.proofs.lemmas.List.{length-append, length-take-le, take-append-drop}
 use Rattle.md_engine.specs.declared.configuration.ParseOptions.{ParseOptions}
 use Rattle.md_engine.specs.declared.event.Event.{Event}
-use Rattle.md_engine.specs.declared.event.Link.{Link}
 use Rattle.md_engine.specs.declared.event.Name.{Name}
 use Rattle.md_engine.specs.declared.event.Name.TheVariants as n
 use Rattle.md_engine.specs.declared.event.Point.{Point}
 use Rattle.md_leaves.specs.Heading.{heading_link}
-use Rattle.md_leaves.specs.HeadingRule.{Apart, is_heading, is_opening}
+use Rattle.md_leaves.specs.HeadingRule.{is_heading, is_opening}
 use Rattle.md_leaves.specs.HeadingText.{linked_text}
-use Rattle.md_leaves.specs.HeadingTitle.{Title, chunk_unless_empty, front_len, line_runs, text_of, title_of, unread_title}
-use Rattle.md_leaves.proofs.TitleLemmas.{behind-marks, front-marks, title-fits, title-text}
+use Rattle.md_leaves.specs.HeadingTitle.{Title, chunk_unless_empty, front_len, text_of, title_of, unread_title}
+use Rattle.md_leaves.proofs.TitleLemmas.{behind-marks, front-marks, title-fits}
 use Rattle.md_seam.specs.declared.inline.Chunk.{Chunk}
-use Rattle.md_seam.specs.Inline.{is_one_line, line_end, pair_unless_empty, pieces, plain_chunk}
+use Rattle.md_seam.specs.Inline.{is_one_line, line_end, pair_unless_empty, plain_chunk}
 use Rattle.md_seam.specs.Lines.{is_ending, without_ending}
-use Rattle.md_seam.specs.Nested.{around, enter, enter_link, exit, pair}
-use Rattle.md_seam.specs.Pieces.{is_in_line, is_line_ending, piece_stands, pieces_stand, stands_over}
-use Rattle.md_seam.specs.Places.{past_byte, past_text, same_place}
-use Rattle.md_seam.specs.Rest.{is_white, run_len, trim_start}
+use Rattle.md_seam.specs.Nested.{enter_link, exit, pair}
+use Rattle.md_seam.specs.Pieces.{is_in_line, is_line_ending, piece_stands, stands_over}
+use Rattle.md_seam.specs.Places.{past_text, same_place}
+use Rattle.md_seam.specs.Rest.{run_len, trim_start}
 use Rattle.md_seam.specs.Texts.{split_lines}
 use Rattle.md_seam.proofs.FeedLines.{drop-past, ending-some, slice-split}
-use Rattle.md_seam.proofs.InlineLemmas.{past-index, past-vs, past_text-append}
+use Rattle.md_seam.proofs.InlineLemmas.{past-index, past-vs}
 use Rattle.md_seam.proofs.TextsLemmas.{Both, Ending, LineFeed, NoEnding, Return, ending_bytes}
 use Rattle.markdown_blocks.specs.Rows.{HeadingRow, Row, read_text, read_title}
 use Rattle.markdown_blocks.proofs.GroupLemmas.{IsTitle, one-last, one-next, past-whole, piece, row-line, title-is, without-none, without-one}
 use Rattle.markdown_blocks.proofs.LineKinds.{heading-kind}
-use Rattle.markdown_blocks.proofs.PieceFacts.{CutsFirst, Over, Starts, Stood, begins-cut, begins-whole, chunk-stands, over-front, over-stands, starts-append, stood-append, stood-around, stood-none, stood-pair, stood-unless_empty, whole-first}
+use Rattle.markdown_blocks.proofs.PieceFacts.{CutsFirst, Over, Starts, Stood, begins-cut, begins-whole, chunk-stands, over-front, over-stands, starts-append, stood-append, stood-around, stood-none, stood-unless_empty, whole-first}
 use Rattle.markdown_blocks.proofs.PieceRuns.{hashes-stand}
 use Rattle.markdown_blocks.proofs.PiecesLemmas.{Tiled}
 use Rattle.markdown_blocks.proofs.RowFacts.{IsEnding, IsRow}
@@ -68,15 +66,15 @@ chunked-by : (bytes line tail : List ℕ) (p q : Point) → 0 < length line → 
     without_ending (line ++ tail) ≡ line → is_one_line (split_lines (line ++ tail)) true ≡ true → Stood bytes (pair_unless_empty n.LineEnding (past_text line p) q) → Chunked bytes p q
 chunked-by bytes line tail p q some none whole size slice without one ending = record {
   linked = chunk-stands bytes n.Data p q (line ++ tail) (record { some = omega (arith, size, sizes); whole = whole; slice = slice }) refl one;
-  read = subst All_stand (sym end) (stood-append bytes (pair_unless_empty n.Data p r) (pair_unless_empty n.LineEnding r q) text ending);
+  read = subst BothStand (sym end) (stood-append bytes (pair_unless_empty n.Data p r) (pair_unless_empty n.LineEnding r q) text ending);
   starts = subst (λ (e : Point). Starts (pair_unless_empty n.Data p e ++ pair_unless_empty n.LineEnding e q)) (sym end) (starts-some p r (pair_unless_empty n.LineEnding r q) over.some);
 }
   where
     r : Point
     r = past_text line p
 
-    All_stand : Point → Type 0
-    All_stand e = Stood bytes (pair_unless_empty n.Data p e ++ pair_unless_empty n.LineEnding e q)
+    BothStand : Point → Type 0
+    BothStand e = Stood bytes (pair_unless_empty n.Data p e ++ pair_unless_empty n.LineEnding e q)
 
     sizes : length (line ++ tail) ≡ length line + length tail
     sizes = length-append line tail
@@ -251,10 +249,10 @@ titled options bytes line row is heading = record {
 
     text : (size == 0) ≡ false → Chunked bytes begin end
     text e =
-        let title_is : IsTitle bytes line row.first = title-is options bytes line row is in
+        let at : IsTitle bytes line row.first = title-is options bytes line row is in
         let first : begin.index ≡ p.index + length front = past-index front p in
         let last : end.index ≡ p.index + length until = past-index until p in
-        chunked-alone bytes (text_of line) begin end (grind (arith, nat_tests)) title_is.no_ending end-whole (omega (arith, first, last, long, until-long)) title_is.slice
+        chunked-alone bytes (text_of line) begin end (grind (arith, nat_tests)) at.no_ending end-whole (omega (arith, first, last, long, until-long)) at.slice
 
     around_text : (es : List Event) → Stood bytes es → Stood bytes ((title.front ++ es) ++ title.back)
     around_text es h = stood-append bytes (title.front ++ es) title.back (stood-append bytes title.front es front-stands h) back-stands
