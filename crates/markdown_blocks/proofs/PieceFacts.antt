@@ -1,7 +1,7 @@
 -- Pieces that stand over their bytes, and events all of whose pieces do.
 use Rattle.std.proofs.Common.{◌≡◌, ℕ, ◌+◌, ◌<◌, Bool, true, false, cond, ◌&&◌, ◌||◌, List, [], ◌∷◌, ◌++◌, length, drop, slice_range, refl, ap, ◌∙◌, arith}
 use Rattle.std.specs.Prelude.{◌==◌, not}
-use Rattle.std.proofs.lemmas.Bool.{and_from}
+use Rattle.std.proofs.lemmas.Bool.{and_from, or_right}
 use Rattle.std.proofs.lemmas.Bool.Decides.{nat_tests}
 use Rattle.std.proofs.lemmas.List.Folds.{list_all-append}
 use Rattle.md_engine.specs.declared.event.Event.{Event}
@@ -47,8 +47,15 @@ over-front bytes p q (b ∷ text) rest e some end =
 
 -- One piece.
 
+-- a piece, and one that is read later
+abbrev pub span : Name → Point → Point → Piece
+span name p q = record { name = name; linked = false; first = p; after = q }
+
+abbrev pub chunk_span : Name → Point → Point → Piece
+chunk_span name p q = record { name = name; linked = true; first = p; after = q }
+
 -- later bytes stand elsewhere
-apart-later : (p q : Point) → p.index < q.index → not (same_place p q) ≡ true
+apart-later : (p q : Point) → p.index < q.index → same_place p q ≡ false
 apart-later p q lt = grind (arith, nat_tests)
 
 -- all four hold
@@ -57,7 +64,7 @@ all-four a b c d h i j k = and_from (a && b && c) d (and_from (a && b) c (and_fr
 
 -- a piece that is not empty, over what its name says
 pub piece-stands : (bytes : List ℕ) (name : Name) (p q : Point) → same_place p q ≡ false → ((p.vs == 0) || begins_in_tab name) ≡ true → ((q.vs == 0) || ends_in_tab name) ≡ true →
-    stands_over name (slice_range bytes p.index q.index) ≡ true → piece_stands bytes (record { name = name; linked = false; first = p; after = q }) ≡ true
+    stands_over name (slice_range bytes p.index q.index) ≡ true → piece_stands bytes (span name p q) ≡ true
 piece-stands bytes name p q apart begins ends over =
     all-four (not (same_place p q)) ((p.vs == 0) || begins_in_tab name) ((q.vs == 0) || ends_in_tab name) (stands_over name (slice_range bytes p.index q.index)) (ap not apart) begins ends over
 
@@ -70,24 +77,18 @@ begins-whole name p e = ap (λ (x : ℕ). (x == 0) || begins_in_tab name) e
 
 -- what may begin within a tab
 pub begins-cut : (name : Name) (p : Point) → begins_in_tab name ≡ true → ((p.vs == 0) || begins_in_tab name) ≡ true
-begins-cut name p e = go (p.vs == 0)
-  where
-    go : (x : Bool) → (x || begins_in_tab name) ≡ true
-    go true = refl
-    go false = e
+begins-cut name p e = or_right (p.vs == 0) (begins_in_tab name) e
 
 pub over-stands : (bytes : List ℕ) (name : Name) (p q : Point) (text : List ℕ) → Over bytes p q text → ((p.vs == 0) || begins_in_tab name) ≡ true → stands_over name text ≡ true →
-    piece_stands bytes (record { name = name; linked = false; first = p; after = q }) ≡ true
-over-stands bytes name p q text over begins is =
-    all-four (not (same_place p q)) ((p.vs == 0) || begins_in_tab name) ((q.vs == 0) || ends_in_tab name) (stands_over name (slice_range bytes p.index q.index))
-    (apart-later p q over.some) begins (ends-whole name q over.whole) (ap (stands_over name) over.slice ∙ is)
+    piece_stands bytes (span name p q) ≡ true
+over-stands bytes name p q text over begins is = piece-stands bytes name p q (apart-later p q over.some) begins (ends-whole name q over.whole) (ap (stands_over name) over.slice ∙ is)
 
 -- a chunk that is one line, with its ending or not
 pub chunk-stands : (bytes : List ℕ) (name : Name) (p q : Point) (text : List ℕ) → Over bytes p q text → begins_in_tab name ≡ true → is_one_line (split_lines text) true ≡ true →
-    piece_stands bytes (record { name = name; linked = true; first = p; after = q }) ≡ true
+    piece_stands bytes (chunk_span name p q) ≡ true
 chunk-stands bytes name p q text over begins is =
     all-four (not (same_place p q)) ((p.vs == 0) || begins_in_tab name) ((q.vs == 0) || ends_in_tab name) (is_one_line (split_lines (slice_range bytes p.index q.index)) true)
-    (apart-later p q over.some) (begins-cut name p begins) (ends-whole name q over.whole) (ap (λ (l : List ℕ). is_one_line (split_lines l) true) over.slice ∙ is)
+    (ap not (apart-later p q over.some)) (begins-cut name p begins) (ends-whole name q over.whole) (ap (λ (l : List ℕ). is_one_line (split_lines l) true) over.slice ∙ is)
 
 -- Events.
 
@@ -119,11 +120,11 @@ stood-append bytes xs ys h k = record {
 }
 
 -- a pair
-pub stood-pair : (bytes : List ℕ) (name : Name) (p q : Point) → piece_stands bytes (record { name = name; linked = false; first = p; after = q }) ≡ true → Stood bytes (pair name p q)
-stood-pair bytes name p q h = record { ends = refl; stand = and_from (piece_stands bytes (record { name = name; linked = false; first = p; after = q })) true h refl }
+pub stood-pair : (bytes : List ℕ) (name : Name) (p q : Point) → piece_stands bytes (span name p q) ≡ true → Stood bytes (pair name p q)
+stood-pair bytes name p q h = record { ends = refl; stand = and_from (piece_stands bytes (span name p q)) true h refl }
 
 -- a pair that is left out if it is empty
-pub stood-unless_empty : (bytes : List ℕ) (name : Name) (p q : Point) → (same_place p q ≡ false → piece_stands bytes (record { name = name; linked = false; first = p; after = q }) ≡ true) → Stood bytes (pair_unless_empty name p q)
+pub stood-unless_empty : (bytes : List ℕ) (name : Name) (p q : Point) → (same_place p q ≡ false → piece_stands bytes (span name p q) ≡ true) → Stood bytes (pair_unless_empty name p q)
 stood-unless_empty bytes name p q h = go (same_place p q) refl
   where
     go : (none : Bool) → same_place p q ≡ none → Stood bytes (cond none [] (pair name p q))

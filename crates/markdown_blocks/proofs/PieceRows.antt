@@ -1,7 +1,7 @@
 -- The pieces of every text stand over their bytes, before its text is read and behind.
-use Rattle.std.proofs.Common.{◌≡◌, ◌≢◌, ℕ, zero, suc, ◌-◌, ◌<◌, Bool, true, false, cond, ◌||◌, List, [], ◌∷◌, ◌++◌, length, take, drop, slice_range, refl, ap, sym, ◌∙◌, subst, arith}
+use Rattle.std.proofs.Common.{◌≡◌, ◌≢◌, ℕ, zero, suc, ◌-◌, ◌<◌, Bool, true, false, cond, List, [], ◌∷◌, ◌++◌, length, take, drop, slice_range, refl, ap, sym, ◌∙◌, subst, arith}
 use Rattle.std.specs.Prelude.{◌==◌, Option, Some, None, slice_get}
-use Rattle.std.proofs.lemmas.Bool.{and_from}
+use Rattle.std.proofs.lemmas.Bool.{and_from, or_right}
 use Rattle.md_engine.specs.declared.configuration.ParseOptions.{ParseOptions}
 use Rattle.md_engine.specs.declared.event.Event.{Event}
 use Rattle.md_engine.specs.declared.event.Name.{Name}
@@ -25,7 +25,7 @@ use Rattle.markdown_blocks.proofs.EachRow.{EachRow, last-each}
 use Rattle.markdown_blocks.proofs.FrontFacts.{Behind, Begins, Fronts, Goes, IsFurther, IsOpening, IsPrefix}
 use Rattle.markdown_blocks.proofs.GroupLemmas.{text-some}
 use Rattle.markdown_blocks.proofs.MarkLemmas.{mark-bytes}
-use Rattle.markdown_blocks.proofs.PieceFacts.{Starts, Stood, begins-cut, begins-whole, over-stands, piece-stands, starts-append, stood-append, stood-around, stood-exit, stood-none, stood-pair}
+use Rattle.markdown_blocks.proofs.PieceFacts.{Starts, Stood, begins-cut, begins-whole, chunk_span, over-stands, piece-stands, span, starts-append, stood-append, stood-around, stood-exit, stood-none, stood-pair}
 use Rattle.markdown_blocks.proofs.PieceTitles.{Chunked, Titled, chunked-alone, chunked-ended, ending-stands, line-ending, starts-tiled, titled}
 use Rattle.markdown_blocks.proofs.PiecesLemmas.{pieces-before}
 use Rattle.markdown_blocks.proofs.RowFacts.{AreRows, IsEnding, IsLine, IsRow, behind_line}
@@ -46,7 +46,7 @@ slice-one bytes i b e = ap (λ (k : ℕ). take k (drop i bytes)) one ∙ go byte
     go (c ∷ bytes) (suc i) e = go bytes i e
 
 -- the marker of a quote
-marker-stands : (bytes : List ℕ) (p q : Point) (es : List Event) → (is : IsPrefix bytes p q es) → piece_stands bytes (record { name = n.BlockQuoteMarker; linked = false; first = is.marker; after = is.behind }) ≡ true
+marker-stands : (bytes : List ℕ) (p q : Point) (es : List Event) → (is : IsPrefix bytes p q es) → piece_stands bytes (span n.BlockQuoteMarker is.marker is.behind) ≡ true
 marker-stands bytes p q es is =
     let past : is.behind.index ≡ suc is.marker.index = is.past in
     over-stands bytes n.BlockQuoteMarker is.marker is.behind (62 ∷ [])
@@ -54,15 +54,8 @@ marker-stands bytes p q es is =
     (begins-whole n.BlockQuoteMarker is.marker is.marker_whole) refl
 
 -- whitespace that may be cut from a tab at both ends
-white-stands : (bytes : List ℕ) (p q : Point) → same_place p q ≡ false → stands_over n.SpaceOrTab (slice_range bytes p.index q.index) ≡ true → piece_stands bytes (record { name = n.SpaceOrTab; linked = false; first = p; after = q }) ≡ true
-white-stands bytes p q apart blank = piece-stands bytes n.SpaceOrTab p q apart (begins-cut n.SpaceOrTab p refl) (ends-cut q) blank
-  where
-    ends-cut : (q : Point) → ((q.vs == 0) || true) ≡ true
-    ends-cut q = go (q.vs == 0)
-      where
-        go : (x : Bool) → (x || true) ≡ true
-        go true = refl
-        go false = refl
+white-stands : (bytes : List ℕ) (p q : Point) → same_place p q ≡ false → stands_over n.SpaceOrTab (slice_range bytes p.index q.index) ≡ true → piece_stands bytes (span n.SpaceOrTab p q) ≡ true
+white-stands bytes p q apart blank = piece-stands bytes n.SpaceOrTab p q apart (begins-cut n.SpaceOrTab p refl) (or_right (q.vs == 0) true refl) blank
 
 -- What stands in front of a line: it stands, and begins with an enter if there is a prefix.
 record FrontStands (bytes : List ℕ) (es : List Event) : Type 0 where
@@ -77,13 +70,13 @@ prefix-stands bytes p q es is = subst (FrontStands bytes) (sym is.events) (go (s
     prefix x y =
         cond x [] (pair n.SpaceOrTab p is.marker) ++ enter n.BlockQuotePrefix is.marker ∷ enter n.BlockQuoteMarker is.marker ∷ exit n.BlockQuoteMarker is.behind ∷ cond y [] (pair n.SpaceOrTab is.behind q) ++ exit n.BlockQuotePrefix q ∷ []
 
-    marker : piece_stands bytes (record { name = n.BlockQuoteMarker; linked = false; first = is.marker; after = is.behind }) ≡ true
+    marker : piece_stands bytes (span n.BlockQuoteMarker is.marker is.behind) ≡ true
     marker = marker-stands bytes p q es is
 
-    before : same_place p is.marker ≡ false → piece_stands bytes (record { name = n.SpaceOrTab; linked = false; first = p; after = is.marker }) ≡ true
+    before : same_place p is.marker ≡ false → piece_stands bytes (span n.SpaceOrTab p is.marker) ≡ true
     before e = white-stands bytes p is.marker e is.white_before
 
-    behind : same_place is.behind q ≡ false → piece_stands bytes (record { name = n.SpaceOrTab; linked = false; first = is.behind; after = q }) ≡ true
+    behind : same_place is.behind q ≡ false → piece_stands bytes (span n.SpaceOrTab is.behind q) ≡ true
     behind e = white-stands bytes is.behind q e is.white_behind
 
     go : (x : Bool) → same_place p is.marker ≡ x → (y : Bool) → same_place is.behind q ≡ y → FrontStands bytes (prefix x y)
@@ -250,7 +243,7 @@ paragraph-stood bytes row rows parts h k starts stood =
 -- Before texts are read.
 
 linked-chunk : (bytes : List ℕ) (p q : Point) → Chunked bytes p q → Stood bytes (enter_link n.Data p text_link ∷ exit n.Data q ∷ [])
-linked-chunk bytes p q h = record { ends = refl; stand = and_from (piece_stands bytes (record { name = n.Data; linked = true; first = p; after = q })) true h.linked refl }
+linked-chunk bytes p q h = record { ends = refl; stand = and_from (piece_stands bytes (chunk_span n.Data p q)) true h.linked refl }
 
 linked-stood : (bytes : List ℕ) (row : Row) (rows : List Row) → TextStands bytes row → EachRow (TextStands bytes) rows → Stood bytes (linked_lines n.Data text_link row rows)
 linked-stood bytes row [] h k = linked-chunk bytes row.first row.end (h.0.alone h.1)

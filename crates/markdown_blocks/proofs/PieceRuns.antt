@@ -2,7 +2,7 @@
 use Rattle.std.proofs.Common.{◌≡◌, ◌≢◌, ℕ, zero, suc, ◌<◌, ◌≤◌, Bool, true, false, cond, ◌&&◌, ◌||◌, List, [], ◌∷◌, ◌++◌, length, drop, refl, ap, ap₂, sym, ◌∙◌, subst, append_assoc, arith}
 use Rattle.std.specs.Prelude.{◌==◌, nat_le, count_by}
 use Rattle.std.specs.List.{AllPass, list_all}
-use Rattle.std.proofs.lemmas.Bool.{and_from, and_parts, eq-eqb, eqb-true}
+use Rattle.std.proofs.lemmas.Bool.{and_from, and_parts, eq-eqb, eqb-true, or_left, or_right}
 use Rattle.std.proofs.lemmas.Bool.Decides.{nat_tests}
 use Rattle.std.proofs.lemmas.List.{length-append}
 use Rattle.std.proofs.lemmas.List.Folds.{list_all-append}
@@ -26,7 +26,7 @@ use Rattle.md_seam.specs.Rest.{is_white}
 use Rattle.md_seam.proofs.FeedLines.{byte-one, byte_cells, cell, columns_more, drop-past, next_column, spread, tab_cells, tab_end, tab_end-last, tab_end-next, tab_end-stop}
 use Rattle.md_seam.proofs.InlineLemmas.{past-index, past_text-append}
 use Rattle.markdown_blocks.specs.Rows.{first_cell}
-use Rattle.markdown_blocks.proofs.PieceFacts.{CutsFirst, Over, begins-cut, begins-whole, over-front, over-stands}
+use Rattle.markdown_blocks.proofs.PieceFacts.{CutsFirst, Over, begins-cut, begins-whole, over-front, over-stands, span}
 
 -- The runs of a marker and of whitespace that are left of some bytes, where the marker's are of this name.
 abbrev pub mark_runs : Name → Run → ℕ → List ℕ → Point → List Event
@@ -91,14 +91,14 @@ begun-over : (bytes : List ℕ) (run : Run) (m : ℕ) (p q : Point) (ys rest : L
 begun-over bytes run m p q ys rest h = over-front bytes p q ys rest h.text h.some h.end
 
 -- its piece
-begun-marks : (bytes : List ℕ) (name : Name) (m : ℕ) (p q : Point) (ys rest : List ℕ) → IsMarker name m → Begun bytes Marks m p q ys rest → piece_stands bytes (record { name = name; linked = false; first = p; after = q }) ≡ true
+begun-marks : (bytes : List ℕ) (name : Name) (m : ℕ) (p q : Point) (ys rest : List ℕ) → IsMarker name m → Begun bytes Marks m p q ys rest → piece_stands bytes (span name p q) ≡ true
 begun-marks bytes name m p q ys rest is h = over-stands bytes name p q ys (begun-over bytes Marks m p q ys rest h) (begins-whole name p (whole (p.vs == 0) refl h.cut)) (is ys h.some h.all)
   where
     whole : (x : Bool) → (p.vs == 0) ≡ x → (x || false) ≡ true → p.vs ≡ 0
     whole true e h = eqb-true p.vs 0 e
     whole false e h = cc
 
-begun-white : (bytes : List ℕ) (m : ℕ) (p q : Point) (ys rest : List ℕ) → Begun bytes White m p q ys rest → piece_stands bytes (record { name = n.SpaceOrTab; linked = false; first = p; after = q }) ≡ true
+begun-white : (bytes : List ℕ) (m : ℕ) (p q : Point) (ys rest : List ℕ) → Begun bytes White m p q ys rest → piece_stands bytes (span n.SpaceOrTab p q) ≡ true
 begun-white bytes m p q ys rest h = over-stands bytes n.SpaceOrTab p q ys (begun-over bytes White m p q ys rest h) h.cut h.all
 
 -- the other run
@@ -125,7 +125,7 @@ runs-left bytes name Marks m (b ∷ xs) rest ys p q is ok apart marks h =
     go true e same next = rw e (same (begun-next bytes Marks m p q ys b (xs ++ rest) h e))
     go false e same next =
         let over : Over bytes p q ys = begun-over bytes Marks m p q ys (b ∷ xs ++ rest) h in
-        rw e (and_from (piece_stands bytes (record { name = name; linked = false; first = p; after = q })) _ (begun-marks bytes name m p q ys (b ∷ xs ++ rest) is h)
+        rw e (and_from (piece_stands bytes (span name p q)) _ (begun-marks bytes name m p q ys (b ∷ xs ++ rest) is h)
         (next (begun-first bytes White m q b (xs ++ rest) (begun-left bytes Marks m p q ys (b ∷ xs ++ rest) h) (other-run m b marks.0 e) (begins-whole n.SpaceOrTab q over.whole))))
 runs-left bytes name White m (b ∷ xs) rest ys p q is ok apart marks h =
     go (b == m) refl (λ k. runs-left bytes name White m xs rest (ys ++ b ∷ []) p (past_byte b q) is ok apart marks.1 k) (λ k. runs-left bytes name Marks m xs rest (b ∷ []) q (past_byte b q) is (λ e. cc) apart marks.1 k)
@@ -134,7 +134,7 @@ runs-left bytes name White m (b ∷ xs) rest ys p q is ok apart marks h =
         (Begun bytes Marks m q (past_byte b q) (b ∷ []) (xs ++ rest) → Left bytes name Marks m xs q (past_byte b q)) → Left bytes name White m (b ∷ xs) p q
     go true e same next =
         let over : Over bytes p q ys = begun-over bytes White m p q ys (b ∷ xs ++ rest) h in
-        rw e (and_from (piece_stands bytes (record { name = n.SpaceOrTab; linked = false; first = p; after = q })) _ (begun-white bytes m p q ys (b ∷ xs ++ rest) h)
+        rw e (and_from (piece_stands bytes (span n.SpaceOrTab p q)) _ (begun-white bytes m p q ys (b ∷ xs ++ rest) h)
         (next (begun-first bytes Marks m q b (xs ++ rest) (begun-left bytes White m p q ys (b ∷ xs ++ rest) h) e (begins-whole n.HeadingAtx q over.whole))))
     go false e same next = rw e (same (begun-next bytes White m p q ys b (xs ++ rest) h (other-run m b marks.0 e)))
 
@@ -283,25 +283,10 @@ rule-marker m e ys some all = go (m == 42) refl (m == 45) refl (m == 95) refl e
     run : (c : ℕ) → (m == c) ≡ true → is_run 1 c ys ≡ true
     run c f = and_from (nat_le 1 (length ys)) (list_all (λ b. b == c) ys) least (subst (λ (d : ℕ). list_all (λ b. b == d) ys ≡ true) (eqb-true m c f) all)
 
-    first : (x y z : Bool) → x ≡ true → (x || y || z) ≡ true
-    first true y z h = refl
-    first false y z h = cc
-
-    second : (x y z : Bool) → y ≡ true → (x || y || z) ≡ true
-    second true y z h = refl
-    second false true z h = refl
-    second false false z h = cc
-
-    third : (x y z : Bool) → z ≡ true → (x || y || z) ≡ true
-    third true y z h = refl
-    third false true z h = refl
-    third false false true h = refl
-    third false false false h = cc
-
     go : (x : Bool) → (m == 42) ≡ x → (y : Bool) → (m == 45) ≡ y → (z : Bool) → (m == 95) ≡ z → (x || y || z) ≡ true → stands_over n.ThematicBreakSequence ys ≡ true
-    go true f y g z h e = first (is_run 1 42 ys) (is_run 1 45 ys) (is_run 1 95 ys) (run 42 f)
-    go false f true g z h e = second (is_run 1 42 ys) (is_run 1 45 ys) (is_run 1 95 ys) (run 45 g)
-    go false f false g true h e = third (is_run 1 42 ys) (is_run 1 45 ys) (is_run 1 95 ys) (run 95 h)
+    go true f y g z h e = or_left (is_run 1 42 ys || is_run 1 45 ys) (is_run 1 95 ys) (or_left (is_run 1 42 ys) (is_run 1 45 ys) (run 42 f))
+    go false f true g z h e = or_left (is_run 1 42 ys || is_run 1 45 ys) (is_run 1 95 ys) (or_right (is_run 1 42 ys) (is_run 1 45 ys) (run 45 g))
+    go false f false g true h e = or_right (is_run 1 42 ys || is_run 1 45 ys) (is_run 1 95 ys) (run 95 h)
     go false f false g false h e = cc
 
 -- the bytes of a rule

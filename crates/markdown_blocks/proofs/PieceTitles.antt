@@ -28,7 +28,7 @@ use Rattle.md_seam.proofs.TextsLemmas.{Both, Ending, LineFeed, NoEnding, Return,
 use Rattle.markdown_blocks.specs.Rows.{HeadingRow, Row, read_text, read_title}
 use Rattle.markdown_blocks.proofs.GroupLemmas.{IsTitle, one-last, one-next, past-whole, piece, row-line, title-is, without-none, without-one}
 use Rattle.markdown_blocks.proofs.LineKinds.{heading-kind}
-use Rattle.markdown_blocks.proofs.PieceFacts.{CutsFirst, Over, Starts, Stood, begins-cut, begins-whole, chunk-stands, over-front, over-stands, starts-append, stood-append, stood-around, stood-none, stood-unless_empty, whole-first}
+use Rattle.markdown_blocks.proofs.PieceFacts.{CutsFirst, Over, Starts, Stood, begins-cut, begins-whole, chunk-stands, chunk_span, over-front, over-stands, span, starts-append, stood-append, stood-around, stood-none, stood-unless_empty, whole-first}
 use Rattle.markdown_blocks.proofs.PieceRuns.{hashes-stand}
 use Rattle.markdown_blocks.proofs.PiecesLemmas.{Tiled}
 use Rattle.markdown_blocks.proofs.RowFacts.{IsEnding, IsRow}
@@ -51,7 +51,7 @@ in_line (b ∷ line) h = and_from (not (is_ending b)) (is_in_line line) (ap not 
 
 -- A chunk that is a line, with its ending or not: itself, and what the plain layer gives for it.
 pub record Chunked (bytes : List ℕ) (p q : Point) : Type 0 where
-  pub linked : piece_stands bytes (record { name = n.Data; linked = true; first = p; after = q }) ≡ true
+  pub linked : piece_stands bytes (chunk_span n.Data p q) ≡ true
   pub read : Stood bytes (plain_chunk bytes (record { first = p; after = q }))
   pub starts : Starts (plain_chunk bytes (record { first = p; after = q }))
 
@@ -111,7 +111,7 @@ chunked-alone bytes line p q some none whole size slice =
         q-index = past-index (b ∷ line) p ∙ sym size
 
 -- an ending, between two points
-pub ending-stands : (bytes : List ℕ) (name : Name) (p q : Point) → ((ending : Ending) → stands_over name (ending_bytes ending) ≡ true) → p.vs ≡ 0 → IsEnding bytes p q → piece_stands bytes (record { name = name; linked = false; first = p; after = q }) ≡ true
+pub ending-stands : (bytes : List ℕ) (name : Name) (p q : Point) → ((ending : Ending) → stands_over name (ending_bytes ending) ≡ true) → p.vs ≡ 0 → IsEnding bytes p q → piece_stands bytes (span name p q) ≡ true
 ending-stands bytes name p q named whole is =
     over-stands bytes name p q (ending_bytes is.ending) (let some = ending-some is.ending in record { some = omega (arith, is.size); whole = is.whole; slice = is.text }) (begins-whole name p whole) (named is.ending)
 
@@ -142,7 +142,7 @@ linked-stood bytes size p q chunked = go (size == 0) chunked
     go true chunked = stood-none bytes
     go false chunked =
         stood-around bytes n.HeadingAtxText p q (enter_link n.Data p heading_link ∷ exit n.Data q ∷ []) refl
-        (record { ends = refl; stand = and_from (piece_stands bytes (record { name = n.Data; linked = true; first = p; after = q })) true (chunked refl).linked refl })
+        (record { ends = refl; stand = and_from (piece_stands bytes (chunk_span n.Data p q)) true (chunked refl).linked refl })
 
 read-stood : (bytes : List ℕ) (size : ℕ) (p q : Point) → ((size == 0) ≡ false → Chunked bytes p q) → Stood bytes (read_text bytes (chunk_unless_empty size p q))
 read-stood bytes size p q chunked = go (size == 0) chunked

@@ -1,6 +1,7 @@
 -- The rest of a line that begins within a cut tab is read as if that tab stood there whole: its first cell is fed as a space and
 -- not as the tab, and nothing tells the two apart.
-use Rattle.std.proofs.Common.{◌≡◌, ℕ, zero, suc, ◌^◌, ◌<◌, ◌≤◌, Bool, true, false, cond, ◌&&◌, ◌||◌, ◌==◌, List, ◌∷◌, ◌++◌, length, drop, refl, sym, ap, ◌∙◌, arith}
+use Rattle.std.proofs.Common.{◌≡◌, ℕ, zero, suc, ◌^◌, ◌<◌, ◌≤◌, Bool, true, false, cond, ◌&&◌, ◌==◌, List, ◌∷◌, ◌++◌, length, drop, refl, sym, ap, ◌∙◌, arith}
+use Rattle.std.proofs.lemmas.Bool.{or_right}
 use Rattle.md_engine.specs.declared.configuration.ParseOptions.{ParseOptions}
 use Rattle.md_engine.specs.declared.event.Event.{Event}
 use Rattle.md_engine.specs.declared.event.Name.TheVariants as n
@@ -133,13 +134,9 @@ rest-whole r p = go r.spaces
 pub rest-cut : (r : Rest) (p : Point) → Cut r.spaces p → CutsFirst p (rest_line r)
 rest-cut r p = go r.spaces
   where
-    or-true : (x : Bool) → (x || true) ≡ true
-    or-true true = refl
-    or-true false = refl
-
     go : (spaces : ℕ) → Cut spaces p → CutsFirst p (cut_tab spaces ++ r.bytes)
     go zero cut = whole-first p r.bytes cut
-    go (suc k) cut = or-true (p.vs == 0)
+    go (suc k) cut = or_right (p.vs == 0) true refl
 
 -- and its bytes in the text
 pub rest-text : (text past : List ℕ) (r : Rest) (p : Point) → RestAt text past r p → drop p.index text ≡ rest_line r ++ past
