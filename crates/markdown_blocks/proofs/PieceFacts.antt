@@ -30,6 +30,7 @@ abbrev pub CutsFirst : Point → List ℕ → Type 0
 CutsFirst p [] = Unit {0}
 CutsFirst p (b ∷ bs) = ((p.vs == 0) || (b == 9)) ≡ true
 
+-- none is where a byte begins
 pub whole-first : (p : Point) (bs : List ℕ) → p.vs ≡ 0 → CutsFirst p bs
 whole-first p [] e = tt
 whole-first p (b ∷ bs) e = ap (λ (x : ℕ). (x == 0) || (b == 9)) e
@@ -72,6 +73,7 @@ piece-stands bytes name p q apart begins ends over =
 ends-whole : (name : Name) (q : Point) → q.vs ≡ 0 → ((q.vs == 0) || ends_in_tab name) ≡ true
 ends-whole name q e = ap (λ (x : ℕ). (x == 0) || ends_in_tab name) e
 
+-- what begins between two bytes
 pub begins-whole : (name : Name) (p : Point) → p.vs ≡ 0 → ((p.vs == 0) || begins_in_tab name) ≡ true
 begins-whole name p e = ap (λ (x : ℕ). (x == 0) || begins_in_tab name) e
 
@@ -79,6 +81,7 @@ begins-whole name p e = ap (λ (x : ℕ). (x == 0) || begins_in_tab name) e
 pub begins-cut : (name : Name) (p : Point) → begins_in_tab name ≡ true → ((p.vs == 0) || begins_in_tab name) ≡ true
 begins-cut name p e = or_right (p.vs == 0) (begins_in_tab name) e
 
+-- one between two bytes, or from within a tab
 pub over-stands : (bytes : List ℕ) (name : Name) (p q : Point) (text : List ℕ) → Over bytes p q text → ((p.vs == 0) || begins_in_tab name) ≡ true → stands_over name text ≡ true →
     piece_stands bytes (span name p q) ≡ true
 over-stands bytes name p q text over begins is = piece-stands bytes name p q (apart-later p q over.some) begins (ends-whole name q over.whole) (ap (stands_over name) over.slice ∙ is)
@@ -97,6 +100,7 @@ abbrev pub Starts : List Event → Type 0
 Starts [] = ⊥
 Starts (e ∷ es) = e.kind ≡ Enter
 
+-- more may stand behind them
 pub starts-append : (xs ys : List Event) → Starts xs → Starts (xs ++ ys)
 starts-append [] ys h = absurd h
 starts-append (e ∷ xs) ys h = h
@@ -110,9 +114,11 @@ pub record Stood (bytes : List ℕ) (es : List Event) : Type 0 where
   pub ends : Ends Exit es
   pub stand : pieces_stand bytes (pieces es) ≡ true
 
+-- none
 pub stood-none : (bytes : List ℕ) → Stood bytes []
 stood-none bytes = record { ends = refl; stand = refl }
 
+-- some, and others behind them
 pub stood-append : (bytes : List ℕ) (xs ys : List Event) → Stood bytes xs → Stood bytes ys → Stood bytes (xs ++ ys)
 stood-append bytes xs ys h k = record {
   ends = ends-append Exit xs ys h.ends k.ends;

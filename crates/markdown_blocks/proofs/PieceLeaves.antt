@@ -58,10 +58,12 @@ front-blank line = list_all-from_AllPass is_white (white_front line) (front-pass
 
 -- A blank line.
 
+-- where whitespace comes first the line is not empty
 blank-some : (said : Line) (line : List ℕ) (p : Point) (stop : List Cell) → Stops stop → begins_white (spread said line p ++ stop) ≡ true → 0 < length line
 blank-some said [] p stop k h = let none : begins_white stop ≡ false = stops-white stop k in absurd (cc)
 blank-some said (b ∷ line) p stop k h = omega arith
 
+-- what stands inside
 blank-stand : (bytes line behind : List ℕ) (said : Line) (p : Point) (stop : List Cell) → is_blank line ≡ true → NoEnding line → Stops stop → 1 ≤ p.column → drop p.index bytes ≡ line ++ behind →
     pieces_stand bytes (pieces (blank_events (spread said line p ++ stop) p)) ≡ true
 blank-stand bytes line behind said p stop blank h k one e =
@@ -69,6 +71,7 @@ blank-stand bytes line behind said p stop blank h k one e =
 
 -- A break.
 
+-- its indent, and its runs
 break-stand : (options : ParseOptions) (bytes line behind : List ℕ) (said : Line) (p : Point) (stop : List Cell) → options.constructs.code_indented ≡ false → length (spread said line p ++ stop) < 2 ^ 63 → is_rule (trim_start line) ≡ true →
     NoEnding line → Stops stop → 1 ≤ p.column → CutsFirst p line → drop p.index bytes ≡ line ++ behind → pieces_stand bytes (pieces (break_inside options (spread said line p ++ stop) p)) ≡ true
 break-stand options bytes line behind said p stop off short rule h k one cut e =
@@ -121,6 +124,7 @@ break-stand options bytes line behind said p stop off short rule h k one cut e =
 
 -- What a line is by its kind.
 
+-- a blank line
 kind-blank : (options : ParseOptions) (line : List ℕ) → line_kind options line ≡ BlankRow → is_blank line ≡ true
 kind-blank options line e = go (is_blank line) (options.constructs.heading_atx && is_heading (trim_start line)) (options.constructs.thematic_break && is_rule (trim_start line)) e
   where
@@ -130,6 +134,7 @@ kind-blank options line e = go (is_blank line) (options.constructs.heading_atx &
     go false false true e = cc
     go false false false e = cc
 
+-- a break
 kind-rule : (options : ParseOptions) (line : List ℕ) → line_kind options line ≡ BreakRow → is_rule (trim_start line) ≡ true
 kind-rule options line e = go (is_blank line) (options.constructs.heading_atx && is_heading (trim_start line)) options.constructs.thematic_break (is_rule (trim_start line)) e
   where

@@ -57,7 +57,7 @@ marker-stands bytes p q es is =
 white-stands : (bytes : List ℕ) (p q : Point) → same_place p q ≡ false → stands_over n.SpaceOrTab (slice_range bytes p.index q.index) ≡ true → piece_stands bytes (span n.SpaceOrTab p q) ≡ true
 white-stands bytes p q apart blank = piece-stands bytes n.SpaceOrTab p q apart (begins-cut n.SpaceOrTab p refl) (or_right (q.vs == 0) true refl) blank
 
--- What stands in front of a line: it stands, and begins with an enter if there is a prefix.
+-- What stands in front of the content of a container: its pieces stand, and it begins with an enter.
 record FrontStands (bytes : List ℕ) (es : List Event) : Type 0 where
   stood : Stood bytes es
   starts : Starts es
@@ -85,11 +85,12 @@ prefix-stands bytes p q es is = subst (FrontStands bytes) (sym is.events) (go (s
     go false e true f = record { stood = record { ends = refl; stand = and_from _ _ (before e) (and_from _ true marker refl) }; starts = refl }
     go false e false f = record { stood = record { ends = refl; stand = and_from _ _ (before e) (and_from _ _ marker (and_from _ true (behind f) refl)) }; starts = refl }
 
--- of a container that goes on, and of one that opens
+-- of a container that goes on
 further-stands : (bytes : List ℕ) (c : Container) (p q : Point) (es : List Event) → IsFurther bytes c p q es → FrontStands bytes es
 further-stands bytes InQuote p q es is = prefix-stands bytes p q es is
 further-stands bytes c p q es is = absurd is
 
+-- of one that opens
 opening-stands : (bytes : List ℕ) (c : Container) (p q : Point) (es : List Event) → IsOpening bytes c p q es → FrontStands bytes es
 opening-stands bytes InQuote p q es is = prefix-stands bytes p q es is
 opening-stands bytes c p q es is = absurd is
@@ -113,12 +114,13 @@ ends-stood bytes (c ∷ cs) p = stood-append bytes (ends_of cs p) (exit (contain
 
 -- Lines.
 
+-- each ending may end a blank line
 blank-ending : (ending : Ending) → stands_over n.BlankLineEnding (ending_bytes ending) ≡ true
 blank-ending LineFeed = refl
 blank-ending Return = refl
 blank-ending Both = refl
 
--- What is known of a line: what stands in front of it, in it and behind it stands.
+-- What is known of a line: the pieces in front of it, in it and behind it stand.
 record LineStands (bytes : List ℕ) (row : Row) : Type 0 where
   front : Stood bytes row.front
   tail : (name : Name) → ((ending : Ending) → stands_over name (ending_bytes ending) ≡ true) → Stood bytes (tail_events name row)
@@ -149,6 +151,7 @@ break-some : (options : ParseOptions) (line : List ℕ) → line_kind options li
 break-some options [] h = cc
 break-some options (b ∷ line) h = omega arith
 
+-- a line with its ending, if it has one
 line-stands : (options : ParseOptions) (bytes line : List ℕ) (p : Point) (row : Row) (after : Option Point) → IsRow options bytes line row → Fronts bytes row.change.opens p row.first row.front → row.after ≡ after → Ended bytes row.end after → LineStands bytes row
 line-stands options bytes line p row after is front same ended = record {
   front = fronts-stood bytes row.change.opens p row.first row.front front;
@@ -198,10 +201,12 @@ abbrev GroupStands : List ℕ → Group → Type 0
 GroupStands bytes (Single row) = LineStands bytes row × (row.kind ≢ TextRow)
 GroupStands bytes (Lines row rows) = TextStands bytes row × EachRow (TextStands bytes) rows
 
+-- all groups are such
 abbrev GroupsStand : List ℕ → List Group → Type 0
 GroupsStand bytes [] = Unit {0}
 GroupsStand bytes (group ∷ gs) = GroupStands bytes group × GroupsStand bytes gs
 
+-- a line in front of groups
 onto-stand : (bytes : List ℕ) (row : Row) (kind : RowKind) (gs : List Group) → LineStands bytes row → row.kind ≡ kind → GroupsStand bytes gs → GroupsStand bytes (onto_groups row kind gs)
 onto-stand bytes row BlankRow gs h e more = ((h, λ k. cc), more)
 onto-stand bytes row HeadingRow gs h e more = ((h, λ k. cc), more)
@@ -214,6 +219,7 @@ onto-stand bytes row TextRow (Lines below rows ∷ gs) h e more = go (goes_on ro
     go true = (((h, e), more.0), more.1)
     go false = (((h, e), tt), more)
 
+-- the groups of such lines
 groups-stand : (bytes : List ℕ) (rows : List Row) → EachRow (LineStands bytes) rows → GroupsStand bytes (groups rows)
 groups-stand bytes [] h = tt
 groups-stand bytes (row ∷ rows) h = onto-stand bytes row row.kind (groups rows) h.0 refl (groups-stand bytes rows h.1)
@@ -222,9 +228,11 @@ groups-stand bytes (row ∷ rows) h = onto-stand bytes row row.kind (groups rows
 whole-stood : (bytes : List ℕ) (name : Name) (row last : Row) (es : List Event) → ((ending : Ending) → stands_over name (ending_bytes ending) ≡ true) → LineStands bytes row → LineStands bytes last → Stood bytes es → Stood bytes (row.front ++ es ++ tail_events name last)
 whole-stood bytes name row last es named h k stood = stood-append bytes (row.front ++ es) (tail_events name last) (stood-append bytes row.front es h.front stood) (k.tail name named)
 
+-- a blank line
 blank-stood : (bytes : List ℕ) (row : Row) → LineStands bytes row → row.kind ≡ BlankRow → Stood bytes (row_events_by BlankRow row)
 blank-stood bytes row h e = whole-stood bytes n.BlankLineEnding row row row.inside blank-ending h h (h.blank e)
 
+-- a break
 break-stood : (bytes : List ℕ) (row : Row) → LineStands bytes row → row.kind ≡ BreakRow → Stood bytes (row_events_by BreakRow row)
 break-stood bytes row h e =
     whole-stood bytes n.LineEnding row row (around n.ThematicBreak row.first row.end row.inside) line-ending h h (stood-around bytes n.ThematicBreak row.first row.end row.inside (h.break_starts e) (h.break_stood e))
@@ -242,25 +250,30 @@ paragraph-stood bytes row rows parts h k starts stood =
 
 -- Before texts are read.
 
+-- a chunk
 linked-chunk : (bytes : List ℕ) (p q : Point) → Chunked bytes p q → Stood bytes (enter_link n.Data p text_link ∷ exit n.Data q ∷ [])
 linked-chunk bytes p q h = record { ends = refl; stand = and_from (piece_stands bytes (chunk_span n.Data p q)) true h.linked refl }
 
+-- the lines of a paragraph
 linked-stood : (bytes : List ℕ) (row : Row) (rows : List Row) → TextStands bytes row → EachRow (TextStands bytes) rows → Stood bytes (linked_lines n.Data text_link row rows)
 linked-stood bytes row [] h k = linked-chunk bytes row.first row.end (h.0.alone h.1)
 linked-stood bytes row (next ∷ rows) h k =
     stood-append bytes (enter_link n.Data row.first text_link ∷ exit n.Data (behind_row row) ∷ []) (next.front ++ linked_lines n.Data text_link next rows) (linked-chunk bytes row.first (behind_row row) (h.0.ended h.1))
     (stood-append bytes next.front (linked_lines n.Data text_link next rows) k.0.0.front (linked-stood bytes next rows k.0 k.1))
 
+-- a chunk comes first
 linked-starts : (row : Row) (rows : List Row) → Starts (linked_lines n.Data text_link row rows)
 linked-starts row [] = refl
 linked-starts row (next ∷ rows) = refl
 
+-- a line that is no text
 titled-row : (bytes : List ℕ) (row : Row) → LineStands bytes row → (kind : RowKind) → row.kind ≡ kind → row.kind ≢ TextRow → Stood bytes (titled_row_by bytes kind row)
 titled-row bytes row h BlankRow e other = blank-stood bytes row h e
 titled-row bytes row h HeadingRow e other = heading-stood bytes row (unread_title (row_title bytes row)) h (h.title e).linked_starts (h.title e).linked
 titled-row bytes row h BreakRow e other = break-stood bytes row h e
 titled-row bytes row h TextRow e other = absurd (other e)
 
+-- all groups
 titled-stood : (bytes : List ℕ) (gs : List Group) → GroupsStand bytes gs → Stood bytes (titled_groups bytes gs)
 titled-stood bytes [] h = stood-none bytes
 titled-stood bytes (Single row ∷ gs) h = stood-append bytes (titled_group bytes (Single row)) (titled_groups bytes gs) (titled-row bytes row h.0.0 row.kind refl h.0.1) (titled-stood bytes gs h.1)
@@ -270,24 +283,28 @@ titled-stood bytes (Lines row rows ∷ gs) h =
 
 -- Once they are read.
 
+-- the lines of a paragraph
 read-stood : (bytes : List ℕ) (row : Row) (rows : List Row) → TextStands bytes row → EachRow (TextStands bytes) rows → Stood bytes (read_lines bytes row rows)
 read-stood bytes row [] h k = (h.0.alone h.1).read
 read-stood bytes row (next ∷ rows) h k =
     let chunk : List Event = plain_chunk bytes (record { first = row.first; after = behind_row row }) in
     stood-append bytes (chunk ++ next.front) (read_lines bytes next rows) (stood-append bytes chunk next.front (h.0.ended h.1).read k.0.0.front) (read-stood bytes next rows k.0 k.1)
 
+-- the text of its first line comes first
 read-starts : (bytes : List ℕ) (row : Row) (rows : List Row) → TextStands bytes row → Starts (read_lines bytes row rows)
 read-starts bytes row [] h = (h.0.alone h.1).starts
 read-starts bytes row (next ∷ rows) h =
     let chunk : List Event = plain_chunk bytes (record { first = row.first; after = behind_row row }) in
     starts-append (chunk ++ next.front) (read_lines bytes next rows) (starts-append chunk next.front (h.0.ended h.1).starts)
 
+-- a line that is no text
 read-row : (bytes : List ℕ) (row : Row) → LineStands bytes row → (kind : RowKind) → row.kind ≡ kind → row.kind ≢ TextRow → Stood bytes (single_events_by bytes kind row)
 read-row bytes row h BlankRow e other = blank-stood bytes row h e
 read-row bytes row h HeadingRow e other = heading-stood bytes row (read_title bytes (row_title bytes row)) h (h.title e).read_starts (h.title e).read
 read-row bytes row h BreakRow e other = break-stood bytes row h e
 read-row bytes row h TextRow e other = absurd (other e)
 
+-- all groups
 groups-stood : (bytes : List ℕ) (gs : List Group) → GroupsStand bytes gs → Stood bytes (groups_events bytes gs)
 groups-stood bytes [] h = stood-none bytes
 groups-stood bytes (Single row ∷ gs) h = stood-append bytes (group_events bytes (Single row)) (groups_events bytes gs) (read-row bytes row h.0.0 row.kind refl h.0.1) (groups-stood bytes gs h.1)
@@ -297,6 +314,7 @@ groups-stood bytes (Lines row rows ∷ gs) h =
 
 -- With a mark in front.
 
+-- the mark of a text, if it has one
 mark-stood : (bytes : List ℕ) → Stood bytes (mark_events bytes)
 mark-stood bytes = go (has_mark bytes) refl
   where

@@ -55,6 +55,7 @@ goes_on Apart m b = false
 goes_on Marks m b = b == m
 goes_on White m b = is_white b
 
+-- what a run is called
 abbrev run_name : Name → Run → Name
 run_name name Apart = name
 run_name name Marks = name
@@ -87,6 +88,7 @@ begun-next bytes run m p q ys b rest h on = record {
 begun-left : (bytes : List ℕ) (run : Run) (m : ℕ) (p q : Point) (ys rest : List ℕ) → Begun bytes run m p q ys rest → drop q.index bytes ≡ rest
 begun-left bytes run m p q ys rest h = ap (λ (i : ℕ). drop i bytes) (ap (λ (r : Point). r.index) h.end ∙ past-index ys p) ∙ drop-past bytes p.index ys rest h.text
 
+-- what it is over
 begun-over : (bytes : List ℕ) (run : Run) (m : ℕ) (p q : Point) (ys rest : List ℕ) → Begun bytes run m p q ys rest → Over bytes p q ys
 begun-over bytes run m p q ys rest h = over-front bytes p q ys rest h.text h.some h.end
 
@@ -98,6 +100,7 @@ begun-marks bytes name m p q ys rest is h = over-stands bytes name p q ys (begun
     whole true e h = eqb-true p.vs 0 e
     whole false e h = cc
 
+-- the piece of whitespace
 begun-white : (bytes : List ℕ) (m : ℕ) (p q : Point) (ys rest : List ℕ) → Begun bytes White m p q ys rest → piece_stands bytes (span n.SpaceOrTab p q) ≡ true
 begun-white bytes m p q ys rest h = over-stands bytes n.SpaceOrTab p q ys (begun-over bytes White m p q ys rest h) h.cut h.all
 
@@ -113,6 +116,7 @@ other-run m b h e = go (b == m) h e
 abbrev Left : List ℕ → Name → Run → ℕ → List ℕ → Point → Point → Type 0
 Left bytes name run m xs p q = pieces_stand bytes (pieces_from (enter (run_name name run) p) (mark_runs name run m xs q)) ≡ true
 
+-- so it is in each run
 runs-left : (bytes : List ℕ) (name : Name) (run : Run) (m : ℕ) (xs rest ys : List ℕ) (p q : Point) → IsMarker name m → run ≢ Apart → is_white m ≡ false → AreMarks m xs → Begun bytes run m p q ys (xs ++ rest) → Left bytes name run m xs p q
 runs-left bytes name Apart m xs rest ys p q is ok apart marks h = absurd (ok refl)
 runs-left bytes name Marks m [] rest ys p q is ok apart marks h = and_from _ true (begun-marks bytes name m p q ys rest is h) refl
@@ -196,6 +200,7 @@ hashes-are run (b ∷ xs) p h = go (b == 35) refl (hashes-are Marks xs (past_byt
         by Marks = rw (e, here) (ap (λ (es : List Event). exit n.HeadingAtxSequence p ∷ enter n.SpaceOrTab p ∷ es) white)
         by White = rw (e, here) white
 
+-- the bytes around the text of a heading
 marks-are : (bytes : List ℕ) → AllPass is_mark bytes → AreMarks 35 bytes
 marks-are [] h = tt
 marks-are (b ∷ bs) h = (turned (is_white b) (b == 35) (pass-first is_mark b bs h), marks-are bs (pass-rest is_mark b bs h))
@@ -206,6 +211,7 @@ marks-are (b ∷ bs) h = (turned (is_white b) (b == 35) (pass-first is_mark b bs
     turned false true e = refl
     turned false false e = cc
 
+-- a run of `#`
 hash-marker : IsMarker n.HeadingAtxSequence 35
 hash-marker ys some all = and_from (nat_le 1 (length ys)) (list_all (λ b. b == 35) ys) (grind (arith, nat_tests)) all
 
@@ -226,6 +232,7 @@ tab-apart : (line : Line) (m k : ℕ) (p : Point) (ys : List Cell) → (9 == m) 
 tab-apart line m zero p ys e = rw e refl
 tab-apart line m (suc k) p ys e = rw e refl
 
+-- behind a run of markers
 tab-marks : (line : Line) (m k : ℕ) (p : Point) (ys : List Cell) → (9 == m) ≡ false → runs Marks m (tab_cells line k 9 p ++ ys) p ≡ exit n.ThematicBreakSequence p ∷ enter n.SpaceOrTab p ∷ runs White m (tab_cells line k 9 p ++ ys) p
 tab-marks line m zero p ys e = rw e refl
 tab-marks line m (suc k) p ys e = rw e refl
@@ -234,6 +241,7 @@ tab-marks line m (suc k) p ys e = rw e refl
 abbrev Same : Run → ℕ → List Cell → List ℕ → Point → Type 0
 Same run m ys bs p = runs run m ys p ≡ mark_runs n.ThematicBreakSequence run m bs p
 
+-- those of a tab
 tab-same : (run : Run) (line : Line) (m : ℕ) (p : Point) (ys : List Cell) (bs : List ℕ) → is_white m ≡ false → 1 ≤ p.column → Same White m ys bs (past_byte 9 p) → Same run m (tab_cells line (columns_more p) 9 p ++ ys) (9 ∷ bs) p
 tab-same run line m p ys bs black one more = go run
   where
@@ -251,6 +259,7 @@ tab-same run line m p ys bs black one more = go run
     go Marks = rw tab (tab-marks line m (columns_more p) p ys tab ∙ ap (λ (es : List Event). exit n.ThematicBreakSequence p ∷ enter n.SpaceOrTab p ∷ es) white)
     go White = rw tab white
 
+-- those of a byte
 byte-same : (run : Run) (line : Line) (m b : ℕ) (p : Point) (ys : List Cell) (bs : List ℕ) → is_white m ≡ false → 1 ≤ p.column → ((run : Run) → Same run m ys bs (past_byte b p)) → Same run m (byte_cells line b p ++ ys) (b ∷ bs) p
 byte-same run line m b p ys bs black one = go (b == 9) refl
   where
@@ -266,6 +275,7 @@ byte-same run line m b p ys bs black one = go (b == 9) refl
     go true e = subst P (sym (eqb-true b 9 e)) (λ more. tab-same run line m p ys bs black one (more White))
     go false e = λ more. ap (λ (t : Bool). runs run m (cond t (tab_cells line (columns_more p) 9 p) (cell b (past_byte b p) line ∷ []) ++ ys) p) e ∙ whole run more
 
+-- those of a line
 spread-same : (run : Run) (line : Line) (m : ℕ) (bytes : List ℕ) (p : Point) → is_white m ≡ false → 1 ≤ p.column → Same run m (spread line bytes p) bytes p
 spread-same Apart line m [] p black one = refl
 spread-same Marks line m [] p black one = refl

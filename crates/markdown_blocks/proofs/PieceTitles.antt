@@ -45,6 +45,7 @@ starts-tiled p q [] h lt = go (and_parts (p.index == q.index) (p.vs == q.vs) h.c
     go e = absurd (grind (arith, nat_tests, lt))
 starts-tiled p q (e ∷ es) h lt = h.begins
 
+-- bytes without endings are of one line
 in_line : (line : List ℕ) → NoEnding line → is_in_line line ≡ true
 in_line [] h = refl
 in_line (b ∷ line) h = and_from (not (is_ending b)) (is_in_line line) (ap not h.0) (in_line line h.1)
@@ -55,6 +56,7 @@ pub record Chunked (bytes : List ℕ) (p q : Point) : Type 0 where
   pub read : Stood bytes (plain_chunk bytes (record { first = p; after = q }))
   pub starts : Starts (plain_chunk bytes (record { first = p; after = q }))
 
+-- the text of a line that is not empty comes first
 starts-some : (p q : Point) (es : List Event) → p.index < q.index → Starts (pair_unless_empty n.Data p q ++ es)
 starts-some p q es lt = subst (λ (x : Bool). Starts (cond x [] (pair n.Data p q) ++ es)) (sym apart) refl
   where
@@ -115,6 +117,7 @@ pub ending-stands : (bytes : List ℕ) (name : Name) (p q : Point) → ((ending 
 ending-stands bytes name p q named whole is =
     over-stands bytes name p q (ending_bytes is.ending) (let some = ending-some is.ending in record { some = omega (arith, is.size); whole = is.whole; slice = is.text }) (begins-whole name p whole) (named is.ending)
 
+-- each ending is one
 pub line-ending : (ending : Ending) → is_line_ending (ending_bytes ending) ≡ true
 line-ending LineFeed = refl
 line-ending Return = refl
@@ -134,7 +137,7 @@ chunked-ended bytes line p q some none slice is =
 
 -- Headings.
 
--- the text of a heading, not read yet and read
+-- the text of a heading, not read yet
 linked-stood : (bytes : List ℕ) (size : ℕ) (p q : Point) → ((size == 0) ≡ false → Chunked bytes p q) → Stood bytes (linked_text (chunk_unless_empty size p q))
 linked-stood bytes size p q chunked = go (size == 0) chunked
   where
@@ -144,6 +147,7 @@ linked-stood bytes size p q chunked = go (size == 0) chunked
         stood-around bytes n.HeadingAtxText p q (enter_link n.Data p heading_link ∷ exit n.Data q ∷ []) refl
         (record { ends = refl; stand = and_from (piece_stands bytes (chunk_span n.Data p q)) true (chunked refl).linked refl })
 
+-- and read
 read-stood : (bytes : List ℕ) (size : ℕ) (p q : Point) → ((size == 0) ≡ false → Chunked bytes p q) → Stood bytes (read_text bytes (chunk_unless_empty size p q))
 read-stood bytes size p q chunked = go (size == 0) chunked
   where
@@ -176,6 +180,7 @@ front-some line h =
     let some : 1 ≤ run_len 35 (trim_start line) = grind (arith, nat_tests, least) in
     omega (arith, some)
 
+-- the parts of a line with a heading are such
 pub titled : (options : ParseOptions) (bytes line : List ℕ) (row : Row) → IsRow options bytes line row → row.kind ≡ HeadingRow → Titled bytes (title_of line row.first)
 titled options bytes line row is heading = record {
   linked = around_text (linked_text title.text) (linked-stood bytes size begin end text);
