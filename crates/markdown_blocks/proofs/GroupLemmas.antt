@@ -190,11 +190,11 @@ pub text-some : (options : ParseOptions) (line : List ℕ) → line_kind options
 text-some options [] h = cc
 text-some options (b ∷ bs) h = omega arith
 
-one-last : (line : List ℕ) → 0 < length line → NoEnding line → (ends : Bool) → ends ≡ true → is_one_line (split_lines line) ends ≡ true
+pub one-last : (line : List ℕ) → 0 < length line → NoEnding line → (ends : Bool) → ends ≡ true → is_one_line (split_lines line) ends ≡ true
 one-last [] some h ends e = absurd (omega arith)
 one-last (b ∷ bs) some h ends e = ap (λ (lines : List (List ℕ)). is_one_line lines ends) (split-line (b ∷ bs) h) ∙ e
 
-one-next : (line : List ℕ) (ending : Ending) → NoEnding line → (ends : Bool) → is_one_line (split_lines (line ++ ending_bytes ending)) ends ≡ true
+pub one-next : (line : List ℕ) (ending : Ending) → NoEnding line → (ends : Bool) → is_one_line (split_lines (line ++ ending_bytes ending)) ends ≡ true
 one-next line ending h ends =
     ap (λ (l : List ℕ). is_one_line (split_lines l) ends) (sym (append-nil (line ++ ending_bytes ending)))
     ∙ ap (λ (lines : List (List ℕ)). is_one_line lines ends) (split-next line ending [] h (before ending))
@@ -582,7 +582,7 @@ title-lines options bytes line row is some =
     refl
 
 -- behind some bytes no tab is cut
-past-whole : (line : List ℕ) (p : Point) → 0 < length line → (past_text line p).vs ≡ 0
+pub past-whole : (line : List ℕ) (p : Point) → 0 < length line → (past_text line p).vs ≡ 0
 past-whole [] p h = absurd (omega arith)
 past-whole (b ∷ bs) p h = past_text-whole bs (past_byte b p) refl
 
@@ -658,14 +658,14 @@ plain-next p e ys zs end h k =
     subst (λ (x : Bool). NextBelongs end ((cond x [] (pair n.Data p e) ++ ys) ++ zs)) (sym apart) (begins-behind n.Data p end k)
 
 -- a line without its ending
-without-none : (line : List ℕ) → NoEnding line → without_ending line ≡ line
+pub without-none : (line : List ℕ) → NoEnding line → without_ending line ≡ line
 without-none [] h = refl
 without-none (b ∷ line) h =
     take_while-cons (λ (b : ℕ). not (is_ending b)) b line
     ∙ ap (λ (x : Bool). cond (not x) (b ∷ without_ending line) []) h.0
     ∙ ap (λ (l : List ℕ). b ∷ l) (without-none line h.1)
 
-without-one : (line : List ℕ) (ending : Ending) → NoEnding line → without_ending (line ++ ending_bytes ending) ≡ line
+pub without-one : (line : List ℕ) (ending : Ending) → NoEnding line → without_ending (line ++ ending_bytes ending) ≡ line
 without-one [] LineFeed h = refl
 without-one [] Return h = refl
 without-one [] Both h = refl

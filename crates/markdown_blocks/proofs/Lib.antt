@@ -5,6 +5,7 @@ pub mod FlowMeans
 pub mod FlowRuns
 pub mod FlowEnds
 pub mod PiecesLemmas
+pub mod PieceFacts
 pub mod FrontFacts
 pub mod FrontLemmas
 pub mod FrontPlaces
@@ -13,6 +14,8 @@ pub mod RowFacts
 pub mod ContainedLemmas
 pub mod HeadingSpread
 pub mod LineKinds
+pub mod PieceRuns
+pub mod PieceLeaves
 pub mod HeadingRuns
 pub mod RestRows
 pub mod FrontRows
@@ -54,4 +57,6 @@ pub mod DocumentStates
 pub mod DocumentMeans
 pub mod DocumentReads
 pub mod TileCovers
+pub mod PieceTitles
+pub mod PieceRows
 pub mod TileReads

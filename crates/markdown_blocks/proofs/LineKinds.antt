@@ -110,7 +110,7 @@ trim-white b bs e = ap (λ (n : ℕ). drop n (b ∷ bs)) (count-one is_white b b
 trim-none : (b : ℕ) (bs : List ℕ) → is_white b ≡ false → trim_start (b ∷ bs) ≡ b ∷ bs
 trim-none b bs e = ap (λ (n : ℕ). drop n (b ∷ bs)) (count-none is_white b bs e)
 
-front-white : (b : ℕ) (bs : List ℕ) → is_white b ≡ true → white_front (b ∷ bs) ≡ b ∷ white_front bs
+pub front-white : (b : ℕ) (bs : List ℕ) → is_white b ≡ true → white_front (b ∷ bs) ≡ b ∷ white_front bs
 front-white b bs e = ap (λ (n : ℕ). take n (b ∷ bs)) (count-one is_white b bs e)
 
 front-none : (b : ℕ) (bs : List ℕ) → is_white b ≡ false → white_front (b ∷ bs) ≡ []

@@ -47,7 +47,7 @@ covers-append p q r [] ys h k = covers-from p q r ys h k
 covers-append p q r (x ∷ xs) ys h k = (h.0, covers-append x.after q r xs ys h.1 k)
 
 -- no pair arises in front of an enter
-pieces-before : (e : Event) (es : List Event) → Begins es → pieces_from e es ≡ pieces es
+pub pieces-before : (e : Event) (es : List Event) → Begins es → pieces_from e es ≡ pieces es
 pieces-before e [] h = refl
 pieces-before e (f ∷ es) h = go e.kind f.kind h
   where
@@ -106,7 +106,7 @@ pub ends-append : (kind : Kind) (xs ys : List Event) → Ends kind xs → Ends E
 ends-append kind [] ys h k = subst (λ (l : Kind). Ends l ys) (sym h) k
 ends-append kind (e ∷ xs) ys h k = ends-append e.kind xs ys h k
 
-ends-exit : (kind : Kind) (xs : List Event) (f : Event) → f.kind ≡ Exit → Ends kind (xs ++ f ∷ [])
+pub ends-exit : (kind : Kind) (xs : List Event) (f : Event) → f.kind ≡ Exit → Ends kind (xs ++ f ∷ [])
 ends-exit kind [] f h = h
 ends-exit kind (e ∷ xs) f h = ends-exit e.kind xs f h
 
@@ -154,13 +154,17 @@ tiled-two e f h k = tiled-enter e f.point (f ∷ []) h (shut-exit e f f.point []
 pub tiled-pair : (name : Name) (p q : Point) → Tiled p q (pair name p q)
 tiled-pair name p q = tiled-two (enter name p) (exit name q) refl refl
 
+-- the pieces of a part are those of what it stands around, if anything
+pub pieces-around : (name : Name) (p q : Point) (e : Event) (es : List Event) → e.kind ≡ Enter → Ends e.kind es → pieces (around name p q (e ∷ es)) ≡ pieces (e ∷ es)
+pieces-around name p q e es h k = pieces-before (enter name p) ((e ∷ es) ++ exit name q ∷ []) h ∙ pieces-behind e es (exit name q) k
+
 -- a part covers what it stands around, also if that is empty
 pub tiled-around : (name : Name) (p q : Point) (es : List Event) → Tiled p q es → Tiled p q (around name p q es)
 tiled-around name p q [] h = tiled-pair name p q
 tiled-around name p q (e ∷ es) h = record {
   begins = refl;
   ends = ends-exit Enter (e ∷ es) (exit name q) refl;
-  covers = subst (λ (l : List Piece). Covers p l q) (sym (pieces-before (enter name p) ((e ∷ es) ++ exit name q ∷ []) h.begins ∙ pieces-behind e es (exit name q) h.ends)) h.covers;
+  covers = subst (λ (l : List Piece). Covers p l q) (sym (pieces-around name p q e es h.begins h.ends)) h.covers;
 }
 
 -- a part that is left out if it is empty

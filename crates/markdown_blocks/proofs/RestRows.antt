@@ -1,6 +1,7 @@
 -- The rest of a line that begins within a cut tab is read as if that tab stood there whole: its first cell is fed as a space and
 -- not as the tab, and nothing tells the two apart.
-use Rattle.std.proofs.Common.{◌≡◌, ℕ, zero, suc, ◌^◌, ◌<◌, ◌≤◌, Bool, true, false, cond, ◌&&◌, List, ◌∷◌, ◌++◌, length, drop, refl, sym, ap, ◌∙◌, arith}
+use Rattle.std.proofs.Common.{◌≡◌, ℕ, zero, suc, ◌^◌, ◌<◌, ◌≤◌, Bool, true, false, cond, ◌&&◌, ◌==◌, List, ◌∷◌, ◌++◌, length, drop, refl, sym, ap, ◌∙◌, arith}
+use Rattle.std.proofs.lemmas.Bool.{or_right}
 use Rattle.md_engine.specs.declared.configuration.ParseOptions.{ParseOptions}
 use Rattle.md_engine.specs.declared.event.Event.{Event}
 use Rattle.md_engine.specs.declared.event.Name.TheVariants as n
@@ -21,6 +22,7 @@ use Rattle.md_seam.proofs.TextsLemmas.{NoEnding}
 use Rattle.markdown_blocks.specs.Fronted.{cut_tab, rest_line}
 use Rattle.markdown_blocks.specs.Rows.{BlankRow, BreakRow, HeadingRow, Row, RowKind, TextRow, first_cell, inside_of, line_kind, row_kind}
 use Rattle.markdown_blocks.proofs.LineKinds.{kind-spread, spread-rest}
+use Rattle.markdown_blocks.proofs.PieceFacts.{CutsFirst, whole-first}
 
 -- What does not tell a space from a tab in the first cell has the same value on the rest of a line and on its bytes.
 
@@ -127,6 +129,14 @@ rest-whole r p = go r.spaces
     go : (spaces : ℕ) → Cut spaces p → (past_text (cut_tab spaces ++ r.bytes) p).vs ≡ 0
     go zero cut = past_text-whole r.bytes p cut
     go (suc k) cut = past_text-whole r.bytes (past_byte 9 p) refl
+
+-- a tab that is cut is its first byte
+pub rest-cut : (r : Rest) (p : Point) → Cut r.spaces p → CutsFirst p (rest_line r)
+rest-cut r p = go r.spaces
+  where
+    go : (spaces : ℕ) → Cut spaces p → CutsFirst p (cut_tab spaces ++ r.bytes)
+    go zero cut = whole-first p r.bytes cut
+    go (suc k) cut = or_right (p.vs == 0) true refl
 
 -- and its bytes in the text
 pub rest-text : (text past : List ℕ) (r : Rest) (p : Point) → RestAt text past r p → drop p.index text ≡ rest_line r ++ past

@@ -5,7 +5,9 @@ use Rattle.md_engine.specs.declared.configuration.ParseOptions.{ParseOptions}
 use Rattle.md_engine.specs.declared.event.Point.{Point}
 use Rattle.md_leaves.specs.HeadingRule.{Apart}
 use Rattle.md_leaves.specs.HeadingTitle.{line_runs}
+use Rattle.md_seam.specs.Inline.{pieces}
 use Rattle.md_seam.specs.Nested.{Balanced, Forward, last_point}
+use Rattle.md_seam.specs.Pieces.{pieces_stand}
 use Rattle.md_seam.specs.Places.{at_or_before, past_text}
 pub use Rattle.md_seam.proofs.FeedLines.{IsEnding, slice-split}
 use Rattle.md_seam.proofs.RestCells.{Cut}
@@ -16,6 +18,7 @@ use Rattle.markdown_blocks.specs.Change.{open_behind}
 use Rattle.markdown_blocks.specs.Fronted.{contained, rest_from, rest_line}
 use Rattle.markdown_blocks.specs.Rows.{HeadingRow, Row, TextRow, is_text, line_kind}
 use Rattle.markdown_blocks.proofs.FrontFacts.{Fronts}
+use Rattle.markdown_blocks.proofs.PieceFacts.{CutsFirst}
 use Rattle.markdown_blocks.proofs.PiecesLemmas.{Tiled}
 
 -- what stands in a line that is no heading: nothing that the tree shows
@@ -36,9 +39,11 @@ pub record IsRow (options : ParseOptions) (bytes line : List ℕ) (row : Row) : 
   pub end : row.end ≡ past_text line row.first
   pub first_column : 1 ≤ row.first.column
   pub end_whole : row.end.vs ≡ 0
+  pub cut_first : CutsFirst row.first line
   -- what stands inside
   pub inside : row.kind ≢ HeadingRow → IsInside row
   pub no_inside : row.kind ≡ TextRow → row.inside ≡ []
+  pub pieces_are : row.kind ≢ HeadingRow → IsTrue (pieces_stand bytes (pieces row.inside))
   -- in a heading, its runs
   pub heading : row.kind ≡ HeadingRow → row.inside ≡ line_runs Apart line row.first
 

@@ -40,8 +40,10 @@ use Rattle.markdown_blocks.specs.Rows.{BlankRow, BreakRow, HeadingRow, Held, Row
 use Rattle.markdown_blocks.proofs.FrontRows.{AreRead, HasHeld, held-is}
 use Rattle.markdown_blocks.proofs.HeadingRuns.{heading-runs}
 use Rattle.markdown_blocks.proofs.LineKinds.{kind-spread, no_ending-trim, small-end, small-rest, spread-line, spread-line_end, white_front}
+use Rattle.markdown_blocks.proofs.PieceFacts.{CutsFirst}
+use Rattle.markdown_blocks.proofs.PieceLeaves.{inside-stand}
 use Rattle.markdown_blocks.proofs.PiecesLemmas.{Shut, Tiled, shut-exit, tiled-append, tiled-enter, tiled-none, tiled-pair}
-use Rattle.markdown_blocks.proofs.RestRows.{rest-ending, rest-length, rest-no_ending, rest-past, rest-row, rest-text, rest-whole, row_with}
+use Rattle.markdown_blocks.proofs.RestRows.{rest-cut, rest-ending, rest-length, rest-no_ending, rest-past, rest-row, rest-text, rest-whole, row_with}
 use Rattle.markdown_blocks.proofs.RowFacts.{AreRows, IsEnding, IsInside, IsLine, IsRow, behind_line}
 use Rattle.markdown_blocks.proofs.TitleNests.{either, Spans, spans-append}
 
@@ -272,9 +274,9 @@ none-inside options cells p kind e = ap (inside_of options cells p) e
 
 -- The row of a line, also where it begins within a tab.
 is-row : (options : ParseOptions) (bytes : List ℕ) (row : Row) (said : Line) (line behind : List ℕ) (p : Point) (rest : List Cell) → options.constructs.code_indented ≡ false → length (spread said line p ++ rest) < 2 ^ 63 →
-    NoEnding line → Stops rest → 1 ≤ p.column → (past_text line p).vs ≡ 0 → drop p.index bytes ≡ line ++ behind →
+    NoEnding line → Stops rest → 1 ≤ p.column → (past_text line p).vs ≡ 0 → CutsFirst p line → drop p.index bytes ≡ line ++ behind →
     IsRow options bytes line (row_with options row (spread said line p ++ rest) p)
-is-row options bytes row said line behind p rest off short h k one vs text =
+is-row options bytes row said line behind p rest off short h k one vs cut text =
     let cells = spread said line p ++ rest in
     let end : line_end cells p ≡ past_text line p = spread-line_end said line p rest h k one in
     let index : (line_end cells p).index ≡ p.index + length line = ap (λ (q : Point). q.index) end ∙ past-index line p in
@@ -295,8 +297,10 @@ is-row options bytes row said line behind p rest off short h k one vs text =
       end = end;
       first_column = one;
       end_whole = ap (λ (q : Point). q.vs) end ∙ vs;
+      cut_first = cut;
       inside = quiet;
       no_inside = none-inside options cells p (row_kind options cells);
+      pieces_are = λ other. inside-stand options bytes line behind said p rest off short h k one cut text (row_kind options cells) (sym (kind-spread options said line p rest off short h k one)) other;
       heading = λ is. ap (inside_of options cells p) is ∙ heading-runs options said line p rest off short h k one;
     }
 
@@ -311,7 +315,7 @@ held-row options bytes behind said r stop h below off fed short is none k =
     let long = rest-length said r p stop one is.cut in
     subst (λ (l : List Cell). IsRow options bytes (rest_line r) (row_with options row l p)) (sym fed)
     (subst (IsRow options bytes (rest_line r)) (sym (rest-row options row said r p stop one is.cut))
-    (is-row options bytes row said (rest_line r) behind p stop off (omega (arith, short, size, long)) (rest-no_ending r none) k one (rest-whole r p is.cut) (rest-text bytes behind r p is)))
+    (is-row options bytes row said (rest_line r) behind p stop off (omega (arith, short, size, long)) (rest-no_ending r none) k one (rest-whole r p is.cut) (rest-cut r p is.cut) (rest-text bytes behind r p is)))
 
 -- The first line of a text.
 

@@ -75,7 +75,7 @@ shut-runs run (b ∷ xs) p ok e h =
     (subst (Shut e end) (sym (append_assoc (closes run p) (opens (begun b) p) rest))
     (shut-closes run e p end (opens (begun b) p ++ rest) ok h (tiled-opens (begun b) p end rest (open-begun b) (shut-runs (begun b) xs next (open-begun b)))))
 
-runs-tiled : (xs : List ℕ) (p : Point) → Tiled p (past_text xs p) (line_runs Apart xs p)
+pub runs-tiled : (xs : List ℕ) (p : Point) → Tiled p (past_text xs p) (line_runs Apart xs p)
 runs-tiled [] p = tiled-none p p (same-refl p)
 runs-tiled (b ∷ xs) p = let next : Point = past_byte b p in tiled-opens (begun b) p (past_text xs next) (line_runs (begun b) xs next) (open-begun b) (shut-runs (begun b) xs next (open-begun b))
 
