@@ -58,5 +58,4 @@ pub mod DocumentMeans
 pub mod DocumentReads
 pub mod TileCovers
 pub mod PieceTitles
-pub mod PieceRows
 pub mod TileReads
