@@ -9,6 +9,7 @@ pub mod FrontFacts
 pub mod FrontLemmas
 pub mod FrontPlaces
 pub mod FrontNames
+pub mod WordsInside
 pub mod RowFacts
 pub mod ContainedLemmas
 pub mod HeadingSpread

@@ -1,5 +1,5 @@
 -- The fold that checks the grammar of events, piece by piece.
-use Rattle.std.proofs.Common.{◌≡◌, Bool, true, false, cond, List, [], ◌∷◌, ◌++◌, refl, ap, sym, ◌∙◌, subst}
+use Rattle.std.proofs.Common.{◌≡◌, Bool, true, false, cond, List, [], ◌∷◌, ◌++◌, refl, ap, sym, ◌∙◌, subst, append_assoc}
 use Rattle.std.specs.Prelude.{◌||◌}
 use Rattle.std.specs.List.{list_any}
 use Rattle.md_engine.specs.declared.event.Event.{Event}
@@ -71,20 +71,29 @@ leads-part text x marker past q outer = go (same_place past q)
     go false = refl
 
 -- a prefix may stand where that is left behind it, with whitespace in front of it or not
-pub leads-prefix : (text x y : Expression) (p marker past q : Point) → behind n.BlockQuotePrefix x ≡ y → behind n.BlockQuotePrefix (behind n.SpaceOrTab x) ≡ y → Leads text (x ∷ []) (y ∷ []) (pair_unless_empty n.SpaceOrTab p marker ++ prefix_part marker past q)
+pub leads-prefix : (text x y : Expression) (p marker past q : Point) → behind n.BlockQuotePrefix x ≡ y → behind n.BlockQuotePrefix (behind n.SpaceOrTab x) ≡ y →
+    Leads text (x ∷ []) (y ∷ []) (pair_unless_empty n.SpaceOrTab p marker ++ enter n.BlockQuotePrefix marker ∷ enter n.BlockQuoteMarker marker ∷ exit n.BlockQuoteMarker past ∷ pair_unless_empty n.SpaceOrTab past q ++ exit n.BlockQuotePrefix q ∷ [])
 leads-prefix text x y p marker past q h k = go (leads-unless text x n.SpaceOrTab p marker refl)
   where
     indent : List Event
     indent = pair_unless_empty n.SpaceOrTab p marker
 
+    inner : List Event
+    inner = enter n.BlockQuotePrefix marker ∷ enter n.BlockQuoteMarker marker ∷ exit n.BlockQuoteMarker past ∷ pair_unless_empty n.SpaceOrTab past q
+
+    end : List Event
+    end = exit n.BlockQuotePrefix q ∷ []
+
     same : (some : Bool) → behind n.BlockQuotePrefix (maybe some n.SpaceOrTab x) ≡ y
     same true = k
     same false = h
 
-    go : (some : Bool) × Leads text (x ∷ []) (maybe some n.SpaceOrTab x ∷ []) indent → Leads text (x ∷ []) (y ∷ []) (indent ++ prefix_part marker past q)
+    go : (some : Bool) × Leads text (x ∷ []) (maybe some n.SpaceOrTab x ∷ []) indent → Leads text (x ∷ []) (y ∷ []) (indent ++ inner ++ end)
     go w =
-        subst (λ (z : Expression). Leads text (x ∷ []) (z ∷ []) (indent ++ prefix_part marker past q)) (same w.0)
-        (leads-append text (x ∷ []) (maybe w.0 n.SpaceOrTab x ∷ []) (behind n.BlockQuotePrefix (maybe w.0 n.SpaceOrTab x) ∷ []) indent (prefix_part marker past q) w.1 (leads-part text (maybe w.0 n.SpaceOrTab x) marker past q))
+        let room : Expression = maybe w.0 n.SpaceOrTab x in
+        let all : Leads text (x ∷ []) (behind n.BlockQuotePrefix room ∷ []) (indent ++ (inner ++ end)) =
+        leads-append text (x ∷ []) (room ∷ []) (behind n.BlockQuotePrefix room ∷ []) indent (inner ++ end) w.1 (leads-part text room marker past q) in
+        subst (λ (z : Expression). Leads text (x ∷ []) (z ∷ []) (indent ++ inner ++ end)) (same w.0) (subst (Leads text (x ∷ []) (behind n.BlockQuotePrefix room ∷ [])) (sym (append_assoc indent inner end)) all)
 
 -- A whole text.
 
