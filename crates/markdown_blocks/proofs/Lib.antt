@@ -33,6 +33,7 @@ pub mod SpelledRows
 pub mod StandsLemmas
 pub mod EachRow
 pub mod NestedRows
+pub mod GrammarFronts
 pub mod BetweenRows
 pub mod TreeRows
 pub mod TextQuoted

@@ -22,8 +22,12 @@ left_of-append text stack (e ∷ xs) ys = left_of-append text (left_behind text 
 abbrev pub Leads : Expression → List Expression → List Expression → List Event → Type 0
 Leads text from to es = (outer : List Expression) → left_of text (from ++ outer) es ≡ to ++ outer
 
+-- what is left behind them
+pub leads-rest : (text : Expression) (a b outer : List Expression) (xs ys : List Event) → Leads text a b xs → left_of text (a ++ outer) (xs ++ ys) ≡ left_of text (b ++ outer) ys
+leads-rest text a b outer xs ys h = left_of-append text (a ++ outer) xs ys ∙ ap (λ (l : List Expression). left_of text l ys) (h outer)
+
 pub leads-append : (text : Expression) (a b c : List Expression) (xs ys : List Event) → Leads text a b xs → Leads text b c ys → Leads text a c (xs ++ ys)
-leads-append text a b c xs ys h k outer = left_of-append text (a ++ outer) xs ys ∙ ap (λ (l : List Expression). left_of text l ys) (h outer) ∙ k outer
+leads-append text a b c xs ys h k outer = leads-rest text a b outer xs ys h ∙ k outer
 
 -- events that are a word of what is open
 pub record IsWord (text : Expression) (from : List Expression) (es : List Event) : Type 0 where
@@ -49,13 +53,16 @@ leads-around text x name p q es w outer =
 abbrev pub maybe : Bool → Name → Expression → Expression
 maybe some name x = cond some (behind name x) x
 
--- a part with nothing inside, if it is not empty
+-- a part with nothing inside, and one if it is not empty
+pub leads-pair : (text x : Expression) (name : Name) (p q : Point) → may_end (inside text name) ≡ true → Leads text (x ∷ []) (behind name x ∷ []) (pair name p q)
+leads-pair text x name p q e outer = leads-exit text (inside text name) (behind name x) name q e outer
+
 pub leads-unless : (text x : Expression) (name : Name) (p q : Point) → may_end (inside text name) ≡ true → (some : Bool) × Leads text (x ∷ []) (maybe some name x ∷ []) (pair_unless_empty name p q)
 leads-unless text x name p q e = go (same_place p q)
   where
     go : (empty : Bool) → (some : Bool) × Leads text (x ∷ []) (maybe some name x ∷ []) (cond empty [] (pair name p q))
     go true = (false, λ outer. refl)
-    go false = (true, leads-exit text (inside text name) (behind name x) name q e)
+    go false = (true, leads-pair text x name p q e)
 
 -- Prefixes of quotes.
 
