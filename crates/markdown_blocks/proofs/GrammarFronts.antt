@@ -67,7 +67,7 @@ abbrev pub blocks_behind : Bool → Expression
 blocks_behind true = behind_block
 blocks_behind false = blocks
 
-behind-ends : (block : Bool) → may_end (blocks_behind block) ≡ true
+pub behind-ends : (block : Bool) → may_end (blocks_behind block) ≡ true
 behind-ends true = refl
 behind-ends false = refl
 

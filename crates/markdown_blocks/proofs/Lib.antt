@@ -34,6 +34,7 @@ pub mod StandsLemmas
 pub mod EachRow
 pub mod NestedRows
 pub mod GrammarFronts
+pub mod GrammarRows
 pub mod BetweenRows
 pub mod TreeRows
 pub mod TextQuoted
