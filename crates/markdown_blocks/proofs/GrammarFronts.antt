@@ -20,6 +20,7 @@ abbrev pub behinds : List Name → List Expression
 behinds [] = []
 behinds (name ∷ names) = behind_block ∷ behinds names
 
+-- some names around others
 pub behinds-append : (xs ys : List Name) → behinds (xs ++ ys) ≡ behinds xs ++ behinds ys
 behinds-append [] ys = refl
 behinds-append (name ∷ xs) ys = ap (λ (l : List Expression). behind_block ∷ l) (behinds-append xs ys)
@@ -30,21 +31,26 @@ behinds-around xs name outer = ap (λ (l : List Expression). l ++ outer) (behind
 
 -- Fronts.
 
-prefix-leads : (text x y : Expression) (bytes : List ℕ) (p q : Point) (es : List Event) → behind n.BlockQuotePrefix x ≡ y → behind n.BlockQuotePrefix (behind n.SpaceOrTab x) ≡ y → IsPrefix bytes p q es → Leads text (x ∷ []) (y ∷ []) es
+-- a prefix of a quote
+prefix-leads : (text x y : Expression) (bytes : List ℕ) (p q : Point) (es : List Event) → behind n.BlockQuotePrefix x ≡ y →
+    behind n.BlockQuotePrefix (behind n.SpaceOrTab x) ≡ y → IsPrefix bytes p q es → Leads text (x ∷ []) (y ∷ []) es
 prefix-leads text x y bytes p q es h k is = subst (Leads text (x ∷ []) (y ∷ [])) (sym is.events) (leads-prefix text x y p is.marker is.behind q h k)
 
 -- what stands in front of the content of a container that goes on
-further-leads : (text x : Expression) (bytes : List ℕ) (c : Container) (p q : Point) (es : List Event) → behind n.BlockQuotePrefix x ≡ x → behind n.BlockQuotePrefix (behind n.SpaceOrTab x) ≡ x → IsFurther bytes c p q es → Leads text (x ∷ []) (x ∷ []) es
+further-leads : (text x : Expression) (bytes : List ℕ) (c : Container) (p q : Point) (es : List Event) → behind n.BlockQuotePrefix x ≡ x →
+    behind n.BlockQuotePrefix (behind n.SpaceOrTab x) ≡ x → IsFurther bytes c p q es → Leads text (x ∷ []) (x ∷ []) es
 further-leads text x bytes InQuote p q es h k is = prefix-leads text x x bytes p q es h k is
 further-leads text x bytes c p q es h k is = absurd is
 
 -- and of one that opens, with its begin
-opening-leads : (text : Expression) (bytes : List ℕ) (c : Container) (p q : Point) (es : List Event) → IsOpening bytes c p q es → Leads text (blocks ∷ []) (blocks ∷ behind_block ∷ []) (enter (container_name c) p ∷ es)
+opening-leads : (text : Expression) (bytes : List ℕ) (c : Container) (p q : Point) (es : List Event) → IsOpening bytes c p q es →
+    Leads text (blocks ∷ []) (blocks ∷ behind_block ∷ []) (enter (container_name c) p ∷ es)
 opening-leads text bytes InQuote p q es is = λ outer. prefix-leads text (inside text n.BlockQuote) blocks bytes p q es refl refl is (behind_block ∷ outer)
 opening-leads text bytes c p q es is = absurd is
 
 -- in front of blocks, what stands there opens the containers that begin in it
-pub front-leads : (text : Expression) (bytes : List ℕ) (opens : List Container) (p q : Point) (front : List Event) → Fronts bytes opens p q front → Leads text (blocks ∷ []) (blocks ∷ behinds (open_names opens)) front
+pub front-leads : (text : Expression) (bytes : List ℕ) (opens : List Container) (p q : Point) (front : List Event) → Fronts bytes opens p q front →
+    Leads text (blocks ∷ []) (blocks ∷ behinds (open_names opens)) front
 front-leads text bytes _ p _ _ (Behind _) = λ outer. refl
 front-leads text bytes opens p r _ (Goes c _ _ q _ es fs is more) =
     leads-append text (blocks ∷ []) (blocks ∷ []) (blocks ∷ behinds (open_names opens)) es fs (further-leads text blocks bytes c p q es refl refl is) (front-leads text bytes opens q r fs more)
@@ -54,7 +60,9 @@ front-leads text bytes _ p r _ (Begins c opens _ q _ es fs is more) =
     leads-append text (blocks ∷ []) (blocks ∷ behind_block ∷ []) (blocks ∷ behinds (open_names opens ++ container_name c ∷ [])) (enter (container_name c) p ∷ es) fs (opening-leads text bytes c p q es is) further
 
 -- in front of a further line of a leaf, where prefixes may stand
-pub front-stays : (text x : Expression) (bytes : List ℕ) (opens : List Container) (p q : Point) (front : List Event) → behind n.BlockQuotePrefix x ≡ x → behind n.BlockQuotePrefix (behind n.SpaceOrTab x) ≡ x → Fronts bytes opens p q front → opens ≡ [] → Leads text (x ∷ []) (x ∷ []) front
+pub front-stays : (text x : Expression) (bytes : List ℕ) (opens : List Container) (p q : Point) (front : List Event) →
+    behind n.BlockQuotePrefix x ≡ x → behind n.BlockQuotePrefix (behind n.SpaceOrTab x) ≡ x → Fronts bytes opens p q front → opens ≡ [] →
+    Leads text (x ∷ []) (x ∷ []) front
 front-stays text x bytes _ p _ _ h k (Behind _) none = λ outer. refl
 front-stays text x bytes opens p r _ h k (Goes c _ _ q _ es fs is more) none =
     leads-append text (x ∷ []) (x ∷ []) (x ∷ []) es fs (further-leads text x bytes c p q es h k is) (front-stays text x bytes opens q r fs h k more none)
@@ -67,12 +75,14 @@ abbrev pub blocks_behind : Bool → Expression
 blocks_behind true = behind_block
 blocks_behind false = blocks
 
+-- a container may end there
 pub behind-ends : (block : Bool) → may_end (blocks_behind block) ≡ true
 behind-ends true = refl
 behind-ends false = refl
 
 -- containers end
-pub ends-lead : (text : Expression) (cs : List Container) (p : Point) (block : Bool) → (after : Bool) × Leads text (blocks_behind block ∷ behinds (open_names cs)) (blocks_behind after ∷ []) (ends_of cs p)
+pub ends-lead : (text : Expression) (cs : List Container) (p : Point) (block : Bool) →
+    (after : Bool) × Leads text (blocks_behind block ∷ behinds (open_names cs)) (blocks_behind after ∷ []) (ends_of cs p)
 ends-lead text [] p block = (block, λ outer. refl)
 ends-lead text (c ∷ cs) p block =
     let inner : (after : Bool) × Leads text (blocks_behind block ∷ behinds (open_names cs)) (blocks_behind after ∷ []) (ends_of cs p) = ends-lead text cs p block in
@@ -85,7 +95,8 @@ ends-lead text (c ∷ cs) p block =
     )
 
 -- and the line does
-pub ending-leads : (text : Expression) (kind : RowKind) (p q : Point) (block : Bool) → Leads text (blocks_behind block ∷ []) (blocks ∷ []) (pair (ending_of kind) p q)
+pub ending-leads : (text : Expression) (kind : RowKind) (p q : Point) (block : Bool) →
+    Leads text (blocks_behind block ∷ []) (blocks ∷ []) (pair (ending_of kind) p q)
 ending-leads text BlankRow p q true outer = refl
 ending-leads text BlankRow p q false outer = refl
 ending-leads text HeadingRow p q true outer = refl

@@ -1,5 +1,5 @@
 -- The events of a text keep the grammar of events, before its text parts are read and once they are.
-use Rattle.std.proofs.Common.{◌≡◌, ◌≢◌, ◌<◌, ℕ, Bool, true, false, cond, List, [], ◌∷◌, ◌++◌, length, refl, ap, sym, ◌∙◌, subst, append_assoc, append-nil, arith}
+use Rattle.std.proofs.Common.{◌≡◌, ◌≢◌, ◌<◌, ℕ, Bool, true, false, cond, List, [], ◌∷◌, ◌++◌, refl, ap, sym, ◌∙◌, subst, append_assoc, append-nil, arith}
 use Rattle.std.specs.Prelude.{Option, Some, None}
 use Rattle.std.proofs.lemmas.Bool.Decides.{nat_tests}
 use Rattle.md_engine.specs.declared.configuration.ParseOptions.{ParseOptions}
@@ -11,7 +11,6 @@ use Rattle.md_engine.specs.Place.{first_point}
 use Rattle.md_content.specs.Paragraph.{text_link}
 use Rattle.md_leaves.specs.HeadingRule.{is_heading}
 use Rattle.md_leaves.specs.HeadingText.{linked_text}
-use Rattle.md_leaves.specs.HeadingTitle.{title_of}
 use Rattle.md_leaves.proofs.GrammarLeaves.{title-word}
 use Rattle.md_seam.specs.declared.inline.Chunk.{Chunk}
 use Rattle.md_seam.specs.Grammar.{Expression, behind, behind_block, blocks, inside, is_whole, keeps_grammar, left_of, may_end, plain_text, unread_text}
@@ -25,14 +24,14 @@ use Rattle.md_seam.proofs.FeedLines.{ending-some}
 use Rattle.md_seam.proofs.GrammarLemmas.{IsWord, Leads, keeps-blocks, keeps-marked, leads-append, leads-around, leads-pair, leads-rest, leads-unless, maybe, word-behind}
 use Rattle.markdown_blocks.specs.Change.{ends_of}
 use Rattle.markdown_blocks.specs.Document.{body_point, mark_end, mark_events}
-use Rattle.markdown_blocks.specs.Rows.{BlankRow, BreakRow, Group, HeadingRow, Lines, Row, RowKind, Single, TextRow, behind_row, ending_events, ending_of, group_events, groups, groups_events, last_row, onto_groups, onto_lines, goes_on, read_lines, read_text, row_events_by, row_line, row_title, single_events_by, tail_events}
+use Rattle.markdown_blocks.specs.Rows.{BlankRow, BreakRow, Group, HeadingRow, Lines, Row, RowKind, Single, TextRow, behind_row, ending_events, ending_of, group_events, groups, groups_events, last_row, onto_groups, goes_on, read_lines, read_text, row_events_by, row_line, row_title, single_events_by, tail_events}
 use Rattle.markdown_blocks.specs.Unread.{linked_lines, titled_group, titled_groups, titled_row_by}
 use Rattle.markdown_blocks.proofs.FrontLemmas.{open_names}
 use Rattle.markdown_blocks.proofs.GrammarFronts.{behind-ends, behinds, behinds-append, blocks_behind, ending-leads, ends-lead, front-leads, front-stays}
-use Rattle.markdown_blocks.proofs.GroupLemmas.{AreGroups, EndsBeforeGroups, IsParagraph, IsSingle, groups-are, line_end-ended, rows-end}
+use Rattle.markdown_blocks.proofs.GroupLemmas.{AreGroups, EndsBeforeGroups, IsParagraph, groups-are, line_end-ended, rows-end}
 use Rattle.markdown_blocks.proofs.JoinedLemmas.{EachEnds, EachNoContent, behind-is, ending-is}
 use Rattle.markdown_blocks.proofs.LineKinds.{heading-kind}
-use Rattle.markdown_blocks.proofs.NestedRows.{ByLines, Keeps, Ordered, rows-hold}
+use Rattle.markdown_blocks.proofs.NestedRows.{ByLines, Ordered, rows-hold}
 use Rattle.markdown_blocks.proofs.RowFacts.{AreRows, IsEnding, IsInside, IsRow}
 use Rattle.markdown_blocks.proofs.WordsInside.{Worded}
 
@@ -43,6 +42,7 @@ AreEnded [] = Unit {0}
 AreEnded (Single row ∷ gs) = EndsBeforeGroups row gs × AreEnded gs
 AreEnded (Lines row rows ∷ gs) = AreEnded gs
 
+-- a line in front of groups
 onto-ended : (row : Row) (gs : List Group) → EndsBeforeGroups row gs → AreEnded gs → (kind : RowKind) → AreEnded (onto_groups row kind gs)
 onto-ended row gs ends are BlankRow = (ends, are)
 onto-ended row gs ends are HeadingRow = (ends, are)
@@ -55,6 +55,7 @@ onto-ended row (Lines below rows ∷ gs) ends are TextRow = go (goes_on row belo
     go true = are
     go false = are
 
+-- so it is in the groups of the lines of a text
 groups-ended : (rows : List Row) → EachEnds rows → AreEnded (groups rows)
 groups-ended [] h = tt
 groups-ended (row ∷ []) h = onto-ended row [] tt tt row.kind
@@ -88,7 +89,8 @@ abbrev Whole : Expression → List Expression → List Event → Type 0
 Whole text stack events = is_whole (left_of text stack events) ≡ true
 
 -- what is left behind the leaf of lines
-leaf-left : (text : Expression) (bytes : List ℕ) (block : Bool) (names : List Name) (p : Point) (row last : Row) (kind : RowKind) (events more : List Event) → Ordered bytes p row → Stands text block row last kind events →
+leaf-left : (text : Expression) (bytes : List ℕ) (block : Bool) (names : List Name) (p : Point) (row last : Row) (kind : RowKind) (events more : List Event) →
+    Ordered bytes p row → Stands text block row last kind events →
     left_of text (blocks ∷ behinds names) (events ++ more) ≡ left_of text (blocks_behind block ∷ behinds (open_names row.change.opens ++ names)) (tail_events (ending_of kind) last ++ more)
 leaf-left text bytes block names p row last kind events more o s =
     let opens : List Expression = behinds (open_names row.change.opens) in
@@ -106,7 +108,8 @@ none-whole block [] h = behind-ends block
 none-whole block (name ∷ names) h = cc
 
 -- behind the ends of containers the line ends, if more follows
-ending-whole : (text : Expression) (each : Group → List Event) (block : Bool) (kept : List Name) (row : Row) (kind : RowKind) (gs : List Group) → EndsBeforeGroups row gs → Whole text (blocks ∷ behinds kept) (all_of each gs) →
+ending-whole : (text : Expression) (each : Group → List Event) (block : Bool) (kept : List Name) (row : Row) (kind : RowKind) (gs : List Group) →
+    EndsBeforeGroups row gs → Whole text (blocks ∷ behinds kept) (all_of each gs) →
     Whole text (blocks_behind block ∷ behinds kept) (ending_events (ending_of kind) row ++ all_of each gs)
 ending-whole text each block kept row kind gs ends h = go row.after refl gs ends h
   where
@@ -124,7 +127,8 @@ ending-whole text each block kept row kind gs ends h = go row.after refl gs ends
     go None after (g ∷ gs) ends h = let bad : None ≡ Some ends.0 = sym after ∙ ends.1 in cc
 
 -- what is open behind the leaf ends, or stays open
-tail-whole : (text : Expression) (each : Group → List Event) (block : Bool) (all kept : List Name) (row : Row) (kind : RowKind) (gs : List Group) → all ≡ open_names row.leaves ++ kept → EndsBeforeGroups row gs → Whole text (blocks ∷ behinds kept) (all_of each gs) →
+tail-whole : (text : Expression) (each : Group → List Event) (block : Bool) (all kept : List Name) (row : Row) (kind : RowKind) (gs : List Group) →
+    all ≡ open_names row.leaves ++ kept → EndsBeforeGroups row gs → Whole text (blocks ∷ behinds kept) (all_of each gs) →
     Whole text (blocks_behind block ∷ behinds all) (tail_events (ending_of kind) row ++ all_of each gs)
 tail-whole text each block all kept row kind gs keeps ends h =
     let ended : (after : Bool) × Leads text (blocks_behind block ∷ behinds (open_names row.leaves)) (blocks_behind after ∷ []) (ends_of row.leaves row.end) = ends-lead text row.leaves row.end block in
@@ -138,7 +142,9 @@ tail-whole text each block all kept row kind gs keeps ends h =
 abbrev WholeUnder : ParseOptions → List ℕ → Expression → (Group → List Event) → List Name → Point → List Group → Type 0
 WholeUnder options bytes text each names p gs = AreGroups options bytes gs → AreEnded gs → Whole text (blocks ∷ behinds names) (all_of each gs)
 
-whole-by_lines : (options : ParseOptions) (bytes : List ℕ) (text : Expression) (each : Group → List Event) → Reads options bytes text each → ByLines bytes (WholeUnder options bytes text each)
+-- line by line
+whole-by_lines : (options : ParseOptions) (bytes : List ℕ) (text : Expression) (each : Group → List Event) → Reads options bytes text each →
+    ByLines bytes (WholeUnder options bytes text each)
 whole-by_lines options bytes text each reads = record {
   none = λ p are ended. refl;
   single = λ names kept p row gs o keeps other on are ended.
@@ -163,7 +169,8 @@ whole-by_lines options bytes text each reads = record {
 }
 
 -- The mark in front of a text, and its groups.
-rows-keep : (options : ParseOptions) (bytes : List ℕ) (text : Expression) (each : Group → List Event) (lines : List (List ℕ)) (rows : List Row) → Reads options bytes text each → AreRows options bytes [] false (body_point bytes) lines rows → EachNoContent rows →
+rows-keep : (options : ParseOptions) (bytes : List ℕ) (text : Expression) (each : Group → List Event) (lines : List (List ℕ)) (rows : List Row) →
+    Reads options bytes text each → AreRows options bytes [] false (body_point bytes) lines rows → EachNoContent rows →
     keeps_grammar text (mark_events bytes ++ all_of each (groups rows)) ≡ true
 rows-keep options bytes text each lines rows reads are quiet = go (has_mark bytes)
   where
@@ -189,7 +196,9 @@ single_by heading bytes kind row = row_events_by kind row
 abbrev IsHeadingText : Expression → List Event → Type 0
 IsHeadingText text events = (some : Bool) × ((x : Expression) → Leads text (x ∷ []) (maybe some n.HeadingAtxText x ∷ []) events)
 
-single-stands : (options : ParseOptions) (bytes line : List ℕ) (text : Expression) (heading : Option Chunk → List Event) (row : Row) → ((chunk : Option Chunk) → IsHeadingText text (heading chunk)) → IsRow options bytes line row → row.kind ≢ TextRow →
+-- what stands in the place of such a line
+single-stands : (options : ParseOptions) (bytes line : List ℕ) (text : Expression) (heading : Option Chunk → List Event) (row : Row) →
+    ((chunk : Option Chunk) → IsHeadingText text (heading chunk)) → IsRow options bytes line row → row.kind ≢ TextRow →
     (kind : RowKind) → row.kind ≡ kind → (block : Bool) × Stands text block row row kind (single_by heading bytes kind row)
 single-stands options bytes line text heading row texts is other BlankRow e =
     let inside : IsInside row = is.inside (λ k. cc) in
@@ -215,6 +224,7 @@ single-stands options bytes line text heading row texts is other TextRow e = abs
 
 -- Before text parts are read.
 
+-- the text of a heading is one chunk
 linked-text : (chunk : Option Chunk) → IsHeadingText unread_text (linked_text chunk)
 linked-text None = (false, λ x outer. refl)
 linked-text (Some chunk) = (true, λ x outer. refl)
@@ -223,7 +233,9 @@ linked-text (Some chunk) = (true, λ x outer. refl)
 abbrev unread_rest : Expression
 unread_rest = behind n.Data unread_text
 
-linked-word : (options : ParseOptions) (bytes : List ℕ) (x : Expression) (row : Row) (rows : List Row) → behind n.Data x ≡ unread_rest → IsParagraph options bytes row rows → IsWord unread_text (x ∷ []) (linked_lines n.Data text_link row rows)
+-- and that of a paragraph is one a line
+linked-word : (options : ParseOptions) (bytes : List ℕ) (x : Expression) (row : Row) (rows : List Row) → behind n.Data x ≡ unread_rest →
+    IsParagraph options bytes row rows → IsWord unread_text (x ∷ []) (linked_lines n.Data text_link row rows)
 linked-word options bytes x row [] e is = record { left = unread_rest; leads = λ outer. ap (λ (y : Expression). y ∷ outer) e; ends = refl }
 linked-word options bytes x row (next ∷ rows) e is =
     let chunk : List Event = enter_link n.Data row.first text_link ∷ exit n.Data (behind_row row) ∷ [] in
@@ -232,12 +244,14 @@ linked-word options bytes x row (next ∷ rows) e is =
     (leads-append unread_text (x ∷ []) (unread_rest ∷ []) (unread_rest ∷ []) chunk next.front (λ outer. ap (λ (y : Expression). y ∷ outer) e) front)
     (linked-word options bytes unread_rest next rows refl is.7)
 
+-- the lines that are no text
 titled-single : (bytes : List ℕ) (row : Row) (kind : RowKind) → titled_row_by bytes kind row ≡ single_by linked_text bytes kind row
 titled-single bytes row BlankRow = refl
 titled-single bytes row HeadingRow = refl
 titled-single bytes row BreakRow = refl
 titled-single bytes row TextRow = refl
 
+-- each group
 titled-reads : (options : ParseOptions) (bytes : List ℕ) → Reads options bytes unread_text (titled_group bytes)
 titled-reads options bytes = record {
   single = λ line row is other.
@@ -249,12 +263,15 @@ titled-reads options bytes = record {
       record { leaf = around n.Paragraph row.first end inner; leads = leads-around unread_text blocks n.Paragraph row.first end inner (linked-word options bytes unread_text row rows refl is); is = refl };
 }
 
+-- all of them
 titled-all : (bytes : List ℕ) (gs : List Group) → titled_groups bytes gs ≡ all_of (titled_group bytes) gs
 titled-all bytes [] = refl
 titled-all bytes (g ∷ gs) = ap (λ (es : List Event). titled_group bytes g ++ es) (titled-all bytes gs)
 
 -- The events of a text keep the grammar before its text parts are read.
-pub blocks-grammar : (options : ParseOptions) (bytes : List ℕ) (lines : List (List ℕ)) (rows : List Row) → AreRows options bytes [] false (body_point bytes) lines rows → EachNoContent rows → keeps_grammar unread_text (mark_events bytes ++ titled_groups bytes (groups rows)) ≡ true
+pub blocks-grammar : (options : ParseOptions) (bytes : List ℕ) (lines : List (List ℕ)) (rows : List Row) →
+    AreRows options bytes [] false (body_point bytes) lines rows → EachNoContent rows →
+    keeps_grammar unread_text (mark_events bytes ++ titled_groups bytes (groups rows)) ≡ true
 blocks-grammar options bytes lines rows are quiet =
     ap (λ (es : List Event). keeps_grammar unread_text (mark_events bytes ++ es)) (titled-all bytes (groups rows))
     ∙ rows-keep options bytes unread_text (titled_group bytes) lines rows (titled-reads options bytes) are quiet
@@ -294,7 +311,8 @@ ending-grows : (bytes : List ℕ) (p q : Point) → IsEnding bytes p q → p.ind
 ending-grows bytes p q is = let some = ending-some is.ending in omega (arith, some, is.size)
 
 -- a line in front of another one has an ending
-ended-leads : (options : ParseOptions) (bytes line : List ℕ) (first : Bool) (row : Row) (q : Point) → IsRow options bytes line row → row.after ≡ Some q → IsEnding bytes row.end q →
+ended-leads : (options : ParseOptions) (bytes line : List ℕ) (first : Bool) (row : Row) (q : Point) → IsRow options bytes line row →
+    row.after ≡ Some q → IsEnding bytes row.end q →
     Leads plain_text (text_left first ∷ []) (text_left false ∷ []) (plain_chunk bytes (record { first = row.first; after = behind_row row }))
 ended-leads options bytes line first row q is after ending =
     subst (λ (r : Point). Leads plain_text (text_left first ∷ []) (text_left false ∷ []) (plain_chunk bytes (record { first = row.first; after = r }))) (sym (behind-is row q after))
@@ -322,7 +340,9 @@ ended-leads options bytes line first row q is after ending =
         subst (λ (x : Expression). Leads plain_text (text_left first ∷ []) (x ∷ []) (pair_unless_empty n.Data row.first row.end ++ pair n.LineEnding row.end q)) (same first text.0)
         (leads-append plain_text (text_left first ∷ []) (mid text.0 ∷ []) (behind n.LineEnding (mid text.0) ∷ []) (pair_unless_empty n.Data row.first row.end) (pair n.LineEnding row.end q) text.1 (leads-pair plain_text (mid text.0) n.LineEnding row.end q refl))
 
-read-word : (options : ParseOptions) (bytes : List ℕ) (first : Bool) (row : Row) (rows : List Row) → IsParagraph options bytes row rows → IsWord plain_text (text_left first ∷ []) (read_lines bytes row rows)
+-- the text of a paragraph
+read-word : (options : ParseOptions) (bytes : List ℕ) (first : Bool) (row : Row) (rows : List Row) → IsParagraph options bytes row rows →
+    IsWord plain_text (text_left first ∷ []) (read_lines bytes row rows)
 read-word options bytes first row [] is = chunk-word bytes first (record { first = row.first; after = row.end })
 read-word options bytes first row (next ∷ rows) is =
     let chunk : List Event = plain_chunk bytes (record { first = row.first; after = behind_row row }) in
@@ -331,18 +351,21 @@ read-word options bytes first row (next ∷ rows) is =
     (leads-append plain_text (text_left first ∷ []) (text_left false ∷ []) (text_left false ∷ []) chunk next.front (ended-leads options bytes is.0 first row is.3 is.1 is.4 is.5) front)
     (read-word options bytes false next rows is.7)
 
+-- the text of a heading
 read-text : (bytes : List ℕ) (chunk : Option Chunk) → IsHeadingText plain_text (read_text bytes chunk)
 read-text bytes None = (false, λ x outer. refl)
 read-text bytes (Some chunk) =
     let words : IsWord plain_text (plain_text ∷ []) (plain_chunk bytes chunk ++ []) = subst (IsWord plain_text (plain_text ∷ [])) (sym (append-nil (plain_chunk bytes chunk))) (chunk-word bytes true chunk) in
     (true, λ x. leads-around plain_text x n.HeadingAtxText chunk.first chunk.after (plain_chunk bytes chunk ++ []) words)
 
+-- the lines that are no text
 read-single : (bytes : List ℕ) (row : Row) (kind : RowKind) → single_events_by bytes kind row ≡ single_by (read_text bytes) bytes kind row
 read-single bytes row BlankRow = refl
 read-single bytes row HeadingRow = refl
 read-single bytes row BreakRow = refl
 read-single bytes row TextRow = refl
 
+-- each group
 group-reads : (options : ParseOptions) (bytes : List ℕ) → Reads options bytes plain_text (group_events bytes)
 group-reads options bytes = record {
   single = λ line row is other.
@@ -354,12 +377,15 @@ group-reads options bytes = record {
       record { leaf = around n.Paragraph row.first end inner; leads = leads-around plain_text blocks n.Paragraph row.first end inner (read-word options bytes true row rows is); is = refl };
 }
 
+-- all of them
 groups-all : (bytes : List ℕ) (gs : List Group) → groups_events bytes gs ≡ all_of (group_events bytes) gs
 groups-all bytes [] = refl
 groups-all bytes (g ∷ gs) = ap (λ (es : List Event). group_events bytes g ++ es) (groups-all bytes gs)
 
 -- The events of a text keep the grammar, as the plain layer reads its text parts.
-pub events-grammar : (options : ParseOptions) (bytes : List ℕ) (lines : List (List ℕ)) (rows : List Row) → AreRows options bytes [] false (body_point bytes) lines rows → EachNoContent rows → keeps_grammar plain_text (mark_events bytes ++ groups_events bytes (groups rows)) ≡ true
+pub events-grammar : (options : ParseOptions) (bytes : List ℕ) (lines : List (List ℕ)) (rows : List Row) →
+    AreRows options bytes [] false (body_point bytes) lines rows → EachNoContent rows →
+    keeps_grammar plain_text (mark_events bytes ++ groups_events bytes (groups rows)) ≡ true
 events-grammar options bytes lines rows are quiet =
     ap (λ (es : List Event). keeps_grammar plain_text (mark_events bytes ++ es)) (groups-all bytes (groups rows))
     ∙ rows-keep options bytes plain_text (group_events bytes) lines rows (group-reads options bytes) are quiet

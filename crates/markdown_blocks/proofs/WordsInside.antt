@@ -1,5 +1,5 @@
 -- What stands in a blank line and in a break keeps the grammar of events.
-use Rattle.std.proofs.Common.{◌≡◌, Bool, true, false, cond, ◌&&◌, List, [], ◌∷◌, ◌++◌, refl, ap, sym, ◌∙◌, subst}
+use Rattle.std.proofs.Common.{◌≡◌, Bool, true, false, cond, List, [], ◌∷◌, ◌++◌, refl, ap, sym, ◌∙◌, subst}
 use Rattle.std.proofs.lemmas.Bool.{and_parts}
 use Rattle.md_engine.specs.declared.configuration.ParseOptions.{ParseOptions}
 use Rattle.md_engine.specs.declared.event.Event.{Event}
@@ -34,7 +34,9 @@ kind-break options cells e = go (is_blank (line_bytes cells)) (is_heading_line o
     go false false true e = refl
     go false false false e = cc
 
-break-worded : (options : ParseOptions) (cells : List Cell) (p : Point) (text : Expression) → is_break options cells ≡ true → IsWord text (inside text n.ThematicBreak ∷ []) (inside_of options cells p BreakRow)
+-- what stands in a break, with its indent
+break-worded : (options : ParseOptions) (cells : List Cell) (p : Point) (text : Expression) → is_break options cells ≡ true →
+    IsWord text (inside text n.ThematicBreak ∷ []) (inside_of options cells p BreakRow)
 break-worded options cells p text h = go (white_rest (small_indent options) cells) refl
   where
     q : Point
@@ -57,7 +59,8 @@ break-worded options cells p text h = go (white_rest (small_indent options) cell
         (break-word text (begins_white cells) c cs q (ap (λ (l : List Cell). is_rule (line_bytes l)) (sym e) ∙ rule)))
 
 -- so it is in the lines that flow reads
-pub inside-worded : (options : ParseOptions) (cells : List Cell) (p : Point) (kind : RowKind) → row_kind options cells ≡ kind → Worded kind (inside_of options cells p kind)
+pub inside-worded : (options : ParseOptions) (cells : List Cell) (p : Point) (kind : RowKind) → row_kind options cells ≡ kind →
+    Worded kind (inside_of options cells p kind)
 inside-worded options cells p BlankRow e = λ text outer. go text outer (begins_white cells)
   where
     go : (text : Expression) (outer : List Expression) (some : Bool) → left_of text (blocks ∷ outer) (cond some (pair n.SpaceOrTab p (line_end cells p)) []) ≡ blocks ∷ outer

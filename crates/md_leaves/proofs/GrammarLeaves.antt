@@ -1,5 +1,5 @@
 -- What stands in a break and in an ATX heading keeps the grammar of events.
-use Rattle.std.proofs.Common.{◌≡◌, ℕ, Bool, true, false, cond, ◌&&◌, List, [], ◌∷◌, ◌++◌, length, take, drop, refl, ap, sym, ◌∙◌, subst}
+use Rattle.std.proofs.Common.{◌≡◌, ℕ, Bool, true, false, cond, ◌&&◌, List, [], ◌∷◌, ◌++◌, length, take, refl, ap, sym, ◌∙◌, subst}
 use Rattle.std.specs.Prelude.{◌==◌, ◌+◌}
 use Rattle.std.specs.List.{AllPass}
 use Rattle.std.proofs.lemmas.Bool.{and_parts, eq-eqb, eqb-true}
@@ -16,15 +16,16 @@ use Rattle.md_leaves.proofs.TitleTexts.{Behind, Closed, Empty, Parted, Plain, Sh
 use Rattle.md_seam.specs.Ahead.{line_bytes, line_cells}
 use Rattle.md_seam.specs.Grammar.{Expression, Nothing, behind, inside, may_end}
 use Rattle.md_seam.specs.Leaves.{is_rule}
-use Rattle.md_seam.specs.Nested.{enter, exit, pair}
+use Rattle.md_seam.specs.Nested.{enter, exit}
 use Rattle.md_seam.specs.Places.{past_text}
 use Rattle.md_seam.specs.Rest.{is_white, trim_start}
 use Rattle.md_seam.proofs.GrammarLemmas.{IsWord, Leads, leads-append, maybe, word-behind}
 
--- what holds of both holds of the one that is taken
-either : (P : List Event → Type 0) (t : Bool) (xs ys : List Event) → P xs → P ys → P (cond t xs ys)
-either P true xs ys h k = h
-either P false xs ys h k = k
+-- two words are one whichever is taken
+either-word : (text : Expression) (from : List Expression) (t : Bool) (xs ys : List Event) → IsWord text from xs → IsWord text from ys →
+    IsWord text from (cond t xs ys)
+either-word text from true xs ys h k = h
+either-word text from false xs ys h k = k
 
 -- Breaks.
 
@@ -38,16 +39,17 @@ behind_run true = behind n.ThematicBreakSequence (inside Nothing n.ThematicBreak
 behind_run false = behind n.SpaceOrTab (behind n.ThematicBreakSequence (inside Nothing n.ThematicBreak))
 
 -- in a run, what is left of the line
-runs-word : (text : Expression) (m : ℕ) (marks : Bool) (cells : List Cell) (p : Point) → IsWord text (Nothing ∷ behind_run marks ∷ []) (runs (run_of marks) m cells p)
+runs-word : (text : Expression) (m : ℕ) (marks : Bool) (cells : List Cell) (p : Point) →
+    IsWord text (Nothing ∷ behind_run marks ∷ []) (runs (run_of marks) m cells p)
 runs-word text m true [] p = record { left = behind_run true; leads = λ outer. refl; ends = refl }
 runs-word text m false [] p = record { left = behind_run false; leads = λ outer. refl; ends = refl }
 runs-word text m true (c ∷ cs) p =
     let on : IsWord text (Nothing ∷ behind_run false ∷ []) (runs White m cs c.after) = runs-word text m false cs c.after in
-    either (IsWord text (Nothing ∷ behind_run true ∷ [])) (c.byte == m) (runs Marks m cs c.after) (exit n.ThematicBreakSequence p ∷ enter n.SpaceOrTab p ∷ runs White m cs c.after) (runs-word text m true cs c.after)
+    either-word text (Nothing ∷ behind_run true ∷ []) (c.byte == m) (runs Marks m cs c.after) (exit n.ThematicBreakSequence p ∷ enter n.SpaceOrTab p ∷ runs White m cs c.after) (runs-word text m true cs c.after)
     (record { left = on.left; leads = on.leads; ends = on.ends })
 runs-word text m false (c ∷ cs) p =
     let on : IsWord text (Nothing ∷ behind_run true ∷ []) (runs Marks m cs c.after) = runs-word text m true cs c.after in
-    either (IsWord text (Nothing ∷ behind_run false ∷ [])) (c.byte == m) (exit n.SpaceOrTab p ∷ enter n.ThematicBreakSequence p ∷ runs Marks m cs c.after) (runs White m cs c.after)
+    either-word text (Nothing ∷ behind_run false ∷ []) (c.byte == m) (exit n.SpaceOrTab p ∷ enter n.ThematicBreakSequence p ∷ runs Marks m cs c.after) (runs White m cs c.after)
     (record { left = on.left; leads = on.leads; ends = on.ends }) (runs-word text m false cs c.after)
 
 -- A break, behind its indent.
@@ -69,12 +71,14 @@ break-word text indented c cs p h = go (c.byte == 10) refl
 -- Headings.
 
 -- whitespace
-white-leads : (text x : Expression) (white : List ℕ) (p : Point) → AllPass is_white white → (some : Bool) × Leads text (x ∷ []) (maybe some n.SpaceOrTab x ∷ []) (line_runs heading.Apart white p)
+white-leads : (text x : Expression) (white : List ℕ) (p : Point) → AllPass is_white white →
+    (some : Bool) × Leads text (x ∷ []) (maybe some n.SpaceOrTab x ∷ []) (line_runs heading.Apart white p)
 white-leads text x [] p w = (false, λ outer. refl)
 white-leads text x (b ∷ bs) p w = (true, λ outer. rw (white-runs b bs p w) refl)
 
 -- a sequence
-hashes-leads : (text x : Expression) (b : ℕ) (hashes : List ℕ) (p : Point) → AllPass is_hash (b ∷ hashes) → Leads text (x ∷ []) (behind n.HeadingAtxSequence x ∷ []) (line_runs heading.Apart (b ∷ hashes) p)
+hashes-leads : (text x : Expression) (b : ℕ) (hashes : List ℕ) (p : Point) → AllPass is_hash (b ∷ hashes) →
+    Leads text (x ∷ []) (behind n.HeadingAtxSequence x ∷ []) (line_runs heading.Apart (b ∷ hashes) p)
 hashes-leads text x b hashes p h outer = rw (hash-runs b hashes p h) refl
 
 -- what is left of a heading behind its opening sequence
@@ -82,7 +86,8 @@ abbrev opened : Expression
 opened = behind n.HeadingAtxSequence (inside Nothing n.HeadingAtx)
 
 -- the front of a heading: whitespace, a sequence, and whitespace
-front-leads : (text : Expression) (line : List ℕ) (p : Point) → heading.is_heading (trim_start line) ≡ true → (gap : Bool) × Leads text (inside text n.HeadingAtx ∷ []) (maybe gap n.SpaceOrTab opened ∷ []) (title_of line p).front
+front-leads : (text : Expression) (line : List ℕ) (p : Point) → heading.is_heading (trim_start line) ≡ true →
+    (gap : Bool) × Leads text (inside text n.HeadingAtx ∷ []) (maybe gap n.SpaceOrTab opened ∷ []) (title_of line p).front
 front-leads text line p h = go x.hashes refl (white-leads text (inside text n.HeadingAtx) x.indent p x.indent_is)
   where
     x : Parted line
@@ -113,8 +118,8 @@ front-leads text line p h = go x.hashes refl (white-leads text (inside text n.He
         subst (λ (l : List ℕ). Leads text indent (opened ∷ []) (line_runs heading.Apart l p1)) (sym some) (sequence b bs (subst (AllPass is_hash) some x.hashes_are) w.0) in (
           gap.0,
           subst (Leads text (inside text n.HeadingAtx ∷ []) (maybe gap.0 n.SpaceOrTab opened ∷ [])) (sym whole)
-          (leads-append text (inside text n.HeadingAtx ∷ []) indent (maybe gap.0 n.SpaceOrTab opened ∷ []) (line_runs heading.Apart x.indent p) (line_runs heading.Apart x.hashes p1 ++ line_runs heading.Apart x.gap p2) w.1
-          (leads-append text indent (opened ∷ []) (maybe gap.0 n.SpaceOrTab opened ∷ []) (line_runs heading.Apart x.hashes p1) (line_runs heading.Apart x.gap p2) marks gap.1)),
+              (leads-append text (inside text n.HeadingAtx ∷ []) indent (maybe gap.0 n.SpaceOrTab opened ∷ []) (line_runs heading.Apart x.indent p) (line_runs heading.Apart x.hashes p1 ++ line_runs heading.Apart x.gap p2) w.1
+              (leads-append text indent (opened ∷ []) (maybe gap.0 n.SpaceOrTab opened ∷ []) (line_runs heading.Apart x.hashes p1) (line_runs heading.Apart x.gap p2) marks gap.1)),
         )
 
 -- What stands behind the text: whitespace, a sequence and whitespace, each of which may stand there or not.
@@ -136,9 +141,10 @@ closing-leads text x b hashes white p h w =
     let more : (some : Bool) × Leads text (closed ∷ []) (maybe some n.SpaceOrTab closed ∷ []) (line_runs heading.Apart white q) = white-leads text closed white q w in (
       more.0,
       subst (Leads text (x ∷ []) (maybe more.0 n.SpaceOrTab closed ∷ [])) (sym (hashes-cut b hashes white p h w))
-      (leads-append text (x ∷ []) (closed ∷ []) (maybe more.0 n.SpaceOrTab closed ∷ []) (line_runs heading.Apart (b ∷ hashes) p) (line_runs heading.Apart white q) (hashes-leads text x b hashes p h) more.1),
+          (leads-append text (x ∷ []) (closed ∷ []) (maybe more.0 n.SpaceOrTab closed ∷ []) (line_runs heading.Apart (b ∷ hashes) p) (line_runs heading.Apart white q) (hashes-leads text x b hashes p h) more.1),
     )
 
+-- so it is, however a heading ends
 back-leads : (text x : Expression) (words back : List ℕ) (p : Point) → Shape words back → Back text x (line_runs heading.Apart back p)
 back-leads text x words back p (Empty none nil) = record { gap = false; closed = false; white = false; leads = λ outer. rw nil refl }
 back-leads text x words back p (Closed b hashes white none is h w) =
@@ -163,6 +169,7 @@ back-leads text x words back p (Behind c gap b hashes white run is g h w) =
 abbrev of_both : (Bool → Bool) → Bool
 of_both f = f true && f false
 
+-- each of them passes it
 each-of : (f : Bool → Bool) → of_both f ≡ true → (b : Bool) → f b ≡ true
 each-of f h true = (and_parts (f true) (f false) h).0
 each-of f h false = (and_parts (f true) (f false) h).1
@@ -171,6 +178,7 @@ each-of f h false = (and_parts (f true) (f false) h).1
 abbrev title_ends : Bool → Bool → Bool → Bool → Bool → Bool
 title_ends space some gap closed white = may_end (behind_text gap closed white (maybe some n.HeadingAtxText (maybe space n.SpaceOrTab opened)))
 
+-- whatever stands there
 title-ends : (space some gap closed white : Bool) → title_ends space some gap closed white ≡ true
 title-ends space some gap closed white =
     each-of (λ w. title_ends space some gap closed w)
@@ -180,7 +188,8 @@ title-ends space some gap closed white =
     (each-of (λ s. of_both (λ t. of_both (λ g. of_both (λ c. of_both (λ w. title_ends s t g c w))))) refl space) some) gap) closed) white
 
 -- A heading, with a text or without.
-pub title-word : (text : Expression) (line : List ℕ) (p : Point) (some : Bool) (events : List Event) → heading.is_heading (trim_start line) ≡ true → ((x : Expression) → Leads text (x ∷ []) (maybe some n.HeadingAtxText x ∷ []) events) →
+pub title-word : (text : Expression) (line : List ℕ) (p : Point) (some : Bool) (events : List Event) → heading.is_heading (trim_start line) ≡ true →
+    ((x : Expression) → Leads text (x ∷ []) (maybe some n.HeadingAtxText x ∷ []) events) →
     IsWord text (inside text n.HeadingAtx ∷ []) ((title_of line p).front ++ events ++ (title_of line p).back)
 title-word text line p some events h on =
     let front : (gap : Bool) × Leads text (inside text n.HeadingAtx ∷ []) (maybe gap n.SpaceOrTab opened ∷ []) (title_of line p).front = front-leads text line p h in

@@ -6,7 +6,7 @@ use Rattle.md_engine.specs.declared.event.Event.{Event}
 use Rattle.md_engine.specs.declared.event.Name.{Name}
 use Rattle.md_engine.specs.declared.event.Name.TheVariants as n
 use Rattle.md_engine.specs.declared.event.Point.{Point}
-use Rattle.md_seam.specs.Grammar.{Expression, Many, Never, Nothing, One, Or, Then, behind, behind_block, blocks, inside, is_whole, keeps_grammar, left_behind, left_of, may_end, one}
+use Rattle.md_seam.specs.Grammar.{Expression, Then, behind, behind_block, blocks, inside, is_whole, keeps_grammar, left_behind, left_of, may_end, one}
 use Rattle.md_seam.specs.Inline.{pair_unless_empty}
 use Rattle.md_seam.specs.Nested.{around, enter, exit, pair}
 use Rattle.md_seam.specs.Places.{same_place}
@@ -14,7 +14,8 @@ use Rattle.md_seam.specs.Places.{same_place}
 -- Pieces.
 
 -- events one behind the other
-pub left_of-append : (text : Expression) (stack : List Expression) (xs ys : List Event) → left_of text stack (xs ++ ys) ≡ left_of text (left_of text stack xs) ys
+pub left_of-append : (text : Expression) (stack : List Expression) (xs ys : List Event) →
+    left_of text stack (xs ++ ys) ≡ left_of text (left_of text stack xs) ys
 left_of-append text stack [] ys = refl
 left_of-append text stack (e ∷ xs) ys = left_of-append text (left_behind text stack e.kind e.name) xs ys
 
@@ -23,10 +24,13 @@ abbrev pub Leads : Expression → List Expression → List Expression → List E
 Leads text from to es = (outer : List Expression) → left_of text (from ++ outer) es ≡ to ++ outer
 
 -- what is left behind them
-pub leads-rest : (text : Expression) (a b outer : List Expression) (xs ys : List Event) → Leads text a b xs → left_of text (a ++ outer) (xs ++ ys) ≡ left_of text (b ++ outer) ys
+pub leads-rest : (text : Expression) (a b outer : List Expression) (xs ys : List Event) → Leads text a b xs →
+    left_of text (a ++ outer) (xs ++ ys) ≡ left_of text (b ++ outer) ys
 leads-rest text a b outer xs ys h = left_of-append text (a ++ outer) xs ys ∙ ap (λ (l : List Expression). left_of text l ys) (h outer)
 
-pub leads-append : (text : Expression) (a b c : List Expression) (xs ys : List Event) → Leads text a b xs → Leads text b c ys → Leads text a c (xs ++ ys)
+-- one behind the other
+pub leads-append : (text : Expression) (a b c : List Expression) (xs ys : List Event) → Leads text a b xs → Leads text b c ys →
+    Leads text a c (xs ++ ys)
 leads-append text a b c xs ys h k outer = leads-rest text a b outer xs ys h ∙ k outer
 
 -- events that are a word of what is open
@@ -35,6 +39,7 @@ pub record IsWord (text : Expression) (from : List Expression) (es : List Event)
   pub leads : Leads text from (left ∷ []) es
   pub ends : may_end left ≡ true
 
+-- a word behind such events
 pub word-behind : (text : Expression) (a b : List Expression) (xs ys : List Event) → Leads text a b xs → IsWord text b ys → IsWord text a (xs ++ ys)
 word-behind text a b xs ys h w = record { left = w.left; leads = leads-append text a b (w.left ∷ []) xs ys h w.leads; ends = w.ends }
 
@@ -43,7 +48,8 @@ leads-exit : (text left x : Expression) (name : Name) (p : Point) → may_end le
 leads-exit text left x name p e outer = ap (λ (b : Bool). cond b (x ∷ outer) []) e
 
 -- a part around such a word
-pub leads-around : (text x : Expression) (name : Name) (p q : Point) (es : List Event) → IsWord text (inside text name ∷ []) es → Leads text (x ∷ []) (behind name x ∷ []) (around name p q es)
+pub leads-around : (text x : Expression) (name : Name) (p q : Point) (es : List Event) → IsWord text (inside text name ∷ []) es →
+    Leads text (x ∷ []) (behind name x ∷ []) (around name p q es)
 leads-around text x name p q es w outer =
     left_of-append text (inside text name ∷ behind name x ∷ outer) es (exit name q ∷ [])
     ∙ ap (λ (l : List Expression). left_of text l (exit name q ∷ [])) (w.leads (behind name x ∷ outer))
@@ -54,10 +60,13 @@ abbrev pub maybe : Bool → Name → Expression → Expression
 maybe some name x = cond some (behind name x) x
 
 -- a part with nothing inside, and one if it is not empty
-pub leads-pair : (text x : Expression) (name : Name) (p q : Point) → may_end (inside text name) ≡ true → Leads text (x ∷ []) (behind name x ∷ []) (pair name p q)
+pub leads-pair : (text x : Expression) (name : Name) (p q : Point) → may_end (inside text name) ≡ true →
+    Leads text (x ∷ []) (behind name x ∷ []) (pair name p q)
 leads-pair text x name p q e outer = leads-exit text (inside text name) (behind name x) name q e outer
 
-pub leads-unless : (text x : Expression) (name : Name) (p q : Point) → may_end (inside text name) ≡ true → (some : Bool) × Leads text (x ∷ []) (maybe some name x ∷ []) (pair_unless_empty name p q)
+-- and one that may be empty
+pub leads-unless : (text x : Expression) (name : Name) (p q : Point) → may_end (inside text name) ≡ true →
+    (some : Bool) × Leads text (x ∷ []) (maybe some name x ∷ []) (pair_unless_empty name p q)
 leads-unless text x name p q e = go (same_place p q)
   where
     go : (empty : Bool) → (some : Bool) × Leads text (x ∷ []) (maybe some name x ∷ []) (cond empty [] (pair name p q))
@@ -70,6 +79,7 @@ leads-unless text x name p q e = go (same_place p q)
 abbrev prefix_part : Point → Point → Point → List Event
 prefix_part marker past q = enter n.BlockQuotePrefix marker ∷ enter n.BlockQuoteMarker marker ∷ exit n.BlockQuoteMarker past ∷ pair_unless_empty n.SpaceOrTab past q ++ exit n.BlockQuotePrefix q ∷ []
 
+-- it may stand where that is left behind it
 leads-part : (text x : Expression) (marker past q : Point) → Leads text (x ∷ []) (behind n.BlockQuotePrefix x ∷ []) (prefix_part marker past q)
 leads-part text x marker past q outer = go (same_place past q)
   where
@@ -78,7 +88,8 @@ leads-part text x marker past q outer = go (same_place past q)
     go false = refl
 
 -- a prefix may stand where that is left behind it, with whitespace in front of it or not
-pub leads-prefix : (text x y : Expression) (p marker past q : Point) → behind n.BlockQuotePrefix x ≡ y → behind n.BlockQuotePrefix (behind n.SpaceOrTab x) ≡ y →
+pub leads-prefix : (text x y : Expression) (p marker past q : Point) → behind n.BlockQuotePrefix x ≡ y →
+    behind n.BlockQuotePrefix (behind n.SpaceOrTab x) ≡ y →
     Leads text (x ∷ []) (y ∷ []) (pair_unless_empty n.SpaceOrTab p marker ++ enter n.BlockQuotePrefix marker ∷ enter n.BlockQuoteMarker marker ∷ exit n.BlockQuoteMarker past ∷ pair_unless_empty n.SpaceOrTab past q ++ exit n.BlockQuotePrefix q ∷ [])
 leads-prefix text x y p marker past q h k = go (leads-unless text x n.SpaceOrTab p marker refl)
   where
@@ -104,7 +115,7 @@ leads-prefix text x y p marker past q h k = go (leads-unless text x n.SpaceOrTab
 
 -- A whole text.
 
--- blocks are a text, and so are a byte order mark and blocks
+-- blocks are a text,
 pub keeps-blocks : (text : Expression) (es : List Event) → is_whole (left_of text (blocks ∷ []) es) ≡ true → keeps_grammar text es ≡ true
 unfolding keeps_grammar
 keeps-blocks text es h = rw h refl
@@ -117,7 +128,9 @@ second-any f a b more h = rw h (go (f a))
     go true = refl
     go false = refl
 
-pub keeps-marked : (text : Expression) (p q : Point) (es : List Event) → is_whole (left_of text (blocks ∷ []) es) ≡ true → keeps_grammar text (pair n.ByteOrderMark p q ++ es) ≡ true
+-- and so are a byte order mark and blocks
+pub keeps-marked : (text : Expression) (p q : Point) (es : List Event) → is_whole (left_of text (blocks ∷ []) es) ≡ true →
+    keeps_grammar text (pair n.ByteOrderMark p q ++ es) ≡ true
 unfolding keeps_grammar
 keeps-marked text p q es h =
     second-any (λ (x : Expression). is_whole (left_of text (x ∷ []) (pair n.ByteOrderMark p q ++ es))) blocks (Then (one n.ByteOrderMark) blocks)
