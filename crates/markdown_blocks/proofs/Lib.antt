@@ -10,6 +10,7 @@ pub mod FrontFacts
 pub mod FrontLemmas
 pub mod FrontPlaces
 pub mod FrontNames
+pub mod WordsInside
 pub mod RowFacts
 pub mod ContainedLemmas
 pub mod HeadingSpread
@@ -35,10 +36,11 @@ pub mod SpelledRows
 pub mod StandsLemmas
 pub mod EachRow
 pub mod NestedRows
+pub mod GrammarFronts
+pub mod GrammarRows
 pub mod BetweenRows
 pub mod TreeRows
 pub mod TextQuoted
-pub mod GrammarRows
 pub mod PieceRows
 pub mod EndingRows
 pub mod Parses

@@ -20,6 +20,7 @@ use Rattle.markdown_blocks.specs.Rows.{HeadingRow, Row, TextRow, is_text, line_k
 use Rattle.markdown_blocks.proofs.FrontFacts.{Fronts}
 use Rattle.markdown_blocks.proofs.PieceFacts.{CutsFirst}
 use Rattle.markdown_blocks.proofs.PiecesLemmas.{Tiled}
+use Rattle.markdown_blocks.proofs.WordsInside.{Worded}
 
 -- what stands in a line that is no heading: nothing that the tree shows
 pub record IsInside (row : Row) : Type 0 where
@@ -28,6 +29,8 @@ pub record IsInside (row : Row) : Type 0 where
   pub forward : Forward row.first row.inside
   pub within : IsTrue (at_or_before (last_point row.first row.inside) row.end)
   pub covers : row.kind ≢ TextRow → Tiled row.first row.end row.inside
+  -- as the grammar of events wants it
+  pub words : Worded row.kind row.inside
 
 -- the rest of a line without its ending, behind the prefixes of its containers, as a row
 pub record IsRow (options : ParseOptions) (bytes line : List ℕ) (row : Row) : Type 0 where

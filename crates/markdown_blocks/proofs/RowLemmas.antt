@@ -46,6 +46,7 @@ use Rattle.markdown_blocks.proofs.PiecesLemmas.{Shut, Tiled, shut-exit, tiled-ap
 use Rattle.markdown_blocks.proofs.RestRows.{rest-cut, rest-ending, rest-length, rest-no_ending, rest-past, rest-row, rest-text, rest-whole, row_with}
 use Rattle.markdown_blocks.proofs.RowFacts.{AreRows, IsEnding, IsInside, IsLine, IsRow, behind_line}
 use Rattle.markdown_blocks.proofs.TitleNests.{either, Spans, spans-append}
+use Rattle.markdown_blocks.proofs.WordsInside.{inside-worded}
 
 -- Points go forward.
 
@@ -288,6 +289,7 @@ is-row options bytes row said line behind p rest off short h k one vs cut text =
       forward = inside.forward;
       within = subst (λ (q : Point). IsTrue (at_or_before (last_point p (inside_of options cells p (row_kind options cells))) q)) (sym end) inside.within;
       covers = row-tiled options cells p (row_kind options cells) refl other;
+      words = inside-worded options cells p (row_kind options cells) refl;
     } in
     record {
       kind = kind-spread options said line p rest off short h k one;

@@ -13,3 +13,4 @@ pub mod HeadingWalkLemmas
 pub mod TitleRuns
 pub mod TitleTexts
 pub mod TitleLemmas
+pub mod GrammarLeaves

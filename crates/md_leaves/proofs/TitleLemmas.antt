@@ -40,7 +40,7 @@ white-text [] h = refl
 white-text (b ∷ bs) h = ap not (pass-first is_white b bs h)
 
 -- a closing sequence, and the whitespace behind it
-hashes-cut : (b : ℕ) (hashes white : List ℕ) (p : Point) → AllPass is_hash (b ∷ hashes) → AllPass is_white white →
+pub hashes-cut : (b : ℕ) (hashes white : List ℕ) (p : Point) → AllPass is_hash (b ∷ hashes) → AllPass is_white white →
     line_runs Apart ((b ∷ hashes) ++ white) p ≡ line_runs Apart (b ∷ hashes) p ++ line_runs Apart white (past_text (b ∷ hashes) p)
 hashes-cut b hashes white p h w = runs-cut Apart (b ∷ hashes) white p (hashes-stop (b ∷ hashes) white h (white-hash white w))
 
@@ -159,7 +159,7 @@ given text back p q es start (Behind c gap b hashes white run is g h w) =
 -- The whole line.
 
 -- a heading has an opening sequence
-hashes-some : (line hashes : List ℕ) → length hashes ≡ run_len 35 (trim_start line) → is_heading (trim_start line) ≡ true → hashes ≡ [] → ⊥
+pub hashes-some : (line hashes : List ℕ) → length hashes ≡ run_len 35 (trim_start line) → is_heading (trim_start line) ≡ true → hashes ≡ [] → ⊥
 hashes-some line hashes depth h none =
     let some : nat_le 1 (run_len 35 (trim_start line)) ≡ true = (and_parts (nat_le 1 (run_len 35 (trim_start line))) (is_opening 0 (trim_start line)) h).0 in
     let zero : run_len 35 (trim_start line) ≡ 0 = sym depth ∙ ap length none in
@@ -175,7 +175,7 @@ parts-front : (line : List ℕ) (x : Parted line) → line ≡ (x.indent ++ (x.h
 parts-front line x = x.whole ∙ (simp append_assoc)
 
 -- where its parts are, by their lengths
-parts-take : (line : List ℕ) (x : Parted line) → take (front_len line) line ≡ x.indent ++ (x.hashes ++ x.gap)
+pub parts-take : (line : List ℕ) (x : Parted line) → take (front_len line) line ≡ x.indent ++ (x.hashes ++ x.gap)
 parts-take line x =
     let front = x.indent ++ (x.hashes ++ x.gap) in
     ap (take (front_len line)) (parts-front line x) ∙ take_at front (text_of line ++ x.back) (front_len line) (sym x.front)
@@ -191,7 +191,7 @@ parts-until line x =
     let size = front_len line + length (text_of line) in
     ap (take size) (parts-text line x) ∙ take_at ((x.indent ++ (x.hashes ++ x.gap)) ++ text_of line) x.back size (parts-size line x)
 
-parts-drop : (line : List ℕ) (x : Parted line) → drop (front_len line + length (text_of line)) line ≡ x.back
+pub parts-drop : (line : List ℕ) (x : Parted line) → drop (front_len line + length (text_of line)) line ≡ x.back
 parts-drop line x =
     let size = front_len line + length (text_of line) in
     ap (drop size) (parts-text line x) ∙ drop_at ((x.indent ++ (x.hashes ++ x.gap)) ++ text_of line) x.back size (parts-size line x)
@@ -212,7 +212,7 @@ title-fits line =
     omega arith
 
 -- the runs of a line, piece by piece
-front-runs : (line : List ℕ) (x : Parted line) (p : Point) →
+pub front-runs : (line : List ℕ) (x : Parted line) (p : Point) →
     let p1 = past_text x.indent p in
     let p2 = past_text x.hashes p1 in
     line_runs Apart (x.indent ++ (x.hashes ++ x.gap)) p ≡ line_runs Apart x.indent p ++ (line_runs Apart x.hashes p1 ++ line_runs Apart x.gap p2)

@@ -1,0 +1,107 @@
+-- What stands in front of a line and behind it keeps the grammar of events.
+use Rattle.std.proofs.Common.{◌≡◌, Bool, true, false, cond, ℕ, List, [], ◌∷◌, ◌++◌, refl, ap, sym, ◌∙◌, subst, append_assoc}
+use Rattle.md_engine.specs.declared.event.Event.{Event}
+use Rattle.md_engine.specs.declared.event.Name.{Name}
+use Rattle.md_engine.specs.declared.event.Name.TheVariants as n
+use Rattle.md_engine.specs.declared.event.Point.{Point}
+use Rattle.md_seam.specs.Grammar.{Expression, behind, behind_block, blocks, inside, left_of, may_end}
+use Rattle.md_seam.specs.Nested.{enter, exit, pair}
+use Rattle.md_seam.specs.State.{Container, InQuote}
+use Rattle.md_seam.proofs.GrammarLemmas.{Leads, leads-append, leads-prefix, leads-rest}
+use Rattle.markdown_blocks.specs.Change.{container_name, ends_of}
+use Rattle.markdown_blocks.specs.Rows.{BlankRow, BreakRow, HeadingRow, RowKind, TextRow, ending_of}
+use Rattle.markdown_blocks.proofs.FrontFacts.{Begins, Behind, Fronts, Goes, IsFurther, IsOpening, IsPrefix}
+use Rattle.markdown_blocks.proofs.FrontLemmas.{open_names}
+
+-- Open containers.
+
+-- what is left of the parts around blocks, where these names are open
+abbrev pub behinds : List Name → List Expression
+behinds [] = []
+behinds (name ∷ names) = behind_block ∷ behinds names
+
+-- some names around others
+pub behinds-append : (xs ys : List Name) → behinds (xs ++ ys) ≡ behinds xs ++ behinds ys
+behinds-append [] ys = refl
+behinds-append (name ∷ xs) ys = ap (λ (l : List Expression). behind_block ∷ l) (behinds-append xs ys)
+
+-- with one around them
+behinds-around : (xs : List Name) (name : Name) (outer : List Expression) → behinds (xs ++ name ∷ []) ++ outer ≡ behinds xs ++ (behind_block ∷ outer)
+behinds-around xs name outer = ap (λ (l : List Expression). l ++ outer) (behinds-append xs (name ∷ [])) ∙ append_assoc (behinds xs) (behind_block ∷ []) outer
+
+-- Fronts.
+
+-- a prefix of a quote
+prefix-leads : (text x y : Expression) (bytes : List ℕ) (p q : Point) (es : List Event) → behind n.BlockQuotePrefix x ≡ y →
+    behind n.BlockQuotePrefix (behind n.SpaceOrTab x) ≡ y → IsPrefix bytes p q es → Leads text (x ∷ []) (y ∷ []) es
+prefix-leads text x y bytes p q es h k is = subst (Leads text (x ∷ []) (y ∷ [])) (sym is.events) (leads-prefix text x y p is.marker is.behind q h k)
+
+-- what stands in front of the content of a container that goes on
+further-leads : (text x : Expression) (bytes : List ℕ) (c : Container) (p q : Point) (es : List Event) → behind n.BlockQuotePrefix x ≡ x →
+    behind n.BlockQuotePrefix (behind n.SpaceOrTab x) ≡ x → IsFurther bytes c p q es → Leads text (x ∷ []) (x ∷ []) es
+further-leads text x bytes InQuote p q es h k is = prefix-leads text x x bytes p q es h k is
+further-leads text x bytes c p q es h k is = absurd is
+
+-- and of one that opens, with its begin
+opening-leads : (text : Expression) (bytes : List ℕ) (c : Container) (p q : Point) (es : List Event) → IsOpening bytes c p q es →
+    Leads text (blocks ∷ []) (blocks ∷ behind_block ∷ []) (enter (container_name c) p ∷ es)
+opening-leads text bytes InQuote p q es is = λ outer. prefix-leads text (inside text n.BlockQuote) blocks bytes p q es refl refl is (behind_block ∷ outer)
+opening-leads text bytes c p q es is = absurd is
+
+-- in front of blocks, what stands there opens the containers that begin in it
+pub front-leads : (text : Expression) (bytes : List ℕ) (opens : List Container) (p q : Point) (front : List Event) → Fronts bytes opens p q front →
+    Leads text (blocks ∷ []) (blocks ∷ behinds (open_names opens)) front
+front-leads text bytes _ p _ _ (Behind _) = λ outer. refl
+front-leads text bytes opens p r _ (Goes c _ _ q _ es fs is more) =
+    leads-append text (blocks ∷ []) (blocks ∷ []) (blocks ∷ behinds (open_names opens)) es fs (further-leads text blocks bytes c p q es refl refl is) (front-leads text bytes opens q r fs more)
+front-leads text bytes _ p r _ (Begins c opens _ q _ es fs is more) =
+    let further : Leads text (blocks ∷ behind_block ∷ []) (blocks ∷ behinds (open_names opens ++ container_name c ∷ [])) fs =
+    λ outer. front-leads text bytes opens q r fs more (behind_block ∷ outer) ∙ ap (λ (l : List Expression). blocks ∷ l) (sym (behinds-around (open_names opens) (container_name c) outer)) in
+    leads-append text (blocks ∷ []) (blocks ∷ behind_block ∷ []) (blocks ∷ behinds (open_names opens ++ container_name c ∷ [])) (enter (container_name c) p ∷ es) fs (opening-leads text bytes c p q es is) further
+
+-- in front of a further line of a leaf, where prefixes may stand
+pub front-stays : (text x : Expression) (bytes : List ℕ) (opens : List Container) (p q : Point) (front : List Event) →
+    behind n.BlockQuotePrefix x ≡ x → behind n.BlockQuotePrefix (behind n.SpaceOrTab x) ≡ x → Fronts bytes opens p q front → opens ≡ [] →
+    Leads text (x ∷ []) (x ∷ []) front
+front-stays text x bytes _ p _ _ h k (Behind _) none = λ outer. refl
+front-stays text x bytes opens p r _ h k (Goes c _ _ q _ es fs is more) none =
+    leads-append text (x ∷ []) (x ∷ []) (x ∷ []) es fs (further-leads text x bytes c p q es h k is) (front-stays text x bytes opens q r fs h k more none)
+front-stays text x bytes _ p r _ h k (Begins c opens _ q _ es fs is more) none = cc
+
+-- Behind a line.
+
+-- what is left of blocks behind a block, and behind a blank line
+abbrev pub blocks_behind : Bool → Expression
+blocks_behind true = behind_block
+blocks_behind false = blocks
+
+-- a container may end there
+pub behind-ends : (block : Bool) → may_end (blocks_behind block) ≡ true
+behind-ends true = refl
+behind-ends false = refl
+
+-- containers end
+pub ends-lead : (text : Expression) (cs : List Container) (p : Point) (block : Bool) →
+    (after : Bool) × Leads text (blocks_behind block ∷ behinds (open_names cs)) (blocks_behind after ∷ []) (ends_of cs p)
+ends-lead text [] p block = (block, λ outer. refl)
+ends-lead text (c ∷ cs) p block =
+    let inner : (after : Bool) × Leads text (blocks_behind block ∷ behinds (open_names cs)) (blocks_behind after ∷ []) (ends_of cs p) = ends-lead text cs p block in
+    let name : Name = container_name c in (
+      true,
+      λ outer.
+          ap (λ (l : List Expression). left_of text (blocks_behind block ∷ l) (ends_of cs p ++ exit name p ∷ [])) (behinds-around (open_names cs) name outer)
+          ∙ leads-rest text (blocks_behind block ∷ behinds (open_names cs)) (blocks_behind inner.0 ∷ []) (behind_block ∷ outer) (ends_of cs p) (exit name p ∷ []) inner.1
+          ∙ ap (λ (b : Bool). cond b (behind_block ∷ outer) []) (behind-ends inner.0),
+    )
+
+-- and the line does
+pub ending-leads : (text : Expression) (kind : RowKind) (p q : Point) (block : Bool) →
+    Leads text (blocks_behind block ∷ []) (blocks ∷ []) (pair (ending_of kind) p q)
+ending-leads text BlankRow p q true outer = refl
+ending-leads text BlankRow p q false outer = refl
+ending-leads text HeadingRow p q true outer = refl
+ending-leads text HeadingRow p q false outer = refl
+ending-leads text BreakRow p q true outer = refl
+ending-leads text BreakRow p q false outer = refl
+ending-leads text TextRow p q true outer = refl
+ending-leads text TextRow p q false outer = refl
