@@ -20,6 +20,7 @@ use Rattle.md_engine.specs.declared.tokenizer.Frame.{Frame}
 use Rattle.md_engine.specs.Ends.{ends_at, name_of, point_of, put}
 use Rattle.md_engine.specs.Found.{Found, nothing, with_found}
 use Rattle.md_engine.specs.Meaning.{Accepts, comes_to, goes, here}
+use Rattle.md_engine.specs.Resolvers.{same_name}
 use Rattle.md_engine.specs.Run.{Flushes, IsEnd, Resolution, Resolved, Runs, goes_back, left, plain, reading}
 use Rattle.md_engine.specs.Run.Resolved.{More, NoneYet}
 use Rattle.md_engine.specs.Run.Runs.{Stays, ThenCalls, ThenLeaves}
@@ -124,24 +125,18 @@ goes-back k events names h = record {
   no_heading = λ e. others-take is_no_heading k events (h.no_heading e);
 }
 
--- what tells the two names
-record Tells (is_name : ResolveName → ResolveName → Bool) : Type 0 where
-  content : is_name r.Content r.Content ≡ true
-  heading : is_name r.HeadingAtx r.HeadingAtx ≡ true
-  no_content : is_name r.HeadingAtx r.Content ≡ false
-  no_heading : is_name r.Content r.HeadingAtx ≡ false
+-- the two resolvers of flow are registered each once
+content-named : (b c : Bool) → registered_before (same_name r.Content) (named b c) r.Content ≡ named true c
+content-named true true = refl
+content-named true false = refl
+content-named false true = refl
+content-named false false = refl
 
-content-named : (is_name : ResolveName → ResolveName → Bool) → Tells is_name → (b c : Bool) → registered_before (is_name r.Content) (named b c) r.Content ≡ named true c
-content-named is_name tells true true = rw tells.content refl
-content-named is_name tells true false = rw tells.content refl
-content-named is_name tells false true = rw tells.no_heading refl
-content-named is_name tells false false = refl
-
-heading-named : (is_name : ResolveName → ResolveName → Bool) → Tells is_name → (b c : Bool) → registered (is_name r.HeadingAtx) (named b c) r.HeadingAtx ≡ named b true
-heading-named is_name tells true true = rw (tells.no_content, tells.heading) refl
-heading-named is_name tells true false = rw tells.no_content refl
-heading-named is_name tells false true = rw tells.heading refl
-heading-named is_name tells false false = refl
+heading-named : (b c : Bool) → registered (same_name r.HeadingAtx) (named b c) r.HeadingAtx ≡ named b true
+heading-named true true = refl
+heading-named true false = refl
+heading-named false true = refl
+heading-named false false = refl
 
 blank-start : (w : World) (b : Bool) → Registers w → Registers (blank.start_code w b).world
 blank-start w true h = h
@@ -151,15 +146,15 @@ blank-after : (w : World) (b : Bool) → Registers w → Registers (blank.after_
 blank-after w true h = h
 blank-after w false h = h
 
-chunk-inside : (is_name : ResolveName → ResolveName → Bool) → Tells is_name → (w : World) (b : Bool) → Registers w → Registers (chunk_inside_code (is_name r.Content) w b).world
-chunk-inside is_name tells w true h = record {
+chunk-inside : (w : World) (b : Bool) → Registers w → Registers (chunk_inside_code (same_name r.Content) w b).world
+chunk-inside w true h = record {
   content = true;
   heading = h.heading;
-  names_are = ap (λ (x : List ResolveName). registered_before (is_name r.Content) x r.Content) h.names_are ∙ content-named is_name tells h.content h.heading;
+  names_are = ap (λ (x : List ResolveName). registered_before (same_name r.Content) x r.Content) h.names_are ∙ content-named h.content h.heading;
   no_content = λ k. cc;
   no_heading = λ k. others-append is_no_heading w.events (exit n.Content w.point ∷ []) (h.no_heading k) (refl, tt);
 }
-chunk-inside is_name tells w false h = h
+chunk-inside w false h = h
 
 -- ends of containers end no part of these
 others-drop : (test : Kind → Name → Bool) (k : ℕ) (es : List Event) → Others test es → Others test (drop k es)
@@ -239,17 +234,17 @@ heading-open w true b c h = h
 heading-open w false true c h = h
 heading-open w false false c h = heading-behind _ c (adds w.events _ w.resolvers refl refl h)
 
-heading-at : (is_name : ResolveName → ResolveName → Bool) → Tells is_name → (w : World) (a b c : Bool) → Registers w → Registers (heading.at_break_code (is_name r.HeadingAtx) w a b c).world
-heading-at is_name tells w true true c h = adds w.events _ w.resolvers refl refl h
-heading-at is_name tells w true false c h = adds w.events (enter_link n.Data w.point heading_link) w.resolvers refl refl h
-heading-at is_name tells w false b true h = record {
+heading-at : (w : World) (a b c : Bool) → Registers w → Registers (heading.at_break_code (same_name r.HeadingAtx) w a b c).world
+heading-at w true true c h = adds w.events _ w.resolvers refl refl h
+heading-at w true false c h = adds w.events (enter_link n.Data w.point heading_link) w.resolvers refl refl h
+heading-at w false b true h = record {
   content = h.content;
   heading = true;
-  names_are = ap (λ (x : List ResolveName). registered (is_name r.HeadingAtx) x r.HeadingAtx) h.names_are ∙ heading-named is_name tells h.content h.heading;
+  names_are = ap (λ (x : List ResolveName). registered (same_name r.HeadingAtx) x r.HeadingAtx) h.names_are ∙ heading-named h.content h.heading;
   no_content = λ k. others-append is_no_content w.events (exit n.HeadingAtx w.point ∷ []) (h.no_content k) (refl, tt);
   no_heading = λ k. cc;
 }
-heading-at is_name tells w false b false h = h
+heading-at w false b false h = h
 
 heading-further : (w : World) (a b : Bool) → Registers w → Registers (heading.sequence_further_code w a b).world
 heading-further w true b h = h
@@ -295,56 +290,56 @@ break-sequence w false true h = adds w.events _ w.resolvers refl refl h
 break-sequence w false false h = adds w.events _ w.resolvers refl refl h
 
 -- each state of flow keeps it
-went-registers : (is_name : ResolveName → ResolveName → Bool) → Tells is_name → (name : StateName) (w : World) → Registers w → Registers (flow_went is_name name w).world
-went-registers is_name tells s.BlankLineStart w h = blank-start w (sees_white w.current) h
-went-registers is_name tells s.BlankLineAfter w h = blank-after w (ends_line w.current) h
-went-registers is_name tells s.ContentChunkStart w h = adds w.events (enter_link n.Content w.point content_link) w.resolvers refl refl h
-went-registers is_name tells s.ContentChunkInside w h = chunk-inside is_name tells w (ends_line w.current) h
-went-registers is_name tells s.FlowStart w h = h
-went-registers is_name tells s.FlowBlankLineBefore w h = h
-went-registers is_name tells s.FlowBeforeHeadingAtx w h = h
-went-registers is_name tells s.FlowBeforeThematicBreak w h = h
-went-registers is_name tells s.FlowBeforeContent w h = h
-went-registers is_name tells s.FlowBlankLineAfter w h = h
-went-registers is_name tells s.FlowAfter w h = h
-went-registers is_name tells s.BlockQuoteStart w h = quote-start w w.setting.options.constructs.block_quote h
-went-registers is_name tells s.BlockQuoteContStart w h = quote-cont-start w (sees_white w.current) h
-went-registers is_name tells s.BlockQuoteContBefore w h = quote-cont-before w (is_current 62 w.current) h
-went-registers is_name tells s.BlockQuoteContAfter w h = quote-cont-after w (sees_white w.current) h
-went-registers is_name tells s.DocumentContainerExistingBefore w h = existing-before w (next_container w.flags) h
-went-registers is_name tells s.DocumentContainerExistingAfter w h = h
-went-registers is_name tells s.DocumentContainerNewBefore w h = h
-went-registers is_name tells s.DocumentContainerNewAfter w h = closed-registers w w.flags.continued w.flags.line_end h
-went-registers is_name tells s.DocumentContainersAfter w h = h
-went-registers is_name tells s.DocumentFlowEnd w h = flow-end (closed w (stays w.flags) w.flags.line_end) w.current (closed-registers w (stays w.flags) w.flags.line_end h)
-went-registers is_name tells s.HeadingAtxStart w h = heading-start w w.setting.options.constructs.heading_atx (sees_white w.current) h
-went-registers is_name tells s.HeadingAtxBefore w h = heading-before w (is_current 35 w.current) h
-went-registers is_name tells s.HeadingAtxSequenceOpen w h = heading-open w (is_current 35 w.current && nat_lt w.scratch.size 6) (sees_text w.current) (sees_white w.current) h
-went-registers is_name tells s.HeadingAtxAtBreak w h = heading-at is_name tells w (sees_text w.current) (is_current 35 w.current) (ends_line w.current) h
-went-registers is_name tells s.HeadingAtxSequenceFurther w h = heading-further w (is_current 35 w.current) (sees_white w.current) h
-went-registers is_name tells s.HeadingAtxData w h = heading-data w (sees_text w.current) (sees_white w.current) h
-went-registers is_name tells s.SpaceOrTabStart w h = white-start w (sees_white w.current && nat_lt 0 w.scratch.whitespace.max) h
-went-registers is_name tells s.SpaceOrTabInside w h = white-inside w (sees_white w.current && nat_lt w.scratch.whitespace.size w.scratch.whitespace.max) h
-went-registers is_name tells s.SpaceOrTabAfter w h = white-after w (nat_le w.scratch.whitespace.min w.scratch.whitespace.size) h
-went-registers is_name tells s.ThematicBreakStart w h = break-start w w.setting.options.constructs.thematic_break (sees_white w.current) h
-went-registers is_name tells s.ThematicBreakBefore w h = break-before w w.current h
-went-registers is_name tells s.ThematicBreakAtBreak w h = break-at w (is_current w.scratch.marker w.current) (ends_line w.current && nat_le 3 w.scratch.size) h
-went-registers is_name tells s.ThematicBreakSequence w h = break-sequence w (is_current w.scratch.marker w.current) (sees_white w.current) h
-went-registers is_name tells _ w h = h
+went-registers : (name : StateName) (w : World) → Registers w → Registers (flow_went same_name name w).world
+went-registers s.BlankLineStart w h = blank-start w (sees_white w.current) h
+went-registers s.BlankLineAfter w h = blank-after w (ends_line w.current) h
+went-registers s.ContentChunkStart w h = adds w.events (enter_link n.Content w.point content_link) w.resolvers refl refl h
+went-registers s.ContentChunkInside w h = chunk-inside w (ends_line w.current) h
+went-registers s.FlowStart w h = h
+went-registers s.FlowBlankLineBefore w h = h
+went-registers s.FlowBeforeHeadingAtx w h = h
+went-registers s.FlowBeforeThematicBreak w h = h
+went-registers s.FlowBeforeContent w h = h
+went-registers s.FlowBlankLineAfter w h = h
+went-registers s.FlowAfter w h = h
+went-registers s.BlockQuoteStart w h = quote-start w w.setting.options.constructs.block_quote h
+went-registers s.BlockQuoteContStart w h = quote-cont-start w (sees_white w.current) h
+went-registers s.BlockQuoteContBefore w h = quote-cont-before w (is_current 62 w.current) h
+went-registers s.BlockQuoteContAfter w h = quote-cont-after w (sees_white w.current) h
+went-registers s.DocumentContainerExistingBefore w h = existing-before w (next_container w.flags) h
+went-registers s.DocumentContainerExistingAfter w h = h
+went-registers s.DocumentContainerNewBefore w h = h
+went-registers s.DocumentContainerNewAfter w h = closed-registers w w.flags.continued w.flags.line_end h
+went-registers s.DocumentContainersAfter w h = h
+went-registers s.DocumentFlowEnd w h = flow-end (closed w (stays w.flags) w.flags.line_end) w.current (closed-registers w (stays w.flags) w.flags.line_end h)
+went-registers s.HeadingAtxStart w h = heading-start w w.setting.options.constructs.heading_atx (sees_white w.current) h
+went-registers s.HeadingAtxBefore w h = heading-before w (is_current 35 w.current) h
+went-registers s.HeadingAtxSequenceOpen w h = heading-open w (is_current 35 w.current && nat_lt w.scratch.size 6) (sees_text w.current) (sees_white w.current) h
+went-registers s.HeadingAtxAtBreak w h = heading-at w (sees_text w.current) (is_current 35 w.current) (ends_line w.current) h
+went-registers s.HeadingAtxSequenceFurther w h = heading-further w (is_current 35 w.current) (sees_white w.current) h
+went-registers s.HeadingAtxData w h = heading-data w (sees_text w.current) (sees_white w.current) h
+went-registers s.SpaceOrTabStart w h = white-start w (sees_white w.current && nat_lt 0 w.scratch.whitespace.max) h
+went-registers s.SpaceOrTabInside w h = white-inside w (sees_white w.current && nat_lt w.scratch.whitespace.size w.scratch.whitespace.max) h
+went-registers s.SpaceOrTabAfter w h = white-after w (nat_le w.scratch.whitespace.min w.scratch.whitespace.size) h
+went-registers s.ThematicBreakStart w h = break-start w w.setting.options.constructs.thematic_break (sees_white w.current) h
+went-registers s.ThematicBreakBefore w h = break-before w w.current h
+went-registers s.ThematicBreakAtBreak w h = break-at w (is_current w.scratch.marker w.current) (ends_line w.current && nat_le 3 w.scratch.size) h
+went-registers s.ThematicBreakSequence w h = break-sequence w (is_current w.scratch.marker w.current) (sees_white w.current) h
+went-registers _ w h = h
 
 left-registers : (w : World) (outer : List Frame) (f : Frame) (b : Bool) → Registers w → Registers (left w outer f b)
 left-registers w outer f true h = goes-back f.events_len w.events w.resolvers h
 left-registers w outer f false h = h
 
 -- and so does a run
-runs-register : (is_name : ResolveName → ResolveName → Bool) (is_end : Bool) (s : State) (w : World) → Tells is_name → Registers w → (s' : State) (w' : World) → Runs (FlowStep is_name) is_end s w s' w' → Registers w'
-runs-register is_name is_end s w tells h s' w' Stays = h
-runs-register is_name is_end s w tells h s' w' (ThenLeaves t v t' v' run l) =
+runs-register : (is_end : Bool) (s : State) (w : World) → Registers w → (s' : State) (w' : World) → Runs (FlowStep same_name) is_end s w s' w' → Registers w'
+runs-register is_end s w h s' w' Stays = h
+runs-register is_end s w h s' w' (ThenLeaves t v t' v' run l) =
     let P : World → Type 0 = λ x. Registers x in
-    subst P (sym l.new) (left-registers v l.outer l.frame (goes_back l.frame t) (runs-register is_name is_end s w tells h t v run))
-runs-register is_name is_end s w tells h s' w' (ThenCalls t v t' v' run c) =
+    subst P (sym l.new) (left-registers v l.outer l.frame (goes_back l.frame t) (runs-register is_end s w h t v run))
+runs-register is_end s w h s' w' (ThenCalls t v t' v' run c) =
     let P : World → Type 0 = λ x. Registers x in
-    subst P (sym c.step.new_is) (went-registers is_name tells c.name (reading v) (runs-register is_name is_end s w tells h t v run))
+    subst P (sym c.step.new_is) (went-registers c.name (reading v) (runs-register is_end s w h t v run))
 
 -- Resolvers that ran.
 
@@ -454,27 +449,24 @@ sets-by R rows true at was found new none h = inr h
 sets-by R rows false at was found new none h = inl (record { no_heading = none refl; same = h.1; found_is = h.0 })
 
 -- what flow has read of a text from a point on, once all of it was pushed and flushed
-pub flow-reads : (is_name : ResolveName → ResolveName → Bool) (R : Resolution) (bytes : List ℕ) (options : ParseOptions) (p : Point) (end : State) (at : World) (found : Found) (new : World) → length bytes < 2 ^ 61 →
-    Runs (FlowStep is_name) false (Next s.DocumentContainerExistingBefore) (reads_to (fresh bytes options p) (length bytes)) end at →
-    Flushes (FlowStep is_name) R end at true found new → is_name r.Content r.Content ≡ true → is_name r.HeadingAtx r.HeadingAtx ≡ true → is_name r.Content r.HeadingAtx ≡ false → is_name r.HeadingAtx r.Content ≡ false →
+pub flow-reads : (R : Resolution) (bytes : List ℕ) (options : ParseOptions) (p : Point) (end : State) (at : World) (found : Found) (new : World) → length bytes < 2 ^ 61 →
+    Runs (FlowStep same_name) false (Next s.DocumentContainerExistingBefore) (reads_to (fresh bytes options p) (length bytes)) end at →
+    Flushes (FlowStep same_name) R end at true found new →
     FlowReads R bytes options p found new
-flow-reads is_name R bytes options p end at found new small run f c h ch hc =
-    go (runs-register is_name true end at tells (runs-register is_name false (Next s.DocumentContainerExistingBefore) (reads_to w0 (length bytes)) tells none-yet end at run) f.end f.at f.runs)
+flow-reads R bytes options p end at found new small run f =
+    go (runs-register true end at (runs-register false (Next s.DocumentContainerExistingBefore) (reads_to w0 (length bytes)) none-yet end at run) f.end f.at f.runs)
   where
     w0 : World
     w0 = fresh bytes options p
-
-    tells : Tells is_name
-    tells = record { content = c; heading = h; no_content = hc; no_heading = ch }
 
     begun : stands flow_table_scheme (reads_to (fresh bytes options p) (length bytes)) (Next s.DocumentContainerExistingBefore)
     begun = ((refl, record { ok = λ s q t is up way. tt; nok = λ s q t is up. tt }), tt)
 
     pushed : (comes_to (flow_behaves options) (text_feed (text_setting bytes options p)) (Next s.DocumentContainerExistingBefore) (fresh bytes options p) ≡ comes_to (flow_behaves options) (text_feed (text_setting bytes options p)) end at) × stands flow_table_scheme at (plain end)
-    pushed = flow_push is_name (Next s.DocumentContainerExistingBefore) end (fresh bytes options p) at (length bytes) (length bytes) small (omega arith) begun run
+    pushed = flow_push same_name (Next s.DocumentContainerExistingBefore) end (fresh bytes options p) at (length bytes) (length bytes) small (omega arith) begun run
 
     kept : at.setting ≡ text_setting bytes options p
-    kept = runs-setting (FlowStep is_name) false (Next s.DocumentContainerExistingBefore) (reads_to (fresh bytes options p) (length bytes)) end at run
+    kept = runs-setting (FlowStep same_name) false (Next s.DocumentContainerExistingBefore) (reads_to (fresh bytes options p) (length bytes)) end at run
 
     limit : at.setting.limit < 2 ^ 61
     limit = let P : Setting → Type 0 = λ y. y.limit < 2 ^ 61 in subst P (sym kept) small
@@ -487,7 +479,7 @@ flow-reads is_name R bytes options p end at found new small run f c h ch hc =
     out : flow_at options (text_cells bytes options p) (here (fresh bytes options p)) ≡ Accepts (here f.at) []
     out =
         let P : Setting → Type 0 = λ y. flow_at y.options (text_cells bytes options p) (here (fresh bytes options p)) ≡ Accepts (here f.at) [] in
-        subst P kept (flow_outcome is_name R end at true found new (text_cells bytes options p) (here (fresh bytes options p)) limit pushed.1 means f)
+        subst P kept (flow_outcome same_name R end at true found new (text_cells bytes options p) (here (fresh bytes options p)) limit pushed.1 means f)
 
     -- the run of a push and a flush, which ends with the text
     ends : (e : State) → IsEnd e → goes (flow_behaves at.setting.options) e (text_feed at.setting f.at.point) (here f.at) ≡ Accepts (here f.at) [] → (e ≡ Ok) × (text_feed at.setting f.at.point ≡ [])
@@ -500,18 +492,18 @@ flow-reads is_name R bytes options p end at found new small run f c h ch hc =
     ran_so : FlowRan bytes options p f.end f.at
     ran_so =
         let same : flow_at at.setting.options (text_cells bytes options p) (here (fresh bytes options p)) ≡ goes (flow_behaves at.setting.options) f.end (text_feed at.setting f.at.point) (here f.at) =
-        sym means ∙ flow_flush is_name R end at true found new limit pushed.1 f in
+        sym means ∙ flow_flush same_name R end at true found new limit pushed.1 f in
         let comes : goes (flow_behaves at.setting.options) f.end (text_feed at.setting f.at.point) (here f.at) ≡ Accepts (here f.at) [] =
-        sym same ∙ flow_outcome is_name R end at true found new (text_cells bytes options p) (here (fresh bytes options p)) limit pushed.1 means f in
+        sym same ∙ flow_outcome same_name R end at true found new (text_cells bytes options p) (here (fresh bytes options p)) limit pushed.1 means f in
         let done = ends f.end f.ends comes in
-        flow-ran is_name bytes options p f.end f.at small (runs-append (FlowStep is_name) true (Next s.DocumentContainerExistingBefore) (reads_to (fresh bytes options p) (length bytes)) end at f.end f.at (runs-at_end (FlowStep is_name) (Next s.DocumentContainerExistingBefore) (reads_to (fresh bytes options p) (length bytes)) end at run) f.runs)
+        flow-ran bytes options p f.end f.at small (runs-append (FlowStep same_name) true (Next s.DocumentContainerExistingBefore) (reads_to (fresh bytes options p) (length bytes)) end at f.end f.at (runs-at_end (FlowStep same_name) (Next s.DocumentContainerExistingBefore) (reads_to (fresh bytes options p) (length bytes)) end at run) f.runs)
         done.0 f.none_left (ap (λ (x : Setting). text_feed x f.at.point) (sym kept) ∙ done.1)
 
     events : f.at.events ≡ rows_events (text_rows options bytes p)
     events = flow_at-rows options (text_cells bytes options p) (here (fresh bytes options p)) (here f.at) [] refl refl refl refl refl refl refl out
 
     setting : f.at.setting ≡ text_setting bytes options p
-    setting = runs-setting (FlowStep is_name) true end at f.end f.at f.runs ∙ kept
+    setting = runs-setting (FlowStep same_name) true end at f.end f.at f.runs ∙ kept
 
     go : Registers f.at → FlowReads R bytes options p found new
     go registers =
@@ -534,15 +526,17 @@ flow-reads is_name R bytes options p end at found new small run f c h ch hc =
           sets = sets-by R (text_rows options bytes p) registers.heading ran.mid ran.mid_found found new (λ e. no-heading (text_rows options bytes p) (subst Q events (registers.no_heading e))) ran.sets;
         }
 
--- the same for a tokenizer that is known to be fresh
-pub flow-reads-from : (is_name : ResolveName → ResolveName → Bool) (R : Resolution) (bytes : List ℕ) (options : ParseOptions) (p : Point) (start : World) (to : ℕ) (end : State) (at : World) (found : Found) (new : World) → start ≡ fresh bytes options p → to ≡ length bytes → length bytes < 2 ^ 61 →
-    Runs (FlowStep is_name) false (Next s.DocumentContainerExistingBefore) (reads_to start to) end at →
-    Flushes (FlowStep is_name) R end at true found new → is_name r.Content r.Content ≡ true → is_name r.HeadingAtx r.HeadingAtx ≡ true → is_name r.Content r.HeadingAtx ≡ false → is_name r.HeadingAtx r.Content ≡ false →
-    FlowReads R bytes options p found new
-flow-reads-from is_name R bytes options p start to end at found new same all small run f c h ch hc =
-    let P : World → Type 0 = λ w. Runs (FlowStep is_name) false (Next s.DocumentContainerExistingBefore) (reads_to w (length bytes)) end at in
-    let Q : ℕ → Type 0 = λ n. Runs (FlowStep is_name) false (Next s.DocumentContainerExistingBefore) (reads_to start n) end at in
-    flow-reads is_name R bytes options p end at found new small (subst P same (subst Q all run)) f c h ch hc
+-- the same for a tokenizer that is known to be fresh, whose test of names is known to be that one
+pub flow-reads-from : (is_name : ResolveName → ResolveName → Bool) (R : Resolution) (bytes : List ℕ) (options : ParseOptions) (p : Point) (start : World) (to : ℕ) (end : State) (at : World) (found : Found) (new : World) →
+    ((a b : ResolveName) → is_name a b ≡ same_name a b) → start ≡ fresh bytes options p → to ≡ length bytes → length bytes < 2 ^ 61 →
+    Runs (FlowStep is_name) false (Next s.DocumentContainerExistingBefore) (reads_to start to) end at → Flushes (FlowStep is_name) R end at true found new → FlowReads R bytes options p found new
+flow-reads-from is_name R bytes options p start to end at found new names same all small run f =
+    let named : is_name ≡ same_name = λ i a b. names a b i in
+    let P : World → Type 0 = λ w. Runs (FlowStep same_name) false (Next s.DocumentContainerExistingBefore) (reads_to w (length bytes)) end at in
+    let Q : ℕ → Type 0 = λ n. Runs (FlowStep same_name) false (Next s.DocumentContainerExistingBefore) (reads_to start n) end at in
+    let S : (ResolveName → ResolveName → Bool) → Type 0 = λ t. Runs (FlowStep t) false (Next s.DocumentContainerExistingBefore) (reads_to start to) end at in
+    let F : (ResolveName → ResolveName → Bool) → Type 0 = λ t. Flushes (FlowStep t) R end at true found new in
+    flow-reads R bytes options p end at found new small (subst P same (subst Q all (subst S named run))) (subst F named f)
 
 -- What is known behind the resolvers of flow.
 

@@ -2,9 +2,9 @@
 use Rattle.std.proofs.Common.{◌≡◌, ℕ, zero, suc, ◌^◌, ◌<◌, ◌≤◌, Bool, true, false, List, [], ◌∷◌, length, take, drop, refl, ap, sym, ◌∙◌, subst}
 use Rattle.md_engine.specs.declared.configuration.ParseOptions.{ParseOptions}
 use Rattle.md_engine.specs.declared.event.Point.{Point}
-use Rattle.md_engine.specs.declared.resolve.Name.{Name as ResolveName}
 use Rattle.md_engine.specs.declared.state.State.{State}
 use Rattle.md_engine.specs.declared.state.State.TheVariants.{Ok}
+use Rattle.md_engine.specs.Resolvers.{same_name}
 use Rattle.md_engine.specs.Run.{Runs}
 use Rattle.md_engine.specs.TextFeed.{text_feed}
 use Rattle.md_engine.specs.World.{Flags, World}
@@ -80,12 +80,11 @@ stands-behind bytes options p n w built small index whole column is =
     record { frames = is.frames; further = is.further; point = is.point; events = is.events; reading = all.0; reads = all.2; stands = all.1 }
 
 -- where all of it was read
-pub flow-ran : (is_name : ResolveName → ResolveName → Bool) (bytes : List ℕ) (options : ParseOptions) (p : Point) (end : State) (at : World) → length bytes < 2 ^ 61 →
-    Runs (FlowStep is_name) true line_begins (flow_begins bytes options p) end at → end ≡ Ok → at.frames ≡ [] → text_feed (text_setting bytes options p) at.point ≡ [] → FlowRan bytes options p end at
-flow-ran is_name bytes options p end at small run ok none done = record {
-  is_name = is_name;
+pub flow-ran : (bytes : List ℕ) (options : ParseOptions) (p : Point) (end : State) (at : World) → length bytes < 2 ^ 61 →
+    Runs (FlowStep same_name) true line_begins (flow_begins bytes options p) end at → end ≡ Ok → at.frames ≡ [] → text_feed (text_setting bytes options p) at.point ≡ [] → FlowRan bytes options p end at
+flow-ran bytes options p end at small run ok none done = record {
   run = run;
-  lines = lines-fed is_name bytes options p small end at run ok none done;
-  stands = λ built index whole column t v t' v' before call feeds. stands-behind bytes options p (suc (fed (FlowStep is_name) true line_begins (flow_begins bytes options p) t v before)) v' built small index whole column
-      (line-fed is_name bytes options p small t v t' v' before call feeds);
+  lines = lines-fed same_name bytes options p small end at run ok none done;
+  stands = λ built index whole column t v t' v' before call feeds. stands-behind bytes options p (suc (fed (FlowStep same_name) true line_begins (flow_begins bytes options p) t v before)) v' built small index whole column
+      (line-fed same_name bytes options p small t v t' v' before call feeds);
 }

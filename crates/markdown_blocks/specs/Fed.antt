@@ -3,11 +3,11 @@
 use Rattle.std.specs.Prelude.{◌≡◌, ℕ, zero, suc, ◌+◌, ◌<◌, ◌≤◌, Bool, true, ◌==◌, if◌then◌else◌, List, [], ◌∷◌, length, map, take, drop, Option, Some}
 use Rattle.md_engine.specs.declared.configuration.ParseOptions.{ParseOptions}
 use Rattle.md_engine.specs.declared.event.Point.{Point}
-use Rattle.md_engine.specs.declared.resolve.Name.{Name as ResolveName}
 use Rattle.md_engine.specs.declared.state.Name.{Name as StateName}
 use Rattle.md_engine.specs.declared.state.Name.TheVariants as s
 use Rattle.md_engine.specs.declared.state.State.{State}
 use Rattle.md_engine.specs.declared.state.State.TheVariants.{Next}
+use Rattle.md_engine.specs.Resolvers.{same_name}
 use Rattle.md_engine.specs.Run.{Calls, Runs, Step}
 use Rattle.md_engine.specs.Run.Runs.{Stays, ThenCalls, ThenLeaves}
 use Rattle.md_engine.specs.World.{World, fresh, looks, reads_to}
@@ -92,11 +92,9 @@ line_begins = Next s.DocumentContainerExistingBefore
 
 -- Flow has read a text, from a point on, and has come to this.
 pub record FlowRan (bytes : List ℕ) (options : ParseOptions) (p : Point) (end : State) (at : World) : Type 0 where
-  -- whether two names of resolvers are the same
-  pub is_name : ResolveName → ResolveName → Bool
-  pub run : Runs (FlowStep is_name) true line_begins (flow_begins bytes options p) end at
+  pub run : Runs (FlowStep same_name) true line_begins (flow_begins bytes options p) end at
   -- all lines were fed but the last, which ends where the text does,
-  pub lines : suc (fed (FlowStep is_name) true line_begins (flow_begins bytes options p) end at run) ≡ length (text_rows options bytes p)
+  pub lines : suc (fed (FlowStep same_name) true line_begins (flow_begins bytes options p) end at run) ≡ length (text_rows options bytes p)
   -- and whenever one had been fed, what the tokenizer held stood for what is open behind the lines so far
-  pub stands : IsBuilt options → p.index ≤ length bytes → p.vs ≡ 0 → 1 ≤ p.column → (t : State) (v : World) (t' : State) (v' : World) (before : Runs (FlowStep is_name) true line_begins (flow_begins bytes options p) t v) (call : Calls (FlowStep is_name) true t v t' v') →
-      feeds call.name (looks v) ≡ 1 → StandsBehind bytes options p (suc (fed (FlowStep is_name) true line_begins (flow_begins bytes options p) t v before)) v'
+  pub stands : IsBuilt options → p.index ≤ length bytes → p.vs ≡ 0 → 1 ≤ p.column → (t : State) (v : World) (t' : State) (v' : World) (before : Runs (FlowStep same_name) true line_begins (flow_begins bytes options p) t v) (call : Calls (FlowStep same_name) true t v t' v') →
+      feeds call.name (looks v) ≡ 1 → StandsBehind bytes options p (suc (fed (FlowStep same_name) true line_begins (flow_begins bytes options p) t v before)) v'

@@ -7,5 +7,6 @@ pub mod Closing
 pub mod Loops
 pub mod Keeps
 pub mod StepOf
+pub mod ResolverNames
 pub mod Standing
 pub mod TextFeed

@@ -1,6 +1,7 @@
 pub mod Place
 pub mod Sound
 pub mod World
+pub mod Resolvers
 pub mod Ends
 pub mod Found
 pub mod Run

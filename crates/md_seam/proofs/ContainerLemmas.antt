@@ -1,5 +1,5 @@
 -- What a container that opens leaves of a line is shorter than the line, so there is an end to containers.
-use Rattle.std.proofs.Common.{◌≡◌, ℕ, zero, suc, ◌+◌, ◌-◌, ◌%◌, ◌<◌, ◌≤◌, Bool, true, false, cond, ◌==◌, ◌&&◌, List, [], ◌∷◌, length, drop, Option, Some, None, ap, arith}
+use Rattle.std.proofs.Common.{ℕ, zero, suc, ◌+◌, ◌-◌, ◌%◌, ◌<◌, ◌≤◌, Bool, true, false, cond, ◌==◌, ◌&&◌, List, [], ◌∷◌, length, drop, Option, Some, None, arith}
 use Rattle.std.specs.Option.{option_or}
 use Rattle.std.proofs.lemmas.List.{length-drop}
 use Rattle.md_engine.specs.declared.configuration.ParseOptions.{ParseOptions}
@@ -8,6 +8,7 @@ use Rattle.md_seam.specs.Preamble.{rest_at}
 use Rattle.md_seam.specs.Rest.{Rest, behind, behind_indent, indent, lose, without_column}
 use Rattle.md_seam.specs.State.{InQuote}
 use Rattle.md_seam.proofs.ColumnLemmas.{footnote_from, item_from, quote_from}
+use Rattle.md_seam.proofs.FindsLemmas.{Finds, first-found, none-found, some-found, when-found}
 
 length-without_column : (column spaces : ℕ) (bytes : List ℕ) → length (without_column column spaces bytes).bytes ≤ length bytes
 length-without_column column (suc spaces) bytes = omega arith
@@ -24,22 +25,11 @@ length-lose zero r = omega arith
 length-lose (suc n) r = omega (arith, length-lose n (without_column r.column r.spaces r.bytes), length-without_column r.column r.spaces r.bytes)
 
 -- what is taken leaves fewer bytes than these
+abbrev Leaves : ℕ → Taken → Type 0
+Leaves n t = length t.rest.bytes < n
+
 abbrev pub LeavesFewer : Option Taken → ℕ → Type 0
-LeavesFewer o n = (t : Taken) → o ≡ Some t → length t.rest.bytes < n
-
-when-leaves : (x : Bool) (o : Option Taken) (n : ℕ) → LeavesFewer o n → LeavesFewer (cond x o None) n
-when-leaves true o n h = h
-when-leaves false o n h = λ t e. cc
-
-some-leaves : (u : Taken) (n : ℕ) → length u.rest.bytes < n → LeavesFewer (Some u) n
-some-leaves u n h = λ t e. let same : u ≡ t = cc in omega (arith, h, ap (λ (x : Taken). length x.rest.bytes) same)
-
-first-leaves : (o p : Option Taken) (n : ℕ) → LeavesFewer o n → LeavesFewer p n → LeavesFewer (option_or o p) n
-first-leaves None p n h k = k
-first-leaves (Some u) p n h k = h
-
-none-leaves : (n : ℕ) → LeavesFewer None n
-none-leaves n = λ t e. cc
+LeavesFewer o n = Finds o (Leaves n)
 
 -- what is taken behind an indent leaves fewer bytes than the line has
 behind-leaves : (o : Option Taken) (r : Rest) → LeavesFewer o (length (behind_indent r).bytes) → LeavesFewer o (length r.bytes)
@@ -49,39 +39,39 @@ quote-leaves : (options : ParseOptions) (k column spaces : ℕ) (bytes : List �
 quote-leaves options k column spaces [] = go _
   where
     go : (x : Bool) → LeavesFewer (cond (x && false) (Some (record { container = InQuote; rest = lose 1 (rest_at (column + 1) []) })) None) 0
-    go true = none-leaves 0
-    go false = none-leaves 0
-quote-leaves options k column spaces (b ∷ bytes) = when-leaves _ _ _ (some-leaves _ _ (omega (arith, length-lose 1 (rest_at (column + 1) bytes))))
+    go true = none-found (Leaves 0)
+    go false = none-found (Leaves 0)
+quote-leaves options k column spaces (b ∷ bytes) = when-found (Leaves _) _ _ (λ e. some-found (Leaves _) _ (omega (arith, length-lose 1 (rest_at (column + 1) bytes))))
 
 item-leaves : (options : ParseOptions) (interrupting : Bool) (k column spaces : ℕ) (bytes : List ℕ) → LeavesFewer (item_from options interrupting k (record { column = column; spaces = spaces; bytes = bytes })) (length bytes)
-item-leaves options interrupting k column spaces [] = when-leaves _ _ _ (none-leaves 0)
-item-leaves options interrupting k column spaces (b ∷ bytes) = when-leaves _ _ _ (go (list_marker (b ∷ bytes)))
+item-leaves options interrupting k column spaces [] = when-found (Leaves 0) _ _ (λ e. none-found (Leaves 0))
+item-leaves options interrupting k column spaces (b ∷ bytes) = when-found (Leaves _) _ _ (λ e. go (list_marker (b ∷ bytes)))
   where
     go : (marker : Option Marker) → LeavesFewer (item_by options interrupting k (record { column = column; spaces = spaces; bytes = b ∷ bytes }) marker) (length (b ∷ bytes))
-    go None = none-leaves _
+    go None = none-found (Leaves _)
     go (Some marker) =
         let n : ℕ = length marker.digits + 1 in
         let after : Rest = behind n (record { column = column; spaces = spaces; bytes = b ∷ bytes }) in
-        when-leaves _ _ _ (some-leaves _ _ (omega (arith, length-lose (item_padding after) after, length-drop n (b ∷ bytes))))
+        when-found (Leaves _) _ _ (λ e. some-found (Leaves _) _ (omega (arith, length-lose (item_padding after) after, length-drop n (b ∷ bytes))))
 
 footnote-leaves : (options : ParseOptions) (k column spaces : ℕ) (bytes : List ℕ) → LeavesFewer (footnote_from options k (record { column = column; spaces = spaces; bytes = bytes })) (length bytes)
-footnote-leaves options k column spaces [] = when-leaves _ _ _ (none-leaves 0)
-footnote-leaves options k column spaces (b ∷ bytes) = when-leaves _ _ _ (go (footnote_label false (drop 2 (b ∷ bytes))))
+footnote-leaves options k column spaces [] = when-found (Leaves 0) _ _ (λ e. none-found (Leaves 0))
+footnote-leaves options k column spaces (b ∷ bytes) = when-found (Leaves _) _ _ (λ e. go (footnote_label false (drop 2 (b ∷ bytes))))
   where
     go : (label : Option Labelled) → LeavesFewer (footnote_by (record { column = column; spaces = spaces; bytes = b ∷ bytes }) label) (length (b ∷ bytes))
-    go None = none-leaves _
+    go None = none-found (Leaves _)
     go (Some l) =
         let n : ℕ = length l.label + 4 in
         let from : Rest = behind n (record { column = column; spaces = spaces; bytes = b ∷ bytes }) in
-        when-leaves _ _ _ (some-leaves _ _ (omega (arith, length-lose (indent from) from, length-drop n (b ∷ bytes))))
+        when-found (Leaves _) _ _ (λ e. some-found (Leaves _) _ (omega (arith, length-lose (indent from) from, length-drop n (b ∷ bytes))))
 
 -- each container that opens takes a byte
 pub opens-leaves : (options : ParseOptions) (interrupting : Bool) (r : Rest) → LeavesFewer (opens options interrupting r) (length r.bytes)
 unfolding opens_quote quote_taken opens_item opens_footnote
 opens-leaves options interrupting r =
     let from : Rest = behind_indent r in
-    first-leaves (opens_quote options r) (option_or (opens_item options interrupting r) (opens_footnote options r)) (length r.bytes)
-    (when-leaves options.constructs.block_quote (quote_taken options r) (length r.bytes) (behind-leaves (quote_taken options r) r (quote-leaves options (indent r) from.column from.spaces from.bytes)))
-    (first-leaves (opens_item options interrupting r) (opens_footnote options r) (length r.bytes)
+    first-found (Leaves (length r.bytes)) (opens_quote options r) (option_or (opens_item options interrupting r) (opens_footnote options r))
+    (when-found (Leaves (length r.bytes)) options.constructs.block_quote (quote_taken options r) (λ e. behind-leaves (quote_taken options r) r (quote-leaves options (indent r) from.column from.spaces from.bytes)))
+    (first-found (Leaves (length r.bytes)) (opens_item options interrupting r) (opens_footnote options r)
     (behind-leaves (opens_item options interrupting r) r (item-leaves options interrupting (indent r) from.column from.spaces from.bytes))
     (behind-leaves (opens_footnote options r) r (footnote-leaves options (indent r) from.column from.spaces from.bytes)))

@@ -100,7 +100,8 @@ after_lines-quoted options line lines on h =
 
 -- Whole texts.
 
-abbrev tree_by : ParseOptions → Preamble → Blocks
+-- the tree of a text behind its preamble
+abbrev pub tree_by : ParseOptions → Preamble → Blocks
 tree_by options p = with_frontmatter p.front (grouped (closed options (steps options (At (spot_of End)) p.body)))
 
 -- a text with nothing before its body

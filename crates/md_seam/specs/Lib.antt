@@ -28,6 +28,7 @@ pub mod Leaves
 pub mod Step
 pub mod Grouped
 pub mod Meaning
+pub mod On
 pub mod Outline
 pub mod Wrapped
 pub mod Ahead
