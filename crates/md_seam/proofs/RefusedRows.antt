@@ -188,14 +188,38 @@ record Missing : Type 0 where
 missing : Missing
 unfolding keeps_grammar
 missing = record {
-  empty_paragraph = refl; bare_paragraph = refl; empty_heading_text = refl; break_behind_its_bytes = refl;
-  quote_behind_its_bytes = refl; bare_break = refl; heading_without_sequence = refl; setext_without_underline = refl;
-  code_without_indent = refl; code_without_line = refl; code_without_fence = refl; meta_without_info = refl;
-  empty_html = refl; open_frontmatter = refl; definition_without_destination = refl; definition_without_label = refl;
-  title_without_markers = refl; footnote_without_label = refl; footnote_without_text = refl; quote_without_prefix =
-  refl; prefix_without_marker = refl; item_without_prefix = refl; item_without_marker = refl; list_without_item =
-  refl; table_without_head = refl; head_without_delimiters = refl; row_without_cell = refl; empty_cell = refl;
-  delimiters_without_filler = refl }
+  empty_paragraph = refl;
+  bare_paragraph = refl;
+  empty_heading_text = refl;
+  break_behind_its_bytes = refl;
+  quote_behind_its_bytes = refl;
+  bare_break = refl;
+  heading_without_sequence = refl;
+  setext_without_underline = refl;
+  code_without_indent = refl;
+  code_without_line = refl;
+  code_without_fence = refl;
+  meta_without_info = refl;
+  empty_html = refl;
+  open_frontmatter = refl;
+  definition_without_destination = refl;
+  definition_without_label = refl;
+  title_without_markers = refl;
+  footnote_without_label = refl;
+  footnote_without_text = refl;
+  quote_without_prefix =
+      refl;
+  prefix_without_marker = refl;
+  item_without_prefix = refl;
+  item_without_marker = refl;
+  list_without_item =
+      refl;
+  table_without_head = refl;
+  head_without_delimiters = refl;
+  row_without_cell = refl;
+  empty_cell = refl;
+  delimiters_without_filler = refl;
+}
 
 -- What stands too often, or in the wrong place.
 
@@ -347,15 +371,43 @@ record Misplaced : Type 0 where
 misplaced : Misplaced
 unfolding keeps_grammar
 misplaced = record {
-  content_around = refl; paragraph_in_paragraph = refl; two_blocks_on_a_line = refl; heading_over_ending = refl;
-  heading_in_heading = refl; two_heading_texts = refl; underline_in_front = refl; underline_on_the_line = refl;
-  text_in_break = refl; two_code_lines = refl; indent_in_fenced_code = refl; two_infos = refl; third_fence = refl;
-  fence_in_math = refl; frontmatter_line_in_code = refl; math_line_in_code = refl; three_pieces_of_html = refl;
-  two_pieces_of_later_html = refl; two_labels = refl; paragraph_in_definition = refl; two_destinations = refl;
-  label_outside_prefix = refl; marker_outside_prefix = refl; paragraph_in_list = refl; item_outside_list = refl;
-  two_items_on_a_line = refl; list_over_ending = refl; value_behind_marker = refl; two_item_prefixes = refl;
-  row_outside = refl; two_heads = refl; delimiters_in_body = refl; two_cell_texts = refl; frontmatter_behind = refl;
-  frontmatter_in_quote = refl; mark_behind = refl }
+  content_around = refl;
+  paragraph_in_paragraph = refl;
+  two_blocks_on_a_line = refl;
+  heading_over_ending = refl;
+  heading_in_heading = refl;
+  two_heading_texts = refl;
+  underline_in_front = refl;
+  underline_on_the_line = refl;
+  text_in_break = refl;
+  two_code_lines = refl;
+  indent_in_fenced_code = refl;
+  two_infos = refl;
+  third_fence = refl;
+  fence_in_math = refl;
+  frontmatter_line_in_code = refl;
+  math_line_in_code = refl;
+  three_pieces_of_html = refl;
+  two_pieces_of_later_html = refl;
+  two_labels = refl;
+  paragraph_in_definition = refl;
+  two_destinations = refl;
+  label_outside_prefix = refl;
+  marker_outside_prefix = refl;
+  paragraph_in_list = refl;
+  item_outside_list = refl;
+  two_items_on_a_line = refl;
+  list_over_ending = refl;
+  value_behind_marker = refl;
+  two_item_prefixes = refl;
+  row_outside = refl;
+  two_heads = refl;
+  delimiters_in_body = refl;
+  two_cell_texts = refl;
+  frontmatter_behind = refl;
+  frontmatter_in_quote = refl;
+  mark_behind = refl;
+}
 
 -- Line endings.
 
@@ -388,8 +440,14 @@ record Endings : Type 0 where
 
 endings : Endings
 endings = record {
-  blank_ending_behind_paragraph = refl; ending_of_blank_line = refl; ending_of_bare_prefix = refl;
-  blank_ending_in_code = refl; blank_ending_behind_bare_item = refl; two_endings_in_one = refl; white_ending = refl }
+  blank_ending_behind_paragraph = refl;
+  ending_of_blank_line = refl;
+  ending_of_bare_prefix = refl;
+  blank_ending_in_code = refl;
+  blank_ending_behind_bare_item = refl;
+  two_endings_in_one = refl;
+  white_ending = refl;
+}
 
 -- What pieces are over.
 
@@ -467,10 +525,26 @@ record Contents : Type 0 where
 
 contents : Contents
 contents = record {
-  mark_over_letters = refl; quote_marker_over_space = refl; two_bytes_of_marker = refl; letters_as_value = refl;
-  ten_digits = refl; letter_as_heading = refl; hashes_as_underline = refl; mixed_underline = refl; break_over_spaces =
-  refl; two_backticks = refl; mixed_fence = refl; one_dollar = refl; code_over_lines = refl; short_frontmatter = refl;
-  letter_as_title_marker = refl; letter_as_divider = refl; nothing_as_white = refl; text_ends_in_tab = refl }
+  mark_over_letters = refl;
+  quote_marker_over_space = refl;
+  two_bytes_of_marker = refl;
+  letters_as_value = refl;
+  ten_digits = refl;
+  letter_as_heading = refl;
+  hashes_as_underline = refl;
+  mixed_underline = refl;
+  break_over_spaces =
+      refl;
+  two_backticks = refl;
+  mixed_fence = refl;
+  one_dollar = refl;
+  code_over_lines = refl;
+  short_frontmatter = refl;
+  letter_as_title_marker = refl;
+  letter_as_divider = refl;
+  nothing_as_white = refl;
+  text_ends_in_tab = refl;
+}
 
 -- Text parts.
 
@@ -507,8 +581,18 @@ record Unread : Type 0 where
 
 unread : Unread
 unread = record {
-  unlinked = refl; white = refl; inner_chunk = refl; chunk_outside = refl; lines = refl; short = refl;
-  between_cr_and_lf = refl; late_chunk = refl; early_part = refl; two_chunks_on_a_line = refl; empty_chunk = refl }
+  unlinked = refl;
+  white = refl;
+  inner_chunk = refl;
+  chunk_outside = refl;
+  lines = refl;
+  short = refl;
+  between_cr_and_lf = refl;
+  late_chunk = refl;
+  early_part = refl;
+  two_chunks_on_a_line = refl;
+  empty_chunk = refl;
+}
 
 -- Points.
 
@@ -526,4 +610,9 @@ record Points : Type 0 where
 
 points : Points
 points = record {
-  letter_cut = refl; whole_tab_cut = refl; tab_as_column = refl; earlier_line = refl; behind_text = refl }
+  letter_cut = refl;
+  whole_tab_cut = refl;
+  tab_as_column = refl;
+  earlier_line = refl;
+  behind_text = refl;
+}
