@@ -1,23 +1,76 @@
 #!/usr/bin/env bash
-# Refuses each request for memory of the program `blocks` in turn, on the text of its stored run and on one with a byte order
-# mark, headings and quotes.
+# Refuses requests for memory of the program `blocks`, without proof: on the text of its stored run, and on each begin of a text
+# with a byte order mark, headings, quotes and a break.
 #
-# Each refused run must end with status 3 and print nothing. The first run that meets no refusal must print the outline.
+# For each number, every text has one run in which the request of that number is refused. A run that comes to this request must end
+# with status 3 and print nothing. One that makes fewer requests must end with status 0 and print what it prints where none is
+# refused; of the two whole texts that is given. So many runs at least must have been refused. The numbers are the arguments,
+# where there are any: `scripts/refuse_memory.sh $(seq 90)` refuses each request in turn, which takes half an hour.
 set -euo pipefail
 cd "$(dirname "$0")/../crates/blocks"
-texts=$(mktemp -d)
-trap 'rm -rf "$texts"' EXIT
-printf '\xef\xbb\xbf# # a #\nb\n> > c\n> d\ne\n### ##\n' >"$texts/stdin"
-printf 'heading 1\n  | # a\nparagraph\n  | b\nquote\n  quote\n    paragraph\n      | c\n      | d\n      | e\nheading 3\n\ndefinitions 0\nfootnotes 0\n' >"$texts/stdout"
-for folder in . "$texts"; do
-    for ((n = 1; ; n++)); do
-        status=0
-        printed=$(rt try --fail-alloc "$n" <"$folder/stdin" 2>/dev/null) || status=$?
-        if [ "$status" = 0 ]; then
-            [ "$printed" = "$(cat "$folder/stdout")" ] || { echo "request $n: printed something else"; exit 1; }
-            echo "$((n - 1)) requests refused in turn"
-            break
-        fi
-        [ "$status" = 3 ] && [ -z "$printed" ] || { echo "request $n: status $status"; exit 1; }
-    done
+least=150
+numbers=(1 8 16 22 28 36 46 60)
+[ $# = 0 ] || numbers=("$@")
+work=$(mktemp -d)
+trap 'rm -rf "$work"' EXIT
+mkdir "$work/texts"
+cp stdin "$work/texts/stored"
+cp stdout "$work/stored"
+printf '\xef\xbb\xbf# # a #\nb\n> > c\n> d\ne\n### ##\n***\n' >"$work/whole"
+for ((length = 3; length <= $(wc -c <"$work/whole"); length++)); do
+    head -c "$length" "$work/whole" >"$work/texts/$length"
 done
+cat >"$work/$((length - 1))" <<'OUTLINE'
+heading 1
+  | # a
+paragraph
+  | b
+quote
+  quote
+    paragraph
+      | c
+      | d
+      | e
+heading 3
+break
+
+definitions 0
+footnotes 0
+OUTLINE
+# A number that no run comes to stands for the runs in which nothing is refused.
+none=1000000
+printf '%s\n' "$none" "${numbers[@]}" |
+    xargs -P 4 -I N sh -c "rt try --cases '$work/texts' --fail-alloc N >'$work/N.out' 2>'$work/N.err' </dev/null || true"
+python3 - "$work" "$least" "$none" "${numbers[@]}" <<'PYTHON'
+import os, re, sys
+
+work, least, *numbers = sys.argv[1:]
+texts = sorted(os.listdir(f"{work}/texts"))
+
+
+def runs(number):
+    """The status of each text's run, and what it printed."""
+    said = open(f"{work}/{number}.err").read()
+    status = dict(re.findall(r"^case=(\S+) run=ended status=(\d+) ", said, re.M))
+    if sorted(status) != texts:
+        sys.exit(f"request {number}: not every run ended\n{said[-2000:]}")
+    parts = re.split(r"^== (\S+)\n", open(f"{work}/{number}.out").read(), flags=re.M)
+    return {text: (status[text], dict(zip(parts[1::2], parts[2::2])).get(text, "")) for text in texts}
+
+
+right = runs(numbers[0])
+for text in texts:
+    given = f"{work}/{text}"
+    wanted = open(given).read() if os.path.exists(given) else right[text][1]
+    if right[text] != ("0", wanted) or not wanted:
+        sys.exit(f"text {text}, nothing refused: status {right[text][0]}, and printed\n{right[text][1]}")
+refused = 0
+for number in numbers[1:]:
+    for text, ran in runs(number).items():
+        if ran != right[text] and ran != ("3", ""):
+            sys.exit(f"text {text}, request {number}: status {ran[0]}, and printed\n{ran[1]}")
+        refused += ran == ("3", "")
+print(f"refused memory: {len(texts) * len(numbers[1:])} runs, {refused} refused")
+if refused < int(least):
+    sys.exit(f"fewer than {least}")
+PYTHON

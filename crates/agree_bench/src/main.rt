@@ -1,5 +1,5 @@
 // Tries the parser against the plain program, on all texts of at most so many letters: the first argument says how many. It
-// prints what disagreed, and on standard error how much was tried.
+// prints what disagreed, and then how much was tried.
 #![tactic(auto)]
 
 use blocks_body::Blocks;
@@ -20,6 +20,6 @@ fn main(rt: HostRuntime) -> io::Result<()> {
     if try_agree::<Blocks, Plain>(rt.alloc(), most, &mut report).is_err() {
         println!(rt; "memory ran out")?;
     }
-    eprintln!(rt; "{} tried, {} wrong", report.tried, report.wrong)?;
-    print!(rt; "{}", report.list)
+    print!(rt; "{}", report.list)?;
+    println!(rt; "{} tried, {} wrong", report.tried, report.wrong)
 }

@@ -2,6 +2,9 @@
 
 use std::alloc::{AllocError, Global};
 
+/// The list of a report grows no longer behind so many bytes.
+const LONGEST: usize = 500_000;
+
 /// A count of what was tried, and a readable list of what disagreed.
 #[derive(Debug, Drop)]
 pub struct Report {
@@ -9,7 +12,7 @@ pub struct Report {
     pub tried: u64,
     /// How many of them disagreed.
     pub wrong: u64,
-    /// The list of those.
+    /// The list of those, as far as it is not too long.
     pub list: String,
 }
 
@@ -23,7 +26,7 @@ impl Report {
         }
     }
 
-    /// Counts one more, and lists it if what came is not what must come.
+    /// Counts one more, and lists it if what came is not what must come and the list does not become too long.
     pub fn add(
         &mut self,
         title: &str,
@@ -36,6 +39,10 @@ impl Report {
             return Ok(());
         }
         self.wrong = self.wrong.wrapping_add(1);
+        let written = wanted.len().saturating_add(got.len());
+        if self.list.len().saturating_add(written) > LONGEST {
+            return Ok(());
+        }
         self.part("", title)?;
         self.quoted(text)?;
         self.part("wanted:\n", wanted)?;

@@ -1,5 +1,5 @@
 // The bench of the plain program: the first argument says what is tried, as in `blocks_vectors::task`. It prints what
-// disagreed, and on standard error how much was tried.
+// disagreed, and then how much was tried.
 #![tactic(auto)]
 
 use blocks_vectors::report::Report;
@@ -19,6 +19,6 @@ fn main(rt: HostRuntime) -> io::Result<()> {
     if task.perform::<Plain>(rt.alloc(), &mut report).is_err() {
         println!(rt; "memory ran out, or a row is no row")?;
     }
-    eprintln!(rt; "{} tried, {} wrong", report.tried, report.wrong)?;
-    print!(rt; "{}", report.list)
+    print!(rt; "{}", report.list)?;
+    println!(rt; "{} tried, {} wrong", report.tried, report.wrong)
 }
