@@ -130,7 +130,7 @@ tiles-are options bytes built small placed =
           placed = placed;
           lines = blocks-stand options bytes [] false p lines rows are (text-quiet options bytes p) (text-unlinked options bytes);
           chunks = blocks-chunks options bytes [] false p lines rows are (text-quiet options bytes p) (text-unlinked options bytes);
-          grammar = blocks-grammar options bytes lines rows are;
+          grammar = blocks-grammar options bytes lines rows are (text-quiet options bytes p);
           pieces_are = blocks-pieces options bytes lines rows are;
           endings = blocks-endings options bytes lines rows are;
         };
@@ -177,7 +177,7 @@ text-reads options bytes built utf8 small events is =
       blocks_are = block_list-is options bytes;
       events_are = (text-filled options bytes p lines are).read ∙ ap (plain_read bytes) (block_list-is options bytes);
       tiles = tiles-are options bytes built small;
-      grammar = events-grammar options bytes lines rows are;
+      grammar = events-grammar options bytes lines rows are (text-quiet options bytes p);
       pieces_are = events-pieces options bytes lines rows are;
       endings = events-endings options bytes lines rows are;
     })

@@ -9,6 +9,7 @@ use Rattle.md_seam.specs.Grammar.{keeps_grammar, plain_text}
 use Rattle.md_seam.specs.Inline.{Part, pieces, plain_events}
 use Rattle.md_seam.specs.Meaning.{tree}
 use Rattle.md_seam.specs.Nested.{Nested}
+use Rattle.md_seam.specs.On.{are_on}
 use Rattle.md_seam.specs.Pieces.{pieces_stand}
 use Rattle.md_seam.specs.Places.{are_placed}
 use Rattle.md_seam.specs.Preamble.{has_mark}
@@ -62,6 +63,8 @@ pub record IsParsed (text : List ℕ) (options : ParseOptions) (events : List Ev
   -- with `> ` before each line, the text means one block quote with this tree in it, unchanged
   pub in_quote : options.constructs.block_quote ≡ true → IsQuotable text → tree options (quoted text) ≡ More (Quote (spelled events text)) End
   pub tree : spelled events text ≡ tree options text
+  -- no construct occurs in it that is off
+  pub on : are_on options (spelled events text) ≡ true
   -- one for one, the events are those of the lines of the text, with what the plain layer reads in the place of each chunk
   pub events_are : events ≡ plain_read text (block_list options text)
   -- every byte is accounted for: the innermost pairs lie side by side, `Data` over each line of a text part among them

@@ -7,6 +7,8 @@ use Rattle.md_engine.specs.Place.{IsPlaced}
 use Rattle.md_engine.specs.World.{Setting}
 use Rattle.md_seam.specs.Inline.{PlainReads}
 use Rattle.md_seam.specs.Parts.{ArePlaced}
+use Rattle.md_seam.specs.On.{are_on}
+use Rattle.md_seam.proofs.OnLemmas.{tree-on}
 use Rattle.md_seam.proofs.ReachedLemmas.{events-placed}
 use Rattle.markdown_blocks.proofs.FlowReads.{reads-labels, reads-setting, map-nil}
 use Rattle.markdown_blocks.proofs.MarkLemmas.{body-placed}
@@ -54,6 +56,7 @@ returns c =
       nested = read.nested;
       placed = events-placed c.args.value.now c.in_ok-events.events.items (rw c.as_bytes-bytes.ensures.value at placed);
       tree = read.tree;
+      on = ap (are_on c.args.options.now) read.tree ∙ tree-on c.args.options.now c.args.value.now;
       in_quote = λ on may. text-quoted c.args.options.now c.args.value.now c.in_ok-events.events.items c.requires.built read.tree on may;
       events_are = read.events_are;
       tiles = tiled.0;
