@@ -658,7 +658,7 @@ plain-next p e ys zs end h k =
     subst (λ (x : Bool). NextBelongs end ((cond x [] (pair n.Data p e) ++ ys) ++ zs)) (sym apart) (begins-behind n.Data p end k)
 
 -- a line without its ending
-without-none : (line : List ℕ) → NoEnding line → without_ending line ≡ line
+pub without-none : (line : List ℕ) → NoEnding line → without_ending line ≡ line
 without-none [] h = refl
 without-none (b ∷ line) h =
     take_while-cons (λ (b : ℕ). not (is_ending b)) b line

@@ -52,3 +52,4 @@ pub mod DocumentMeans
 pub mod DocumentReads
 pub mod TileCovers
 pub mod TileReads
+pub mod EndingRows
