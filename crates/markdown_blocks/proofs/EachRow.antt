@@ -1,12 +1,6 @@
 -- What holds of each line of a text holds of each line of its groups.
-use Rattle.std.proofs.Common.{ℕ, zero, suc, Bool, true, false, cond, List, [], ◌∷◌}
-use Rattle.md_engine.specs.declared.configuration.ParseOptions.{ParseOptions}
-use Rattle.md_engine.specs.declared.event.Point.{Point}
-use Rattle.md_engine.specs.Meaning.{Cell}
-use Rattle.md_seam.specs.Ahead.{from_ending}
-use Rattle.md_seam.specs.State.{Container}
-use Rattle.markdown_blocks.specs.Change.{open_behind}
-use Rattle.markdown_blocks.specs.Rows.{BlankRow, BreakRow, Group, HeadingRow, Held, Lines, Row, RowKind, Single, TextRow, goes_on, groups, held_at, is_text, last_row, onto_groups, row_kind, row_of, rows_at, rows_by}
+use Rattle.std.proofs.Common.{Bool, true, false, cond, List, [], ◌∷◌}
+use Rattle.markdown_blocks.specs.Rows.{BlankRow, BreakRow, Group, HeadingRow, Lines, Row, RowKind, Single, TextRow, goes_on, groups, last_row, onto_groups}
 
 abbrev pub EachRow : (Row → Type 0) → List Row → Type 0
 EachRow P [] = Unit {0}
@@ -39,19 +33,3 @@ groups-each P (row ∷ rows) h = onto-each P row row.kind (groups rows) h.0 (gro
 pub last-each : (P : Row → Type 0) (row : Row) (rows : List Row) → P row → EachRow P rows → P (last_row row rows)
 last-each P row [] h k = h
 last-each P row (next ∷ rows) h k = last-each P next rows k.0 k.1
-
--- what holds of each row that flow reads from a line
-pub rows_at-each : (P : Row → Type 0) (options : ParseOptions) → ((h : Held) (below : List Row) → P (row_of options h below)) → (size : ℕ) (open_before : List Container) (going : Bool) (cells : List Cell) (p : Point) →
-    EachRow P (rows_at options size open_before going cells p)
-rows_at-each P options one zero open_before going cells p = tt
-rows_at-each P options one (suc size) open_before going cells p = by (rows_at-each P options one size) (held_at options open_before going cells p)
-  where
-    by : ((open_before : List Container) (going : Bool) (cells : List Cell) (p : Point) → EachRow P (rows_at options size open_before going cells p)) → (h : Held) → EachRow P (rows_by options h (rows_at options size))
-    by further h = (one h (below (from_ending h.cells)), go (from_ending h.cells))
-      where
-        below : List Cell → List Row
-        below rest = elim rest [ [] ↦ [] | c ∷ cs ↦ rows_at options size (open_behind h.change) (is_text (row_kind options h.cells)) cs c.after ]
-
-        go : (rest : List Cell) → EachRow P (elim rest [ [] ↦ [] | c ∷ cs ↦ rows_at options size (open_behind h.change) (is_text (row_kind options h.cells)) cs c.after ])
-        go [] = tt
-        go (c ∷ cs) = further (open_behind h.change) (is_text (row_kind options h.cells)) cs c.after

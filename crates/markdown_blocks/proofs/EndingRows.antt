@@ -1,58 +1,38 @@
 -- The endings of blank lines are told from others, before the text of a document is read and once it is.
-use Rattle.std.proofs.Common.{◌≡◌, ◌≢◌, ℕ, ◌+◌, ◌<◌, Bool, true, false, cond, ◌&&◌, List, [], ◌∷◌, ◌++◌, length, take, drop, refl, ap, sym, ◌∙◌, subst, append_assoc, append-nil, arith}
+use Rattle.std.proofs.Common.{◌≡◌, ℕ, ◌+◌, ◌<◌, Bool, true, false, cond, List, [], ◌∷◌, ◌++◌, length, take, refl, ap, sym, ◌∙◌, subst, append_assoc, arith}
 use Rattle.std.specs.Prelude.{◌==◌, Option, Some, None}
-use Rattle.std.specs.List.{list_all}
-use Rattle.std.proofs.lemmas.Bool.{and_parts}
 use Rattle.std.proofs.lemmas.Bool.Decides.{nat_tests}
 use Rattle.md_engine.specs.declared.configuration.ParseOptions.{ParseOptions}
 use Rattle.md_engine.specs.declared.event.Event.{Event}
-use Rattle.md_engine.specs.declared.event.Kind.{Kind}
-use Rattle.md_engine.specs.declared.event.Kind.TheVariants.{Enter, Exit}
 use Rattle.md_engine.specs.declared.event.Name.{Name}
 use Rattle.md_engine.specs.declared.event.Name.TheVariants as n
 use Rattle.md_engine.specs.declared.event.Point.{Point}
-use Rattle.md_engine.specs.Meaning.{Cell}
 use Rattle.md_content.specs.Paragraph.{text_link}
-use Rattle.md_leaves.specs.BreakRule as break
 use Rattle.md_leaves.specs.HeadingRule as heading
 use Rattle.md_leaves.specs.HeadingText.{linked_text}
 use Rattle.md_leaves.specs.HeadingTitle.{Title, front_len, line_runs, text_of, title_of, unread_title}
 use Rattle.md_leaves.proofs.TitleLemmas.{title-text}
 use Rattle.md_seam.specs.declared.inline.Chunk.{Chunk}
-use Rattle.md_seam.specs.Ahead.{begins_white, line_cells, line_end, white_end, white_rest}
-use Rattle.md_seam.specs.Endings.{Ends, IsLeaf, IsOther, OnLine, Spot, endings_stand, endings_stand_from, ends_rightly, is_filled, line_start, on_line, spot_behind}
-use Rattle.md_seam.specs.Inline.{pair_unless_empty, plain_chunk}
-use Rattle.md_seam.specs.Inline as inline
+use Rattle.md_seam.specs.Endings.{IsLeaf, Spot, endings_stand, endings_stand_from, is_filled, line_start, on_line}
+use Rattle.md_seam.specs.Inline.{line_end, pair_unless_empty, plain_chunk}
 use Rattle.md_seam.specs.Lines.{without_ending}
 use Rattle.md_seam.specs.Nested.{around, enter, exit, pair}
 use Rattle.md_seam.specs.Places.{first_point, past_byte, past_text, same_place}
 use Rattle.md_seam.specs.Preamble.{has_mark}
-use Rattle.md_seam.specs.Spaces.{small_indent}
 use Rattle.md_seam.specs.State.{Container, InFootnote, InItem, InQuote}
+use Rattle.md_seam.proofs.EndingsLemmas.{AreOthers, Filling, Leads, Stays, behind_leaf, filling-append, in_leaf, leads-append, leaf-leads, others-append, others-lead, stays-append, stays-others}
 use Rattle.md_seam.proofs.InlineLemmas.{same-refl}
-use Rattle.md_seam.proofs.PlacesLemmas.{all-append}
 use Rattle.markdown_blocks.specs.Change.{container_name, ends_of}
 use Rattle.markdown_blocks.specs.Document.{body_point, mark_end, mark_events}
-use Rattle.markdown_blocks.specs.Rows.{BlankRow, BreakRow, Group, HeadingRow, Held, Lines, Row, RowKind, Single, TextRow, behind_row, ending_events, first_cell, goes_on, group_events, groups, groups_events, inside_of, last_row, onto_groups, read_lines, read_text, read_title, row_events_by, row_kind, row_line, row_title, rows_at, single_events_by, tail_events}
+use Rattle.markdown_blocks.specs.Rows.{BlankRow, BreakRow, Group, HeadingRow, Lines, Row, RowKind, Single, TextRow, behind_row, ending_events, goes_on, group_events, groups, groups_events, last_row, onto_groups, read_lines, read_text, read_title, row_events_by, row_line, row_title, single_events_by, tail_events}
 use Rattle.markdown_blocks.specs.Unread.{linked_lines, titled_group, titled_groups, titled_row_by}
-use Rattle.markdown_blocks.proofs.EachRow.{EachGroup, EachRow, groups-each, rows_at-each}
 use Rattle.markdown_blocks.proofs.FrontFacts.{Behind, Begins, Fronts, Goes, IsFurther, IsOpening, IsPrefix}
 use Rattle.markdown_blocks.proofs.GroupLemmas.{AreGroups, EndsBeforeGroups, HasFront, IsParagraph, IsSingle, IsTitle, groups-are, line_end-alone, rows-end, text-some, title-is, without-none}
 use Rattle.markdown_blocks.proofs.JoinedLemmas.{EachEnds, EachNoContent, ending-is}
 use Rattle.markdown_blocks.proofs.RowFacts.{AreRows, IsRow}
-use Rattle.markdown_blocks.proofs.TitleNests.{back_bytes, either, text-end-is, text_begin, text_bytes, text_end}
+use Rattle.markdown_blocks.proofs.TitleNests.{back_bytes, either, text-end-is, text_begin, text_end}
 
 -- Events that are no ending, and no begin or end of a leaf.
-
-abbrev is_other : OnLine → Bool
-is_other IsOther = true
-is_other x = false
-
-abbrev AreOthers : List Event → Type 0
-AreOthers es = list_all (λ (e : Event). is_other (on_line e.name)) es ≡ true
-
-others-append : (xs ys : List Event) → AreOthers xs → AreOthers ys → AreOthers (xs ++ ys)
-others-append xs ys h k = all-append (λ (e : Event). is_other (on_line e.name)) xs ys h k
 
 -- what stands in front of a line
 prefix-others : (bytes : List ℕ) (p q : Point) (es : List Event) → IsPrefix bytes p q es → AreOthers es
@@ -73,6 +53,7 @@ opening-others : (bytes : List ℕ) (c : Container) (p q : Point) (es : List Eve
 opening-others bytes InQuote p q es is = prefix-others bytes p q es is
 opening-others bytes c p q es is = absurd is
 
+-- all of it
 fronts-others : (bytes : List ℕ) (opens : List Container) (p q : Point) (es : List Event) → Fronts bytes opens p q es → AreOthers es
 fronts-others bytes opens p q es (Behind at) = refl
 fronts-others bytes opens first last es (Goes c same p q r xs ys is more) = others-append xs ys (further-others bytes c p q xs is) (fronts-others bytes same q r ys more)
@@ -87,33 +68,6 @@ ends-others (c ∷ cs) p = others-append (ends_of cs p) (exit (container_name c)
     end InQuote = refl
     end (InItem digits marker width starts_blank) = refl
     end (InFootnote label) = refl
-
--- what stands in a line that is no heading
-abbrev pub HasOthers : Row → Type 0
-HasOthers row = row.kind ≢ HeadingRow → AreOthers row.inside
-
-break-others : (run : break.Run) (m : ℕ) (cells : List Cell) (p : Point) → AreOthers (break.runs run m cells p)
-break-others break.Apart m [] p = refl
-break-others break.Marks m [] p = refl
-break-others break.White m [] p = refl
-break-others break.Apart m (c ∷ cs) p = either AreOthers (c.byte == m) _ _ (break-others break.Marks m cs c.after) (break-others break.White m cs c.after)
-break-others break.Marks m (c ∷ cs) p = either AreOthers (c.byte == m) _ _ (break-others break.Marks m cs c.after) (break-others break.White m cs c.after)
-break-others break.White m (c ∷ cs) p = either AreOthers (c.byte == m) _ _ (break-others break.Marks m cs c.after) (break-others break.White m cs c.after)
-
-inside-others : (options : ParseOptions) (cells : List Cell) (p : Point) (kind : RowKind) → kind ≢ HeadingRow → AreOthers (inside_of options cells p kind)
-inside-others options cells p BlankRow other = either AreOthers (begins_white cells) (pair n.SpaceOrTab p (line_end cells p)) [] refl refl
-inside-others options cells p HeadingRow other = absurd (other refl)
-inside-others options cells p BreakRow other =
-    let room : ℕ = small_indent options in
-    let rest : List Cell = white_rest room cells in
-    let q : Point = white_end room cells p in
-    others-append (cond (begins_white cells) (pair n.SpaceOrTab p q) []) (break.runs break.Apart (first_cell rest) (line_cells rest) q)
-    (either AreOthers (begins_white cells) (pair n.SpaceOrTab p q) [] refl refl) (break-others break.Apart (first_cell rest) (line_cells rest) q)
-inside-others options cells p TextRow other = refl
-
--- so it is in the lines that flow reads
-pub rows_at-others : (options : ParseOptions) (size : ℕ) (open_before : List Container) (going : Bool) (cells : List Cell) (p : Point) → EachRow HasOthers (rows_at options size open_before going cells p)
-rows_at-others options = rows_at-each HasOthers options (λ h below other. inside-others options h.cells h.point (row_kind options h.cells) other)
 
 -- what stands around the text of a heading
 closes-others : (run : heading.Run) (p : Point) → AreOthers (heading.closes run p)
@@ -136,81 +90,17 @@ runs-others run (b ∷ xs) p =
     (others-append (heading.closes run p ++ heading.opens (heading.begun b) p) rest
     (others-append (heading.closes run p) (heading.opens (heading.begun b) p) (closes-others run p) (opens-others (heading.begun b) p)) (runs-others (heading.begun b) xs (past_byte b p)))
 
+-- what stands in a heading, with its text
 title-others : (line : List ℕ) (p : Point) (text : List Event) → AreOthers text → AreOthers ((title_of line p).front ++ text ++ (title_of line p).back)
 title-others line p text h =
     let title : Title = title_of line p in
     others-append (title.front ++ text) title.back (others-append title.front text (runs-others heading.Apart (take (front_len line) line) p) h) (runs-others heading.Apart (back_bytes line) (text_end line p))
 
--- Where events lead.
-
--- on a line that is filled or not, in a leaf and outside
-abbrev in_leaf : Bool → Spot
-in_leaf filled = record { in_leaf = true; after_leaf = filled }
-
-abbrev behind_leaf : Spot
-behind_leaf = record { in_leaf = false; after_leaf = true }
-
--- events whose endings stand, and that lead from here to there
-abbrev Leads : Spot → Spot → List Event → Type 0
-Leads s t xs = (ys : List Event) → endings_stand_from s (xs ++ ys) ≡ endings_stand_from t ys
-
-leads-append : (s t u : Spot) (xs ys : List Event) → Leads s t xs → Leads t u ys → Leads s u (xs ++ ys)
-leads-append s t u xs ys h k = λ zs. ap (endings_stand_from s) (append_assoc xs ys zs) ∙ h (ys ++ zs) ∙ k zs
-
--- other events lead nowhere, unless a leaf goes on over the begin of the line
-others-lead : (s : Spot) (xs : List Event) → is_filled s ≡ s.after_leaf → AreOthers xs → Leads s s xs
-others-lead s [] same h = λ ys. refl
-others-lead s (e ∷ xs) same h = λ ys.
-    let both : (is_other (on_line e.name) ≡ true) × AreOthers xs = and_parts (is_other (on_line e.name)) (list_all (λ (e : Event). is_other (on_line e.name)) xs) h in
-    one e.kind (on_line e.name) (xs ++ ys) both.0 ∙ others-lead s xs same both.1 ys
-  where
-    one : (kind : Kind) (x : OnLine) (es : List Event) → is_other x ≡ true → (ends_rightly kind x s && endings_stand_from (spot_behind kind x s) es) ≡ endings_stand_from s es
-    one Enter IsOther es h = ap (λ (filled : Bool). endings_stand_from (record s { after_leaf = filled }) es) same
-    one Exit IsOther es h = refl
-    one kind IsLeaf es h = cc
-    one kind (Ends blank) es h = cc
-
--- a leaf
-leaf-leads : (name : Name) (p q : Point) (inside : List Event) → on_line name ≡ IsLeaf → Leads (in_leaf true) (in_leaf true) inside → Leads line_start behind_leaf (around name p q inside)
-leaf-leads name p q inside leaf h = λ ys.
-    ap (λ (x : OnLine). ends_rightly Enter x line_start && endings_stand_from (spot_behind Enter x line_start) ((inside ++ exit name q ∷ []) ++ ys)) leaf
-    ∙ ap (endings_stand_from (in_leaf true)) (append_assoc inside (exit name q ∷ []) ys)
-    ∙ h (exit name q ∷ ys)
-    ∙ ap (λ (x : OnLine). ends_rightly Exit x (in_leaf true) && endings_stand_from (spot_behind Exit x (in_leaf true)) ys) leaf
-
 -- Inside of a leaf.
-
--- events that lead out of no leaf,
-abbrev Stays : List Event → Type 0
-Stays xs = (from : Bool) → (to : Bool) × Leads (in_leaf from) (in_leaf to) xs
-
--- and to a line that is filled
-abbrev Fills : List Event → Type 0
-Fills xs = (from : Bool) → Leads (in_leaf from) (in_leaf true) xs
-
-stays-append : (xs ys : List Event) → Stays xs → Stays ys → Stays (xs ++ ys)
-stays-append xs ys h k = λ from.
-    let mid : Bool = (h from).0 in
-    ((k mid).0, leads-append (in_leaf from) (in_leaf mid) (in_leaf (k mid).0) xs ys (h from).1 (k mid).1)
-
-fills-append : (xs ys : List Event) → Stays xs → Fills ys → Fills (xs ++ ys)
-fills-append xs ys h k = λ from. leads-append (in_leaf from) (in_leaf (h from).0) (in_leaf true) xs ys (h from).1 (k (h from).0)
-
-stays-others : (xs : List Event) → AreOthers xs → Stays xs
-stays-others [] h = λ from. (from, λ ys. refl)
-stays-others (e ∷ xs) h =
-    let both : (is_other (on_line e.name) ≡ true) × AreOthers xs = and_parts (is_other (on_line e.name)) (list_all (λ (e : Event). is_other (on_line e.name)) xs) h in
-    stays-append (e ∷ []) xs (λ from. one from e.kind (on_line e.name) both.0) (stays-others xs both.1)
-  where
-    one : (from : Bool) (kind : Kind) (x : OnLine) → is_other x ≡ true → (to : Bool) × ((es : List Event) → (ends_rightly kind x (in_leaf from) && endings_stand_from (spot_behind kind x (in_leaf from)) es) ≡ endings_stand_from (in_leaf to) es)
-    one from Enter IsOther h = (true, λ es. refl)
-    one from Exit IsOther h = (from, λ es. refl)
-    one from kind IsLeaf h = cc
-    one from kind (Ends blank) h = cc
 
 -- what the plain layer gives for a line
 chunk-stays : (bytes : List ℕ) (chunk : Chunk) → Stays (plain_chunk bytes chunk)
-chunk-stays bytes chunk = go (inline.line_end bytes chunk) (same_place chunk.first (inline.line_end bytes chunk)) (same_place (inline.line_end bytes chunk) chunk.after)
+chunk-stays bytes chunk = go (line_end bytes chunk) (same_place chunk.first (line_end bytes chunk)) (same_place (line_end bytes chunk) chunk.after)
   where
     go : (end : Point) (x y : Bool) → Stays (cond x [] (pair n.Data chunk.first end) ++ cond y [] (pair n.LineEnding end chunk.after))
     go end true true = λ from. (from, λ ys. refl)
@@ -219,19 +109,19 @@ chunk-stays bytes chunk = go (inline.line_end bytes chunk) (same_place chunk.fir
     go end false false = λ from. (false, λ ys. refl)
 
 -- a line of a text part with what stands in front of the next, and the next
-fills-next : (bytes : List ℕ) (q r : Point) (chunk front rest : List Event) → Stays chunk → Fronts bytes [] q r front → Fills rest → Fills (chunk ++ front ++ rest)
-fills-next bytes q r chunk front rest h is k = fills-append (chunk ++ front) rest (stays-append chunk front h (stays-others front (fronts-others bytes [] q r front is))) k
+filling-next : (bytes : List ℕ) (q r : Point) (chunk front rest : List Event) → Stays chunk → Fronts bytes [] q r front → Filling rest → Filling (chunk ++ front ++ rest)
+filling-next bytes q r chunk front rest h is k = filling-append (chunk ++ front) rest (stays-append chunk front h (stays-others front (fronts-others bytes [] q r front is))) k
 
 -- the lines of a paragraph, before they are read
-linked-fill : (options : ParseOptions) (bytes : List ℕ) (row : Row) (rows : List Row) → IsParagraph options bytes row rows → Fills (linked_lines n.Data text_link row rows)
-linked-fill options bytes row [] is = λ from ys. refl
-linked-fill options bytes row (next ∷ rows) is =
-    fills-next bytes is.3 next.first (linked_lines n.Data text_link (record row { end = behind_row row }) []) next.front (linked_lines n.Data text_link next rows) (λ from. (true, λ ys. refl)) is.6 (linked-fill options bytes next rows is.7)
+linked-filling : (options : ParseOptions) (bytes : List ℕ) (row : Row) (rows : List Row) → IsParagraph options bytes row rows → Filling (linked_lines n.Data text_link row rows)
+linked-filling options bytes row [] is = λ from ys. refl
+linked-filling options bytes row (next ∷ rows) is =
+    filling-next bytes is.3 next.first (linked_lines n.Data text_link (record row { end = behind_row row }) []) next.front (linked_lines n.Data text_link next rows) (λ from. (true, λ ys. refl)) is.6 (linked-filling options bytes next rows is.7)
 
 -- and once they are: the last is not empty, and has no ending there
-last-fills : (options : ParseOptions) (bytes line : List ℕ) (row : Row) → IsRow options bytes line row → row.kind ≡ TextRow → Fills (plain_chunk bytes (record { first = row.first; after = row.end }))
-last-fills options bytes line row is text =
-    subst (λ (end : Point). Fills (pair_unless_empty n.Data row.first end ++ pair_unless_empty n.LineEnding end row.end)) (sym (line_end-alone options bytes line row is))
+last-filling : (options : ParseOptions) (bytes line : List ℕ) (row : Row) → IsRow options bytes line row → row.kind ≡ TextRow → Filling (plain_chunk bytes (record { first = row.first; after = row.end }))
+last-filling options bytes line row is text =
+    subst (λ (end : Point). Filling (pair_unless_empty n.Data row.first end ++ pair_unless_empty n.LineEnding end row.end)) (sym (line_end-alone options bytes line row is))
     (go (same_place row.first row.end) apart (same_place row.end row.end) (same-refl row.end))
   where
     some : row.first.index + length line ≡ row.end.index → 0 < length line → same_place row.first row.end ≡ false
@@ -240,19 +130,20 @@ last-fills options bytes line row is text =
     apart : same_place row.first row.end ≡ false
     apart = some (sym is.size) (text-some options line (sym is.kind ∙ text))
 
-    go : (x : Bool) → x ≡ false → (y : Bool) → y ≡ true → Fills (cond x [] (pair n.Data row.first row.end) ++ cond y [] (pair n.LineEnding row.end row.end))
+    go : (x : Bool) → x ≡ false → (y : Bool) → y ≡ true → Filling (cond x [] (pair n.Data row.first row.end) ++ cond y [] (pair n.LineEnding row.end row.end))
     go false h true k = λ from ys. refl
     go true h y k = cc
     go false h false k = cc
 
-read-fill : (options : ParseOptions) (bytes : List ℕ) (row : Row) (rows : List Row) → IsParagraph options bytes row rows → Fills (read_lines bytes row rows)
-read-fill options bytes row [] is = last-fills options bytes is.0 row is.1 is.2
-read-fill options bytes row (next ∷ rows) is =
+read-filling : (options : ParseOptions) (bytes : List ℕ) (row : Row) (rows : List Row) → IsParagraph options bytes row rows → Filling (read_lines bytes row rows)
+read-filling options bytes row [] is = last-filling options bytes is.0 row is.1 is.2
+read-filling options bytes row (next ∷ rows) is =
     let chunk : Chunk = record { first = row.first; after = behind_row row } in
-    fills-next bytes is.3 next.first (plain_chunk bytes chunk) next.front (read_lines bytes next rows) (chunk-stays bytes chunk) is.6 (read-fill options bytes next rows is.7)
+    filling-next bytes is.3 next.first (plain_chunk bytes chunk) next.front (read_lines bytes next rows) (chunk-stays bytes chunk) is.6 (read-filling options bytes next rows is.7)
 
 -- The text of a heading.
 
+-- before it is read
 linked-others : (text : Option Chunk) → AreOthers (linked_text text)
 linked-others None = refl
 linked-others (Some chunk) = refl
@@ -270,7 +161,7 @@ read-others options bytes line row is = go (length (text_of line) == 0)
     title : IsTitle bytes line row.first
     title = title-is options bytes line row is
 
-    ended : inline.line_end bytes (record { first = begin; after = end }) ≡ end
+    ended : line_end bytes (record { first = begin; after = end }) ≡ end
     ended =
         ap (λ (l : List ℕ). past_text (without_ending l) begin) title.slice
         ∙ ap (λ (l : List ℕ). past_text l begin) (without-none (text_of line) title.no_ending ∙ sym (title-text line))
@@ -299,6 +190,7 @@ abbrev EachEnded : List Group → Type 0
 EachEnded [] = Unit {0}
 EachEnded (group ∷ gs) = EndsBeforeGroups (last_of group) gs × EachEnded gs
 
+-- a line goes in front of groups
 onto-ended : (row : Row) (kind : RowKind) (gs : List Group) → EndsBeforeGroups row gs → EachEnded gs → EachEnded (onto_groups row kind gs)
 onto-ended row BlankRow gs h k = (h, k)
 onto-ended row HeadingRow gs h k = (h, k)
@@ -311,6 +203,7 @@ onto-ended row TextRow (Lines below rows ∷ gs) h k = go (goes_on row below)
     go true = k
     go false = (h, k)
 
+-- so it is with the groups of lines
 groups-ended : (rows : List Row) → EachEnds rows → EachEnded (groups rows)
 groups-ended [] h = tt
 groups-ended (row ∷ []) h = onto-ended row row.kind [] tt tt
@@ -333,6 +226,7 @@ abbrev groups_with : (Row → List Event) → (Row → List Row → List Event) 
 groups_with title text [] = []
 groups_with title text (group ∷ gs) = group_with title text group ++ groups_with title text gs
 
+-- before text parts are read, and once they are
 titled-with : (bytes : List ℕ) (gs : List Group) → groups_with (λ row. unread_title (row_title bytes row)) (linked_lines n.Data text_link) gs ≡ titled_groups bytes gs
 titled-with bytes [] = refl
 titled-with bytes (Single row ∷ gs) = ap (λ (l : List Event). row_with (λ row. unread_title (row_title bytes row)) row.kind row ++ l) (titled-with bytes gs) ∙ ap (λ (l : List Event). l ++ titled_groups bytes gs) (go row.kind)
@@ -358,7 +252,7 @@ read-with bytes (Lines row rows ∷ gs) = ap (λ (l : List Event). group_events 
 -- What stands in headings and in paragraphs.
 record Within (options : ParseOptions) (bytes : List ℕ) (title : Row → List Event) (text : Row → List Row → List Event) : Type 0 where
   titles : (line : List ℕ) (row : Row) → IsRow options bytes line row → AreOthers (title row)
-  texts : (row : Row) (rows : List Row) → IsParagraph options bytes row rows → Fills (text row rows)
+  texts : (row : Row) (rows : List Row) → IsParagraph options bytes row rows → Filling (text row rows)
 
 -- groups whose endings stand
 abbrev Stand : (Row → List Event) → (Row → List Row → List Event) → List Group → Type 0
@@ -396,22 +290,23 @@ leaf-stands : (bytes : List ℕ) (title : Row → List Event) (text : Row → Li
 leaf-stands bytes title text name row last inside gs front leaf h before on =
     line-stands bytes title text behind_leaf n.LineEnding row last (around name row.first last.end inside) gs front (leaf-leads name row.first last.end inside leaf h) refl (λ p q ys. refl) before on
 
-single-stands : (options : ParseOptions) (bytes : List ℕ) (title : Row → List Event) (text : Row → List Row → List Event) (row : Row) (gs : List Group) → Within options bytes title text → IsSingle options bytes row → HasOthers row → EndsBeforeGroups row gs →
+-- a line that is no text
+single-stands : (options : ParseOptions) (bytes : List ℕ) (title : Row → List Event) (text : Row → List Row → List Event) (row : Row) (gs : List Group) → Within options bytes title text → IsSingle options bytes row → EndsBeforeGroups row gs →
     Stand title text gs → (kind : RowKind) → row.kind ≡ kind → endings_stand_from line_start (row_with title kind row ++ groups_with title text gs) ≡ true
-single-stands options bytes title text row gs within is others before on BlankRow e =
-    line-stands bytes title text line_start n.BlankLineEnding row row row.inside gs is.front (others-lead line_start row.inside refl (others (λ k. cc))) refl (λ p q ys. refl) before on
-single-stands options bytes title text row gs within is others before on HeadingRow e =
+single-stands options bytes title text row gs within is before on BlankRow e =
+    line-stands bytes title text line_start n.BlankLineEnding row row row.inside gs is.front (others-lead line_start row.inside refl (is.is.inside (λ k. cc)).others) refl (λ p q ys. refl) before on
+single-stands options bytes title text row gs within is before on HeadingRow e =
     leaf-stands bytes title text n.HeadingAtx row row (title row) gs is.front refl (others-lead (in_leaf true) (title row) refl (within.titles is.line row is.is)) before on
-single-stands options bytes title text row gs within is others before on BreakRow e =
-    leaf-stands bytes title text n.ThematicBreak row row row.inside gs is.front refl (others-lead (in_leaf true) row.inside refl (others (λ k. cc))) before on
-single-stands options bytes title text row gs within is others before on TextRow e = absurd (is.other e)
+single-stands options bytes title text row gs within is before on BreakRow e =
+    leaf-stands bytes title text n.ThematicBreak row row row.inside gs is.front refl (others-lead (in_leaf true) row.inside refl (is.is.inside (λ k. cc)).others) before on
+single-stands options bytes title text row gs within is before on TextRow e = absurd (is.other e)
 
-groups-stand : (options : ParseOptions) (bytes : List ℕ) (title : Row → List Event) (text : Row → List Row → List Event) (gs : List Group) → Within options bytes title text → AreGroups options bytes gs → EachGroup HasOthers gs → EachEnded gs → Stand title text gs
-groups-stand options bytes title text [] within are others ended = refl
-groups-stand options bytes title text (Single row ∷ gs) within are others ended =
-    single-stands options bytes title text row gs within are.0 others.0 ended.0 (groups-stand options bytes title text gs within are.1 others.1 ended.1) row.kind refl
-groups-stand options bytes title text (Lines row rows ∷ gs) within are others ended =
-    leaf-stands bytes title text n.Paragraph row (last_row row rows) (text row rows) gs are.2 refl (within.texts row rows are.0 true) ended.0 (groups-stand options bytes title text gs within are.3 others.1 ended.1)
+groups-stand : (options : ParseOptions) (bytes : List ℕ) (title : Row → List Event) (text : Row → List Row → List Event) (gs : List Group) → Within options bytes title text → AreGroups options bytes gs → EachEnded gs → Stand title text gs
+groups-stand options bytes title text [] within are ended = refl
+groups-stand options bytes title text (Single row ∷ gs) within are ended =
+    single-stands options bytes title text row gs within are.0 ended.0 (groups-stand options bytes title text gs within are.1 ended.1) row.kind refl
+groups-stand options bytes title text (Lines row rows ∷ gs) within are ended =
+    leaf-stands bytes title text n.Paragraph row (last_row row rows) (text row rows) gs are.2 refl (within.texts row rows are.0 true) ended.0 (groups-stand options bytes title text gs within are.3 ended.1)
 
 -- The events of a text.
 
@@ -424,25 +319,25 @@ mark-leads bytes = go (has_mark bytes)
     go false = λ ys. refl
 
 endings-with : (options : ParseOptions) (bytes : List ℕ) (lines : List (List ℕ)) (rows : List Row) (title : Row → List Event) (text : Row → List Row → List Event) (events : List Event) → Within options bytes title text →
-    groups_with title text (groups rows) ≡ events → AreRows options bytes [] false (body_point bytes) lines rows → EachNoContent rows → EachRow HasOthers rows → endings_stand (mark_events bytes ++ events) ≡ true
-endings-with options bytes lines rows title text events within same are quiet others =
+    groups_with title text (groups rows) ≡ events → AreRows options bytes [] false (body_point bytes) lines rows → EachNoContent rows → endings_stand (mark_events bytes ++ events) ≡ true
+endings-with options bytes lines rows title text events within same are quiet =
     let p : Point = body_point bytes in
     mark-leads bytes events
     ∙ ap (endings_stand_from line_start) (sym same)
-    ∙ groups-stand options bytes title text (groups rows) within (groups-are options bytes [] false p lines rows are quiet) (groups-each HasOthers rows others) (groups-ended rows (rows-end options bytes [] false p lines rows are))
+    ∙ groups-stand options bytes title text (groups rows) within (groups-are options bytes [] false p lines rows are quiet) (groups-ended rows (rows-end options bytes [] false p lines rows are))
 
 -- The endings of a text stand before its text parts are read,
-pub blocks-endings : (options : ParseOptions) (bytes : List ℕ) (lines : List (List ℕ)) (rows : List Row) → AreRows options bytes [] false (body_point bytes) lines rows → EachNoContent rows → EachRow HasOthers rows →
+pub blocks-endings : (options : ParseOptions) (bytes : List ℕ) (lines : List (List ℕ)) (rows : List Row) → AreRows options bytes [] false (body_point bytes) lines rows → EachNoContent rows →
     endings_stand (mark_events bytes ++ titled_groups bytes (groups rows)) ≡ true
-blocks-endings options bytes lines rows are quiet others =
+blocks-endings options bytes lines rows are quiet =
     endings-with options bytes lines rows (λ row. unread_title (row_title bytes row)) (linked_lines n.Data text_link) (titled_groups bytes (groups rows))
-    (record { titles = λ line row is. title-others (row_line bytes row) row.first (linked_text (row_title bytes row).text) (linked-others (row_title bytes row).text); texts = linked-fill options bytes }) (titled-with bytes (groups rows)) are quiet others
+    (record { titles = λ line row is. title-others (row_line bytes row) row.first (linked_text (row_title bytes row).text) (linked-others (row_title bytes row).text); texts = linked-filling options bytes }) (titled-with bytes (groups rows)) are quiet
 
 -- and once they are.
-pub events-endings : (options : ParseOptions) (bytes : List ℕ) (lines : List (List ℕ)) (rows : List Row) → AreRows options bytes [] false (body_point bytes) lines rows → EachNoContent rows → EachRow HasOthers rows →
+pub events-endings : (options : ParseOptions) (bytes : List ℕ) (lines : List (List ℕ)) (rows : List Row) → AreRows options bytes [] false (body_point bytes) lines rows → EachNoContent rows →
     endings_stand (mark_events bytes ++ groups_events bytes (groups rows)) ≡ true
-events-endings options bytes lines rows are quiet others =
-    endings-with options bytes lines rows (λ row. read_title bytes (row_title bytes row)) (read_lines bytes) (groups_events bytes (groups rows)) (record { titles = titles; texts = read-fill options bytes }) (read-with bytes (groups rows)) are quiet others
+events-endings options bytes lines rows are quiet =
+    endings-with options bytes lines rows (λ row. read_title bytes (row_title bytes row)) (read_lines bytes) (groups_events bytes (groups rows)) (record { titles = titles; texts = read-filling options bytes }) (read-with bytes (groups rows)) are quiet
   where
     titles : (line : List ℕ) (row : Row) → IsRow options bytes line row → AreOthers (read_title bytes (row_title bytes row))
     titles line row is = subst (λ (l : List ℕ). AreOthers (read_title bytes (title_of l row.first))) (sym is.text) (title-others line row.first (read_text bytes (title_of line row.first).text) (read-others options bytes line row is))

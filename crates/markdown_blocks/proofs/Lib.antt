@@ -52,4 +52,5 @@ pub mod DocumentMeans
 pub mod DocumentReads
 pub mod TileCovers
 pub mod TileReads
+pub mod EndingLeaves
 pub mod EndingRows

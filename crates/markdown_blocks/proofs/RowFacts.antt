@@ -7,6 +7,7 @@ use Rattle.md_leaves.specs.HeadingRule.{Apart}
 use Rattle.md_leaves.specs.HeadingTitle.{line_runs}
 use Rattle.md_seam.specs.Nested.{Balanced, Forward, last_point}
 use Rattle.md_seam.specs.Places.{at_or_before, past_text}
+use Rattle.md_seam.proofs.EndingsLemmas.{AreOthers}
 pub use Rattle.md_seam.proofs.FeedLines.{IsEnding, slice-split}
 use Rattle.md_seam.proofs.RestCells.{Cut}
 use Rattle.md_seam.proofs.SpelledLemmas.{Roles, Quiet}
@@ -18,9 +19,10 @@ use Rattle.markdown_blocks.specs.Rows.{HeadingRow, Row, TextRow, is_text, line_k
 use Rattle.markdown_blocks.proofs.FrontFacts.{Fronts}
 use Rattle.markdown_blocks.proofs.PiecesLemmas.{Tiled}
 
--- what stands in a line that is no heading: nothing that the tree shows
+-- what stands in a line that is no heading: nothing that the tree shows, and no ending
 pub record IsInside (row : Row) : Type 0 where
   pub quiet : Roles Quiet row.inside
+  pub others : AreOthers row.inside
   pub balanced : Balanced row.inside
   pub forward : Forward row.first row.inside
   pub within : IsTrue (at_or_before (last_point row.first row.inside) row.end)

@@ -24,10 +24,12 @@ use Rattle.md_seam.specs.Tiles.{chunks_stand, depth_behind, end_point, is_chunk,
 abbrev AreNamed : List Piece → Type 0
 AreNamed pieces = list_all (λ (piece : Piece). not piece.linked || is_piece_name piece.name) pieces ≡ true
 
+-- a rule that holds of a text is one
 over-named : (rule : Option (List ℕ → Bool)) (text : List ℕ) → elim rule [ None ↦ false | Some over ↦ over text ] ≡ true → elim rule [ None ↦ false | Some over ↦ true ] ≡ true
 over-named None text h = h
 over-named (Some over) text h = refl
 
+-- so each piece that stands has the name of one
 piece-named : (bytes : List ℕ) (piece : Piece) → piece_stands bytes piece ≡ true → (not piece.linked || is_piece_name piece.name) ≡ true → is_piece_name piece.name ≡ true
 piece-named bytes piece h k = go piece.linked last k
   where
@@ -45,6 +47,7 @@ piece-named bytes piece h k = go piece.linked last k
 
 -- Where a byte stands.
 
+-- a piece among further ones
 contains-next : (x y : Piece) (xs : List Piece) → Contains xs x → Contains (y ∷ xs) x
 contains-next x y xs h = (suc h.0, omega (arith, h.1), h.2)
 
@@ -72,6 +75,7 @@ pieces-hold bytes from to (piece ∷ list) index covers stand named h k =
     go true e rest = next-holds bytes piece list index (rest e)
     go false e rest = record { piece = piece; among = (0, omega arith, refl); begins = same-before from piece.first (byte_point index) covers.0 h; ends = ap not e; stands = stands.0; name = piece-named bytes piece stands.0 names.0 }
 
+-- no byte begins before the first point, and none behind the last
 first-before : (index : ℕ) → at_or_before first_point (byte_point index) ≡ true
 first-before index = grind (arith, nat_tests)
 
@@ -84,6 +88,7 @@ end-behind bytes index h = grind (arith, nat_tests)
 abbrev pub is_named : Event → Bool
 is_named e = not (is_linked e) || is_piece_name e.name
 
+-- their pieces
 pieces-named : (e : Event) (es : List Event) → list_all is_named (e ∷ es) ≡ true → AreNamed (pieces_from e es)
 pieces-named e [] h = refl
 pieces-named e (f ∷ es) h =
@@ -106,10 +111,12 @@ bytes-held bytes events covers stand named index h = pieces-hold bytes first_poi
 
 -- A block list, where each chunk is called `Data`.
 
+-- `Data` is the name of a piece
 data-named : (name : Name) → is_data name ≡ true → is_piece_name name ≡ true
 data-named n.Data h = refl
 data-named name h = cc
 
+-- a chunk is called so
 chunk-data : (e : Event) (es : List Event) → is_chunk e es ≡ true → is_data e.name ≡ true
 chunk-data e [] h = cc
 chunk-data e (f ∷ es) h =
@@ -135,6 +142,7 @@ inside-named depth e es h = go (is_part e.name) (is_linked e) h
         (data-named e.name (chunk-data e es (and_parts (depth == 0) (is_chunk e es) both.0).1), (behind, both.1))
     go false false h = (refl, (behind, (and_parts (stands_in_part e.kind e.name) (chunks_stand behind es) h).1))
 
+-- all events
 pub chunks-named : (depth : ℕ) (events : List Event) → chunks_stand depth events ≡ true → list_all is_named events ≡ true
 chunks-named depth [] h = refl
 chunks-named zero (e ∷ es) h =
