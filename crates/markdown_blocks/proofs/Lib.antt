@@ -61,3 +61,4 @@ pub mod DocumentReads
 pub mod TileCovers
 pub mod PieceTitles
 pub mod TileReads
+pub mod EndingLeaves

@@ -9,6 +9,7 @@ use Rattle.md_seam.specs.Inline.{pieces}
 use Rattle.md_seam.specs.Nested.{Balanced, Forward, last_point}
 use Rattle.md_seam.specs.Pieces.{pieces_stand}
 use Rattle.md_seam.specs.Places.{at_or_before, past_text}
+use Rattle.md_seam.proofs.EndingsLemmas.{AreOthers}
 pub use Rattle.md_seam.proofs.FeedLines.{IsEnding, slice-split}
 use Rattle.md_seam.proofs.RestCells.{Cut}
 use Rattle.md_seam.proofs.SpelledLemmas.{Roles, Quiet}
@@ -22,9 +23,10 @@ use Rattle.markdown_blocks.proofs.PieceFacts.{CutsFirst}
 use Rattle.markdown_blocks.proofs.PiecesLemmas.{Tiled}
 use Rattle.markdown_blocks.proofs.WordsInside.{Worded}
 
--- what stands in a line that is no heading: nothing that the tree shows
+-- what stands in a line that is no heading: nothing that the tree shows, and no ending
 pub record IsInside (row : Row) : Type 0 where
   pub quiet : Roles Quiet row.inside
+  pub others : AreOthers row.inside
   pub balanced : Balanced row.inside
   pub forward : Forward row.first row.inside
   pub within : IsTrue (at_or_before (last_point row.first row.inside) row.end)

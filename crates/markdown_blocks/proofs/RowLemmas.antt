@@ -37,6 +37,7 @@ use Rattle.markdown_blocks.specs.FlowReads.{text_cells, text_rows, text_setting}
 use Rattle.markdown_blocks.specs.Fronted.{Contained, contained, rest_from, rest_line}
 use Rattle.markdown_blocks.specs.Parsed.{IsBuilt}
 use Rattle.markdown_blocks.specs.Rows.{BlankRow, BreakRow, HeadingRow, Held, Row, RowKind, TextRow, after_ending, break_inside, closes_before, first_cell, held_at, inside_of, is_break, is_text, onto_rows, row_kind, row_of, rows_at, rows_by}
+use Rattle.markdown_blocks.proofs.EndingLeaves.{inside-others}
 use Rattle.markdown_blocks.proofs.FrontRows.{AreRead, HasHeld, held-is}
 use Rattle.markdown_blocks.proofs.HeadingRuns.{heading-runs}
 use Rattle.markdown_blocks.proofs.LineKinds.{kind-spread, no_ending-trim, small-end, small-rest, spread-line, spread-line_end, white_front}
@@ -285,6 +286,7 @@ is-row options bytes row said line behind p rest off short h k one vs cut text =
     let inside = inside-row options said line p rest off short h k one (row_kind options cells) other in
     record {
       quiet = inside.quiet;
+      others = inside-others options cells p (row_kind options cells) other;
       balanced = inside.balanced;
       forward = inside.forward;
       within = subst (λ (q : Point). IsTrue (at_or_before (last_point p (inside_of options cells p (row_kind options cells))) q)) (sym end) inside.within;

@@ -9,6 +9,7 @@ pub mod Texts
 pub mod Names
 pub mod Grammar
 pub mod Pieces
+pub mod Held
 pub mod Endings
 pub mod Tiles
 pub mod Tree

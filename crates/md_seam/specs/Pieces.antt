@@ -1,7 +1,7 @@
 -- What the pieces of a text are: the innermost pairs of its events, each over its bytes.
 --
 -- A piece is never empty and never a block, so every byte of a text stands in a piece that says what it is.
-use Rattle.std.specs.Prelude.{ℕ, Bool, true, false, ◌&&◌, ◌||◌, ◌==◌, not, nat_le, if◌then◌else◌, List, [], ◌∷◌, codes, length, slice_range}
+use Rattle.std.specs.Prelude.{ℕ, Bool, true, false, ◌&&◌, ◌||◌, ◌==◌, not, nat_le, if◌then◌else◌, List, [], ◌∷◌, codes, length, slice_range, Option, Some, None}
 use Rattle.std.specs.List.{list_all}
 use Rattle.std.specs.Str.{bytes_eq}
 use Rattle.md_engine.specs.declared.event.Name.{Name}
@@ -35,36 +35,44 @@ is_in_line text = list_all (λ b. not (is_ending b)) text
 abbrev pub is_digit : ℕ → Bool
 is_digit b = nat_le 48 b && nat_le b 57
 
--- What a piece of each name may be over; a name that has no line here is no piece's.
+-- What a piece of each name is over; a name that has no line here is no piece's.
+abbrev pub piece_rule : Name → Option (List ℕ → Bool)
+piece_rule n.SpaceOrTab = Some is_blank
+piece_rule n.LineEnding = Some is_line_ending
+piece_rule n.BlankLineEnding = Some is_line_ending
+piece_rule n.ByteOrderMark = Some (λ text. bytes_eq text (239 ∷ 187 ∷ 191 ∷ []))
+piece_rule n.Data = Some is_in_line
+piece_rule n.FrontmatterSequence = Some (λ text. bytes_eq text (codes "---") || bytes_eq text (codes "+++"))
+piece_rule n.FrontmatterChunk = Some is_in_line
+piece_rule n.BlockQuoteMarker = Some (is_one_of (codes ">"))
+piece_rule n.ListItemValue = Some (λ text. nat_le (length text) 9 && list_all is_digit text)
+piece_rule n.ListItemMarker = Some (is_one_of (codes "*+-.)"))
+piece_rule n.GfmFootnoteDefinitionLabelMarker = Some (is_one_of (codes "[]"))
+piece_rule n.GfmFootnoteDefinitionMarker = Some (is_one_of (codes "^"))
+piece_rule n.HeadingAtxSequence = Some (is_run 1 35)
+piece_rule n.HeadingSetextUnderlineSequence = Some (λ text. is_run 1 61 text || is_run 1 45 text)
+piece_rule n.ThematicBreakSequence = Some (λ text. is_run 1 42 text || is_run 1 45 text || is_run 1 95 text)
+piece_rule n.CodeFencedFenceSequence = Some (λ text. is_run 3 96 text || is_run 3 126 text)
+piece_rule n.CodeFlowChunk = Some is_in_line
+piece_rule n.MathFlowFenceSequence = Some (is_run 2 36)
+piece_rule n.MathFlowChunk = Some is_in_line
+piece_rule n.HtmlFlowData = Some is_in_line
+piece_rule n.DefinitionLabelMarker = Some (is_one_of (codes "[]"))
+piece_rule n.DefinitionMarker = Some (is_one_of (codes ":"))
+piece_rule n.DefinitionDestinationLiteralMarker = Some (is_one_of (codes "<>"))
+piece_rule n.DefinitionTitleMarker = Some (is_one_of (codes "\"'()"))
+piece_rule n.GfmTableCellDivider = Some (is_one_of (codes "|"))
+piece_rule n.GfmTableDelimiterMarker = Some (is_one_of (codes ":"))
+piece_rule n.GfmTableDelimiterFiller = Some (is_run 1 45)
+piece_rule _ = None
+
+-- whether a piece of this name may be over a text
 abbrev pub stands_over : Name → List ℕ → Bool
-stands_over n.SpaceOrTab text = is_blank text
-stands_over n.LineEnding text = is_line_ending text
-stands_over n.BlankLineEnding text = is_line_ending text
-stands_over n.ByteOrderMark text = bytes_eq text (239 ∷ 187 ∷ 191 ∷ [])
-stands_over n.Data text = is_in_line text
-stands_over n.FrontmatterSequence text = bytes_eq text (codes "---") || bytes_eq text (codes "+++")
-stands_over n.FrontmatterChunk text = is_in_line text
-stands_over n.BlockQuoteMarker text = is_one_of (codes ">") text
-stands_over n.ListItemValue text = nat_le (length text) 9 && list_all is_digit text
-stands_over n.ListItemMarker text = is_one_of (codes "*+-.)") text
-stands_over n.GfmFootnoteDefinitionLabelMarker text = is_one_of (codes "[]") text
-stands_over n.GfmFootnoteDefinitionMarker text = is_one_of (codes "^") text
-stands_over n.HeadingAtxSequence text = is_run 1 35 text
-stands_over n.HeadingSetextUnderlineSequence text = is_run 1 61 text || is_run 1 45 text
-stands_over n.ThematicBreakSequence text = is_run 1 42 text || is_run 1 45 text || is_run 1 95 text
-stands_over n.CodeFencedFenceSequence text = is_run 3 96 text || is_run 3 126 text
-stands_over n.CodeFlowChunk text = is_in_line text
-stands_over n.MathFlowFenceSequence text = is_run 2 36 text
-stands_over n.MathFlowChunk text = is_in_line text
-stands_over n.HtmlFlowData text = is_in_line text
-stands_over n.DefinitionLabelMarker text = is_one_of (codes "[]") text
-stands_over n.DefinitionMarker text = is_one_of (codes ":") text
-stands_over n.DefinitionDestinationLiteralMarker text = is_one_of (codes "<>") text
-stands_over n.DefinitionTitleMarker text = is_one_of (codes "\"'()") text
-stands_over n.GfmTableCellDivider text = is_one_of (codes "|") text
-stands_over n.GfmTableDelimiterMarker text = is_one_of (codes ":") text
-stands_over n.GfmTableDelimiterFiller text = is_run 1 45 text
-stands_over _ text = false
+stands_over name text = elim (piece_rule name) [ None ↦ false | Some rule ↦ rule text ]
+
+-- whether a name is that of a piece, and of no block, group or part
+abbrev pub is_piece_name : Name → Bool
+is_piece_name name = elim (piece_rule name) [ None ↦ false | Some rule ↦ true ]
 
 -- what may begin within a tab: what a cut tab leaves of the line
 abbrev pub begins_in_tab : Name → Bool
