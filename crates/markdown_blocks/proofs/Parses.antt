@@ -132,7 +132,7 @@ tiles-are options bytes built small placed =
           chunks = blocks-chunks options bytes [] false p lines rows are (text-quiet options bytes p) (text-unlinked options bytes);
           grammar = blocks-grammar options bytes lines rows are (text-quiet options bytes p);
           pieces_are = blocks-pieces options bytes lines rows are;
-          endings = blocks-endings options bytes lines rows are;
+          endings = blocks-endings options bytes lines rows are (text-quiet options bytes p);
         };
         covers = blocks-cover options bytes lines rows are;
         lists = plain_lists bytes (parts (mark_events bytes ++ titled_groups bytes (groups rows)));
@@ -179,7 +179,7 @@ text-reads options bytes built utf8 small events is =
       tiles = tiles-are options bytes built small;
       grammar = events-grammar options bytes lines rows are (text-quiet options bytes p);
       pieces_are = events-pieces options bytes lines rows are;
-      endings = events-endings options bytes lines rows are;
+      endings = events-endings options bytes lines rows are (text-quiet options bytes p);
     })
 
 -- The same in the words of the calls that `parse` makes.

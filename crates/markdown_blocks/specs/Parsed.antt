@@ -1,11 +1,12 @@
 -- What a parse asks for, and what it gives.
-use Rattle.std.specs.Prelude.{◌≡◌, ◌≢◌, ℕ, ◌-◌, ◌/◌, ◌^◌, ◌≤◌, ◌==◌, true, false, not, IsTrue, List, [], length}
+use Rattle.std.specs.Prelude.{◌≡◌, ◌≢◌, ℕ, ◌-◌, ◌/◌, ◌^◌, ◌<◌, ◌≤◌, ◌==◌, true, false, not, IsTrue, List, [], length}
 use Rattle.std.specs.List.{list_all}
 use Rattle.md_engine.specs.declared.configuration.ParseOptions.{ParseOptions}
 use Rattle.md_engine.specs.declared.event.Event.{Event}
 use Rattle.md_engine.specs.declared.parse_state.ParseState.{ParseState}
 use Rattle.md_seam.specs.Endings.{endings_stand}
 use Rattle.md_seam.specs.Grammar.{keeps_grammar, plain_text}
+use Rattle.md_seam.specs.Held.{Holds}
 use Rattle.md_seam.specs.Inline.{Part, pieces, plain_events}
 use Rattle.md_seam.specs.Meaning.{tree}
 use Rattle.md_seam.specs.Nested.{Nested}
@@ -70,6 +71,8 @@ pub record IsParsed (text : List ℕ) (options : ParseOptions) (events : List Ev
   -- every byte is accounted for: the innermost pairs lie side by side, `Data` over each line of a text part among them
   pub tiles : Tiles (reads_plain text) text events
   pub blocks_are : tiles.blocks ≡ block_list options text
+  -- so every byte stands in a piece that says what it is, and no block holds bytes of its own
+  pub held : (index : ℕ) → index < length text → Holds text (pieces tiles.blocks) index
   -- each part stands where the grammar has it, with what it must hold
   pub grammar : keeps_grammar plain_text events ≡ true
   -- each piece is over what its name says, and no block is a piece

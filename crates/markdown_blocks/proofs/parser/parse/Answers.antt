@@ -8,6 +8,7 @@ use Rattle.md_engine.specs.World.{Setting}
 use Rattle.md_seam.specs.Inline.{PlainReads}
 use Rattle.md_seam.specs.Parts.{ArePlaced}
 use Rattle.md_seam.specs.On.{are_on}
+use Rattle.md_seam.proofs.HeldLemmas.{blocks-held}
 use Rattle.md_seam.proofs.OnLemmas.{tree-on}
 use Rattle.md_seam.proofs.ReachedLemmas.{events-placed}
 use Rattle.markdown_blocks.proofs.FlowReads.{reads-labels, reads-setting, map-nil}
@@ -61,6 +62,7 @@ returns c =
       events_are = read.events_are;
       tiles = tiled.0;
       blocks_are = tiled.1 ∙ read.blocks_are;
+      held = blocks-held c.args.value.now tiled.0.blocks tiled.0.covers tiled.0.block_list.pieces_are tiled.0.block_list.chunks;
       grammar = read.grammar;
       pieces_are = read.pieces_are;
       endings = read.endings;
