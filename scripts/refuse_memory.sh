@@ -39,8 +39,9 @@ footnotes 0
 OUTLINE
 # A number that no run comes to stands for the runs in which nothing is refused.
 none=1000000
-printf '%s\n' "$none" "${numbers[@]}" |
-    xargs -P 4 -I N sh -c "rt try --cases '$work/texts' --fail-alloc N >'$work/N.out' 2>'$work/N.err' </dev/null || true"
+export work
+printf '%s\n' "$none" "${numbers[@]}" | xargs -P 4 -I {} bash -c \
+    'rt try --cases "$work/texts" --fail-alloc {} >"$work/{}.out" 2>"$work/{}.err" </dev/null || true'
 python3 - "$work" "$least" "$none" "${numbers[@]}" <<'PYTHON'
 import os, re, sys
 

@@ -36,7 +36,7 @@ found() {
 }
 export -f rows
 export work
-printf '%s\n' none scripts/wrong-bodies/*.edit | xargs -P 4 -I EDIT bash -c 'set -euo pipefail; rows EDIT'
+printf '%s\n' none scripts/wrong-bodies/*.edit | xargs -P 4 -I {} bash -c 'set -euo pipefail; rows {}'
 passed=0
 failed=0
 right=$(found none)
