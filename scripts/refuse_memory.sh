@@ -5,12 +5,12 @@
 # For each number, every text has one run in which the request of that number is refused. A run that comes to this request must end
 # with status 3 and print nothing. One that makes fewer requests must end with status 0 and print what it prints where none is
 # refused; of the two whole texts that is given. So many runs at least must have been refused. The numbers are the arguments,
-# where there are any: `scripts/refuse_memory.sh $(seq 90)` refuses each request in turn, which takes half an hour.
+# where there are any: `scripts/refuse_memory.sh $(seq 90)` refuses each request in turn, which takes many minutes.
 set -euo pipefail
 cd "$(dirname "$0")/../crates/blocks"
 least=150
 numbers=(1 8 16 22 28 36 46 60)
-[ $# = 0 ] || numbers=("$@")
+[ $# = 0 ] || { numbers=("$@"); least=1; }
 work=$(mktemp -d)
 trap 'rm -rf "$work"' EXIT
 mkdir "$work/texts"
@@ -39,8 +39,9 @@ footnotes 0
 OUTLINE
 # A number that no run comes to stands for the runs in which nothing is refused.
 none=1000000
-printf '%s\n' "$none" "${numbers[@]}" |
-    xargs -P 4 -I N sh -c "rt try --cases '$work/texts' --fail-alloc N >'$work/N.out' 2>'$work/N.err' </dev/null || true"
+export work
+printf '%s\n' "$none" "${numbers[@]}" | xargs -P 4 -I {} bash -c \
+    'rt try --cases "$work/texts" --fail-alloc {} >"$work/{}.out" 2>"$work/{}.err" </dev/null || true'
 python3 - "$work" "$least" "$none" "${numbers[@]}" <<'PYTHON'
 import os, re, sys
 

@@ -5,15 +5,17 @@
 # the crates, whose bench then has to find rows that disagree, or that it can't try. The bench on the copy as it is must find none.
 set -euo pipefail
 cd "$(dirname "$0")/.."
-copy=$(mktemp -d)
-trap 'rm -rf "$copy"' EXIT
+work=$(mktemp -d)
+trap 'rm -rf "$work"' EXIT
+# What the bench says of a copy with an edit, or of one as it is, in a file of that edit's name.
 rows() {
-    rm -rf "$copy/crates"
-    mkdir "$copy/crates"
+    local edit=$1 copy
+    copy="$work/$(basename "$edit" .edit)"
+    mkdir -p "$copy/crates"
     cp crates.txt HANDLES "$copy/"
     tar -C crates --exclude=out -cf - . | tar -C "$copy/crates" -xf -
-    if [ -n "$1" ]; then
-        python3 - "$1" "$copy" <<'PYTHON'
+    if [ "$edit" != none ]; then
+        python3 - "$edit" "$copy" <<'PYTHON'
 import sys
 edit, copy = sys.argv[1:]
 lines = [line.rstrip("\n").split(": ", 1) for line in open(edit) if line.strip() and not line.startswith("#")]
@@ -26,26 +28,29 @@ while lines:
     open(f"{copy}/{name}", "w").write(text.replace(old, new))
 PYTHON
     fi
-    (cd "$copy/crates/blocks_bench" && rt try 2>&1) || true
+    (cd "$copy/crates/blocks_bench" && rt try 2>&1 </dev/null || true) | tr -d '\0' >"$copy.said"
+    rm -rf "$copy"
 }
 found() {
-    tr -d '\0' <<<"$1" | grep -o '[0-9]* tried, [0-9]* wrong' | tail -1 || true
+    grep -ao '[0-9]* tried, [0-9]* wrong' "$work/$(basename "$1" .edit).said" | tail -1 || true
 }
+export -f rows
+export work
+printf '%s\n' none scripts/wrong-bodies/*.edit | xargs -P 4 -I {} bash -c 'set -euo pipefail; rows {}'
 passed=0
 failed=0
-right=$(found "$(rows "" | tr -d '\0')")
+right=$(found none)
 case "$right" in
     *[1-9]*" tried, 0 wrong") passed=1 ;;
     *) echo "without an edit: ${right:-no result}"; failed=1 ;;
 esac
 for edit in scripts/wrong-bodies/*.edit; do
-    answer=$(rows "$edit" | tr -d '\0')
-    said=$(found "$answer")
+    said=$(found "$edit")
     if [ -n "$said" ] && [ "$said" != "$right" ]; then
         passed=$((passed + 1))
     else
         echo "$edit: no row changes (${said:-no result})"
-        tail -3 <<<"$answer"
+        tail -3 "$work/$(basename "$edit" .edit).said"
         failed=$((failed + 1))
     fi
 done

@@ -207,13 +207,11 @@ missing = record {
   title_without_markers = refl;
   footnote_without_label = refl;
   footnote_without_text = refl;
-  quote_without_prefix =
-      refl;
+  quote_without_prefix = refl;
   prefix_without_marker = refl;
   item_without_prefix = refl;
   item_without_marker = refl;
-  list_without_item =
-      refl;
+  list_without_item = refl;
   table_without_head = refl;
   head_without_delimiters = refl;
   row_without_cell = refl;
@@ -533,8 +531,7 @@ contents = record {
   letter_as_heading = refl;
   hashes_as_underline = refl;
   mixed_underline = refl;
-  break_over_spaces =
-      refl;
+  break_over_spaces = refl;
   two_backticks = refl;
   mixed_fence = refl;
   one_dollar = refl;
