@@ -39,8 +39,6 @@ pub mod GrammarRows
 pub mod PieceRows
 pub mod EndingRows
 pub mod Parses
-pub mod TextCuts
-pub mod Sketches
 pub mod PartedRows
 pub mod PlainEvents
 pub mod ParagraphReads
