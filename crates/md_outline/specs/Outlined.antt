@@ -61,7 +61,7 @@ abbrev mutual
 -- Container prefixes in a text: they part it into pieces, which an outline shows one by one. So each line of the text has to
 -- lie in one piece.
 
--- a text that is read, under a name for other crates
+-- a text that is read, as other crates can name it
 abbrev pub TextSpan : Type 0
 TextSpan = Span
 
