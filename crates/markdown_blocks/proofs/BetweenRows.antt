@@ -30,7 +30,7 @@ use Rattle.md_seam.proofs.InlineLemmas.{past-index}
 use Rattle.md_seam.proofs.NestedLemmas.{at_or_before-trans, forward-last}
 use Rattle.md_seam.proofs.PlacesLemmas.{all-append}
 use Rattle.md_seam.proofs.TextsLemmas.{Both, Ending, LineFeed, NoEnding, Return, ending_bytes}
-use Rattle.markdown_blocks.specs.Between.{is_between}
+use Rattle.md_outline.specs.Between.{is_between}
 use Rattle.markdown_blocks.specs.Change.{container_name, ends_of}
 use Rattle.markdown_blocks.specs.Fronted.{contained, rest_from, rest_line}
 use Rattle.markdown_blocks.specs.Rows.{BlankRow, BreakRow, Group, HeadingRow, Lines, Row, RowKind, Single, TextRow, behind_row, ending_events, groups, groups_events, is_text, last_row, line_kind, read_lines, read_text, read_title, row_title, single_events_by, tail_events}

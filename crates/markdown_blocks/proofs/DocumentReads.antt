@@ -38,7 +38,7 @@ use Rattle.markdown_blocks.specs.FlowReads.{text_cells, text_setting}
 use Rattle.markdown_blocks.specs.FlowRule.{tried}
 use Rattle.markdown_blocks.proofs.DocumentMeans.{document_means, document_stands}
 use Rattle.md_seam.proofs.FeedLines.{at-next, feed-next, feed-none, line-feed, past-next}
-use Rattle.markdown_blocks.proofs.MarkLemmas.{mark-bytes, mark-length}
+use Rattle.md_seam.proofs.PreambleLemmas.{mark-bytes, mark-length}
 use Rattle.markdown_blocks.proofs.FlowReads.{resolved-none}
 
 -- The mark among the cells.

@@ -44,8 +44,6 @@ pub mod TextQuoted
 pub mod PieceRows
 pub mod EndingRows
 pub mod Parses
-pub mod TextCuts
-pub mod Sketches
 pub mod PartedRows
 pub mod PlainEvents
 pub mod ParagraphReads

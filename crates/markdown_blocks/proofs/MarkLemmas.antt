@@ -1,10 +1,8 @@
--- The byte order mark in front of a text: its bytes, where the lines begin behind it, and what its events add.
+-- The byte order mark in front of a text: where the lines begin behind it, and what its events add.
 use Rattle.std.proofs.Common.{◌≡◌, ℕ, ◌-◌, ◌/◌, ◌^◌, ◌≤◌, Bool, true, false, cond, nat_lt, ◌||◌, ◌&&◌, ◌==◌, List, [], ◌∷◌, ◌++◌, length, drop, slice_index, refl, ap, ◌∙◌, sym, subst, arith}
 use Rattle.std.specs.Prelude.{None}
 use Rattle.std.specs.List.{list_all}
 use Rattle.std.proofs.lemmas.Bool.{and_from}
-use Rattle.std.proofs.lemmas.Bool.Decides.{Decides-eqb}
-use Rattle.std.proofs.lemmas.Slice.Eq.{starts_is}
 use Rattle.md_engine.specs.declared.event.Event.{Event}
 use Rattle.md_engine.specs.declared.event.Name.TheVariants.{ByteOrderMark}
 use Rattle.md_engine.specs.Place.{IsPlaced, IsReached, first_point, walked}
@@ -13,19 +11,13 @@ use Rattle.md_seam.specs.Preamble.{has_mark, without_mark}
 use Rattle.md_seam.specs.Spelled.{Reading, read, spelled, unread}
 use Rattle.md_seam.proofs.NestedLemmas.{balanced-append}
 use Rattle.md_seam.proofs.PlacesLemmas.{all-append}
+use Rattle.md_seam.proofs.PreambleLemmas.{mark-bytes, mark-length}
 use Rattle.md_seam.proofs.SpelledLemmas.{read-from, read-quiet}
-use Rattle.markdown_blocks.specs.Between.{is_between}
+use Rattle.md_outline.specs.Between.{is_between}
+use Rattle.md_outline.specs.Outlined.{IsOutlined, are_parted, are_shallow, has_plain_name, tells_between}
 use Rattle.markdown_blocks.specs.Document.{body_point, mark_end, mark_events}
-use Rattle.markdown_blocks.specs.Outlined.{IsOutlined, are_parted, are_shallow, has_plain_name, tells_between}
 
 -- The text.
-
--- a text with a mark begins with its bytes
-pub mark-bytes : (bytes : List ℕ) → has_mark bytes ≡ true → bytes ≡ 239 ∷ 187 ∷ 191 ∷ drop 3 bytes
-mark-bytes bytes h = (starts_is Decides-eqb bytes (239 ∷ 187 ∷ 191 ∷ []) (has_mark bytes) refl).0 h
-
-pub mark-length : (bytes : List ℕ) → has_mark bytes ≡ true → 3 ≤ length bytes
-mark-length bytes h = let size : length bytes ≡ length (239 ∷ 187 ∷ 191 ∷ drop 3 bytes) = ap (λ (l : List ℕ). length l) (mark-bytes bytes h) in omega (arith, size)
 
 -- the lines of a text are those of what stands behind the mark
 pub without-mark : (bytes : List ℕ) → without_mark bytes ≡ drop (body_point bytes).index bytes

@@ -24,10 +24,10 @@ use Rattle.md_seam.specs.Spelled.{spelled}
 use Rattle.md_seam.specs.Substituted.{Readings, Substituted}
 use Rattle.md_seam.specs.Texts.{split_lines}
 use Rattle.md_seam.specs.Tiles.{Tiles, parts, plain_lists, plain_read}
+use Rattle.md_outline.specs.Outlined.{IsOutlined, are_shallow}
 use Rattle.markdown_blocks.specs.BlockList.{block_list}
 use Rattle.markdown_blocks.specs.Document.{body_point, mark_events}
 use Rattle.markdown_blocks.specs.FlowReads.{FlowReads, ReadsContent, ReadsNone, SetsHeadings, SetsNone, text_cells, text_rows}
-use Rattle.markdown_blocks.specs.Outlined.{IsOutlined, are_shallow}
 use Rattle.markdown_blocks.specs.Parsed.{IsBuilt, IsSmall, reads_plain}
 use Rattle.markdown_blocks.specs.Resolved.{resolved_as}
 use Rattle.markdown_blocks.specs.Rows.{Row, groups, groups_events}

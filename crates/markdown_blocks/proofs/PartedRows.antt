@@ -28,12 +28,11 @@ use Rattle.md_seam.specs.Texts.{split_lines}
 use Rattle.md_seam.proofs.RestCells.{Cut}
 use Rattle.md_seam.proofs.SpelledLemmas.{Quiet, QuietOrEnding, Roles, roles-append}
 use Rattle.md_seam.proofs.TextsLemmas.{Both, Ending, EndsBefore, LineFeed, NoEnding, Return, ending_bytes, split-line, split-next}
-use Rattle.markdown_blocks.specs.Between.{is_between}
+use Rattle.md_outline.specs.Between.{is_between}
+use Rattle.md_outline.specs.Outlined.{TextSpan as Span, are_parted, begins_line, is_unparted, parts_by, span_by}
 use Rattle.markdown_blocks.specs.Change.{container_name, ends_of, is_none}
 use Rattle.markdown_blocks.specs.Fronted.{contained, cut_tab, rest_from, rest_line}
-use Rattle.markdown_blocks.specs.Outlined.{are_parted, begins_line, is_unparted, parts_by, span_by}
 use Rattle.markdown_blocks.specs.Rows.{BlankRow, BreakRow, Group, HeadingRow, Lines, Row, RowKind, Single, TextRow, behind_row, ending_events, goes_on, groups, groups_events, is_text, last_row, line_kind, onto_groups, read_lines, read_text, read_title, row_line, row_title, single_events_by, tail_events}
-use Rattle.markdown_blocks.specs.declared.outline.Span.{Span}
 use Rattle.markdown_blocks.proofs.BetweenRows.{between-behind, ending-behind, further-between, is_low, white-at}
 use Rattle.markdown_blocks.proofs.ContainedLemmas.{none-nil}
 use Rattle.markdown_blocks.proofs.FrontFacts.{Begins, Behind, Fronts, Goes, IsFurther, IsOpening, IsPrefix}

@@ -19,10 +19,10 @@ use Rattle.md_seam.specs.Places.{past_byte, past_text, same_place}
 use Rattle.md_seam.specs.Spelled.{Holds, IsQuiet, Role, Shape, byte_at, role, spelled}
 use Rattle.md_seam.specs.State.{Container, InFootnote, InItem, InQuote}
 use Rattle.md_seam.proofs.SpelledLemmas.{Quiet, Roles, roles-append}
-use Rattle.markdown_blocks.specs.Between.{is_between}
+use Rattle.md_outline.specs.Between.{is_between}
+use Rattle.md_outline.specs.Outlined.{IsOutlined, are_shallow, has_plain_name, is_plain, is_told, tells_between}
 use Rattle.markdown_blocks.specs.Change.{Change, container_name, ends_of}
 use Rattle.markdown_blocks.specs.Fronted.{contained, rest_from}
-use Rattle.markdown_blocks.specs.Outlined.{IsOutlined, are_shallow, has_plain_name, is_plain, is_told, tells_between}
 use Rattle.markdown_blocks.specs.Rows.{BlankRow, BreakRow, Group, HeadingRow, Lines, Row, RowKind, Single, TextRow, behind_row, ending_events, group_events, groups, groups_events, is_text, last_row, read_lines, read_text, read_title, row_line, row_title, single_events_by, tail_events}
 use Rattle.markdown_blocks.specs.Stands.{shape_of}
 use Rattle.markdown_blocks.proofs.ContainedLemmas.{contained-shapes}

@@ -9,14 +9,11 @@ pub mod Rows
 pub mod Fronted
 pub mod Sections
 pub mod Stands
-pub mod Between
 pub mod TextRows
 pub mod BlockList
 pub mod Fed
 pub mod FlowReads
 pub mod Unread
-pub mod Outlined
-pub mod Sketched
 pub mod TextReads
 pub mod Document
 pub mod DocumentRule

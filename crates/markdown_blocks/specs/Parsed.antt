@@ -18,8 +18,8 @@ use Rattle.md_seam.specs.Spelled.{spelled}
 use Rattle.md_seam.specs.Tiles.{Tiles, plain_read}
 use Rattle.md_seam.specs.Tree.{End, More, Quote}
 use Rattle.md_seam.specs.Wrapped.{quoted}
+use Rattle.md_outline.specs.Outlined.{IsOutlined}
 use Rattle.markdown_blocks.specs.BlockList.{block_list}
-use Rattle.markdown_blocks.specs.Outlined.{IsOutlined}
 
 -- a text that points have room for: at most an eighth of the greatest `usize`
 abbrev pub IsSmall : List ℕ → Type 0

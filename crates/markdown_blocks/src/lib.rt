@@ -2,9 +2,9 @@
 #![tactic(auto)]
 
 pub mod construct;
-pub mod outline;
 pub mod parser;
 pub mod resolve;
 
 pub use md_engine::{configuration, event, message, state, subtokenize, table, tokenizer};
+pub use md_outline::outline;
 pub use md_seam::{inline, plain};

@@ -1,8 +1,8 @@
 use Rattle.std.proofs.Common.{◌≡◌, drop}
-use Rattle.markdown_blocks.specs.Outlined.{IsOutlined}
-use Rattle.markdown_blocks.specs.Sketched.{sketch_of, sketched, unsketched}
-use Rattle.markdown_blocks.proofs.Sketches.{Goes}
-use Rattle.markdown_blocks.proofs.outline.outline.Given as goal
+use Rattle.md_outline.specs.Outlined.{IsOutlined}
+use Rattle.md_outline.specs.Sketched.{sketch_of, sketched, unsketched}
+use Rattle.md_outline.proofs.Sketches.{Goes}
+use Rattle.md_outline.proofs.outline.outline.Given as goal
 
 abbrev pub invariant-loop-event : goal.invariant-loop-event
 invariant-loop-event l = record {

@@ -14,15 +14,15 @@ use Rattle.md_seam.specs.Spelled.{AsHeading, AsMarkers, AsParagraph, Holds, IsPr
 use Rattle.md_seam.specs.Spelled as spelled
 use Rattle.md_seam.specs.Texts.{split_lines, trim_each}
 use Rattle.md_seam.specs.Tree.{Break}
-use Rattle.markdown_blocks.specs.Between.{is_between}
-use Rattle.markdown_blocks.specs.declared.outline.Leaf.{Leaf}
-use Rattle.markdown_blocks.specs.declared.outline.Leaf.TheVariants as leaf
-use Rattle.markdown_blocks.specs.declared.outline.Purpose.{Purpose}
-use Rattle.markdown_blocks.specs.declared.outline.Purpose.TheVariants as purpose
-use Rattle.markdown_blocks.specs.declared.outline.Reading.{Reading}
-use Rattle.markdown_blocks.specs.declared.outline.Role.{Role}
-use Rattle.markdown_blocks.specs.declared.outline.Role.TheVariants as role
-use Rattle.markdown_blocks.specs.declared.outline.Span.{Span}
+use Rattle.md_outline.specs.Between.{is_between}
+use Rattle.md_outline.specs.declared.outline.Leaf.{Leaf}
+use Rattle.md_outline.specs.declared.outline.Leaf.TheVariants as leaf
+use Rattle.md_outline.specs.declared.outline.Purpose.{Purpose}
+use Rattle.md_outline.specs.declared.outline.Purpose.TheVariants as purpose
+use Rattle.md_outline.specs.declared.outline.Reading.{Reading}
+use Rattle.md_outline.specs.declared.outline.Role.{Role}
+use Rattle.md_outline.specs.declared.outline.Role.TheVariants as role
+use Rattle.md_outline.specs.declared.outline.Span.{Span}
 
 -- Lines of a text.
 

@@ -3,8 +3,8 @@ use Rattle.std.specs.Str.{IsUtf8}
 use Rattle.md_seam.specs.Outline.{entries_of}
 use Rattle.md_seam.specs.Places.{last_line}
 use Rattle.md_seam.specs.Texts.{split_lines}
-use Rattle.markdown_blocks.specs.Sketched.{full_entries}
-use Rattle.markdown_blocks.proofs.outline.push_full_lines.Given as goal
+use Rattle.md_outline.specs.Sketched.{full_entries}
+use Rattle.md_outline.proofs.outline.push_full_lines.Given as goal
 
 abbrev pub invariant-rest : goal.invariant-rest
 invariant-rest l =

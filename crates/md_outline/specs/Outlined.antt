@@ -15,8 +15,8 @@ use Rattle.md_seam.specs.Rest.{is_blank}
 use Rattle.md_seam.specs.Spelled.{AsHeading, AsMarkers, AsParagraph, Holds, IsEnding, IsPrefix, IsQuiet, OfBreak, OfHeadingAtx, Opens, QuoteShape, Role, Tells, byte_at, role, spelled}
 use Rattle.md_seam.specs.Texts.{split_lines}
 use Rattle.md_seam.specs.Tree.{Block, Blocks, End, Footnote, Heading, Item, ListOf, More, Quote}
-use Rattle.markdown_blocks.specs.Between.{is_between}
-use Rattle.markdown_blocks.specs.declared.outline.Span.{Span}
+use Rattle.md_outline.specs.Between.{is_between}
+use Rattle.md_outline.specs.declared.outline.Span.{Span}
 
 -- the roles of breaks, headings, paragraphs and block quotes, and of what the tree does not show
 abbrev pub is_plain : Role → Bool
@@ -60,6 +60,10 @@ abbrev mutual
 
 -- Container prefixes in a text: they part it into pieces, which an outline shows one by one. So each line of the text has to
 -- lie in one piece.
+
+-- a text that is read, as other crates can name it
+abbrev pub TextSpan : Type 0
+TextSpan = Span
 
 -- the text that is read behind an event: where it begins, or goes on behind the last prefix in it, and whether there is one
 abbrev pub span_enter : Role → Point → Option Span → Option Span

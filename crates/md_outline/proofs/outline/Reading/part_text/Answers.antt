@@ -1,7 +1,7 @@
 use Rattle.md_seam.specs.Outline.{entries_of}
-use Rattle.markdown_blocks.specs.Sketched.{sketch_of}
-use Rattle.markdown_blocks.proofs.Sketches.{on_ok-map, piece-end}
-use Rattle.markdown_blocks.proofs.outline.Reading.part_text.Goals as goal
+use Rattle.md_outline.specs.Sketched.{sketch_of}
+use Rattle.md_outline.proofs.Sketches.{on_ok-map, piece-end}
+use Rattle.md_outline.proofs.outline.Reading.part_text.Goals as goal
 
 pub returns-clause-read : goal.returns-clause-read
 returns-clause-read c =

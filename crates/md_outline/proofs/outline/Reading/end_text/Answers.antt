@@ -1,7 +1,7 @@
 use Rattle.md_seam.specs.Outline.{entries_of}
-use Rattle.markdown_blocks.specs.Sketched.{sketch_of}
-use Rattle.markdown_blocks.proofs.Sketches.{on_ok-map, paragraph-end}
-use Rattle.markdown_blocks.proofs.outline.Reading.end_text.Goals as goal
+use Rattle.md_outline.specs.Sketched.{sketch_of}
+use Rattle.md_outline.proofs.Sketches.{on_ok-map, paragraph-end}
+use Rattle.md_outline.proofs.outline.Reading.end_text.Goals as goal
 
 pub returns-in-Paragraph-clause-read : goal.returns-in-Paragraph-clause-read
 returns-in-Paragraph-clause-read c =

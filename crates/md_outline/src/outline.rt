@@ -8,10 +8,10 @@ ghost use Rattle.md_seam.specs.Places.{last_line};
 ghost use Rattle.md_seam.specs.Rest.{is_white, trim_start};
 ghost use Rattle.md_seam.specs.Spelled as spelled;
 ghost use Rattle.md_seam.specs.Texts.{split_lines};
-ghost use Rattle.markdown_blocks.specs.Between.{is_between};
-ghost use Rattle.markdown_blocks.specs.Outlined.{Outlines};
-ghost use Rattle.markdown_blocks.specs.declared.outline.Span.{Span};
-ghost use Rattle.markdown_blocks.specs.Sketched.{BeginsBetween, IsCut, IsText, LeafIsText, after_ending, begin_entries, bytes_of, full_entries, heading_entries, leaf_ended, line_len, parted_at, shown_as, sketch_by, sketch_enter, sketch_exit, sketch_of, text_entries, told_at, told_markers, told_title};
+ghost use Rattle.md_outline.specs.Between.{is_between};
+ghost use Rattle.md_outline.specs.Outlined.{Outlines};
+ghost use Rattle.md_outline.specs.declared.outline.Span.{Span};
+ghost use Rattle.md_outline.specs.Sketched.{BeginsBetween, IsCut, IsText, LeafIsText, after_ending, begin_entries, bytes_of, full_entries, heading_entries, leaf_ended, line_len, parted_at, shown_as, sketch_by, sketch_enter, sketch_exit, sketch_of, text_entries, told_at, told_markers, told_title};
 
 use md_engine::event::{Event, Kind, Name, Point};
 use md_engine::message::Message;

@@ -25,13 +25,13 @@ use Rattle.md_seam.specs.State.{then_block}
 use Rattle.md_seam.specs.Texts.{split_lines, trim_each}
 use Rattle.md_seam.specs.Tree.{Block, Blocks, Break, End, Heading, Line, More, Paragraph, Quote}
 use Rattle.md_seam.proofs.PlacesLemmas.{Some_line, some-split}
-use Rattle.markdown_blocks.specs.Between.{is_between}
-use Rattle.markdown_blocks.specs.Outlined.{IsOutlined, are_parted, are_shallow, begins_line, has_plain_name, is_plain, is_shallow, is_told, is_unparted, parts_by, span_by, tells_between}
-use Rattle.markdown_blocks.specs.Sketched.{BeginsBetween, BreakSketch, HeadingSketch, IsCut, LeafIsText, LeafSketch, Sketch, begin_entries, byte_depth, full_entries, heading_entries, leaf_ended, marked, parted_at, shown_as, sketch_by, sketch_enter, sketch_exit, sketched, text_entries, titled, title_entries, told_at, unsketched}
-use Rattle.markdown_blocks.specs.declared.outline.Purpose.{Purpose}
-use Rattle.markdown_blocks.specs.declared.outline.Purpose.TheVariants as purpose
-use Rattle.markdown_blocks.specs.declared.outline.Span.{Span}
-use Rattle.markdown_blocks.proofs.TextCuts.{piece-entries, utf8-part}
+use Rattle.md_outline.specs.Between.{is_between}
+use Rattle.md_outline.specs.Outlined.{IsOutlined, are_parted, are_shallow, begins_line, has_plain_name, is_plain, is_shallow, is_told, is_unparted, parts_by, span_by, tells_between}
+use Rattle.md_outline.specs.Sketched.{BeginsBetween, BreakSketch, HeadingSketch, IsCut, LeafIsText, LeafSketch, Sketch, begin_entries, byte_depth, full_entries, heading_entries, leaf_ended, marked, parted_at, shown_as, sketch_by, sketch_enter, sketch_exit, sketched, text_entries, titled, title_entries, told_at, unsketched}
+use Rattle.md_outline.specs.declared.outline.Purpose.{Purpose}
+use Rattle.md_outline.specs.declared.outline.Purpose.TheVariants as purpose
+use Rattle.md_outline.specs.declared.outline.Span.{Span}
+use Rattle.md_outline.proofs.TextCuts.{piece-entries, utf8-part}
 
 -- a block that is added last is shown last
 pub outline-then : (depth : ℕ) (bs : Blocks) (b : Block) → outline depth (then_block bs b) ≡ outline depth bs ++ block_entries depth b

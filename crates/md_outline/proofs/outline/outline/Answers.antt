@@ -1,7 +1,7 @@
 use Rattle.std.proofs.Common.{◌∙◌, arith}
-use Rattle.markdown_blocks.specs.Sketched.{sketch_of, sketched, unsketched}
-use Rattle.markdown_blocks.proofs.Sketches.{sketch-end, sketch-next}
-use Rattle.markdown_blocks.proofs.outline.outline.Goals as goal
+use Rattle.md_outline.specs.Sketched.{sketch_of, sketched, unsketched}
+use Rattle.md_outline.proofs.Sketches.{sketch-end, sketch-next}
+use Rattle.md_outline.proofs.outline.outline.Goals as goal
 
 pub loop-event-preserved : goal.loop-event-preserved
 loop-event-preserved c = record {

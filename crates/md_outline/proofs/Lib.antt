@@ -1,0 +1,2 @@
+pub mod TextCuts
+pub mod Sketches
