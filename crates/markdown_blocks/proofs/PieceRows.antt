@@ -24,7 +24,7 @@ use Rattle.markdown_blocks.specs.Unread.{linked_lines, titled_group, titled_grou
 use Rattle.markdown_blocks.proofs.EachRow.{EachRow, last-each}
 use Rattle.markdown_blocks.proofs.FrontFacts.{Behind, Begins, Fronts, Goes, IsFurther, IsOpening, IsPrefix}
 use Rattle.markdown_blocks.proofs.GroupLemmas.{text-some}
-use Rattle.markdown_blocks.proofs.MarkLemmas.{mark-bytes}
+use Rattle.md_seam.proofs.PreambleLemmas.{mark-bytes}
 use Rattle.markdown_blocks.proofs.PieceFacts.{Starts, Stood, begins-cut, begins-whole, chunk_span, over-stands, piece-stands, span, starts-append, stood-append, stood-around, stood-exit, stood-none, stood-pair}
 use Rattle.markdown_blocks.proofs.PieceTitles.{Chunked, Titled, chunked-alone, chunked-ended, ending-stands, line-ending, starts-tiled, titled}
 use Rattle.markdown_blocks.proofs.PiecesLemmas.{pieces-before}
