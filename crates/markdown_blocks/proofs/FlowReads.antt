@@ -1,5 +1,5 @@
 -- What flow has read of a text, by what pushing and flushing it do.
-use Rattle.std.proofs.Common.{◌≡◌, ◌≢◌, ◌⊎◌, inl, inr, ◌^◌, ◌<◌, ℕ, zero, suc, ◌&&◌, Bool, true, false, nat_eq, nat_lt, nat_le, List, [], ◌∷◌, ◌++◌, length, take, drop, Option, Some, None, refl, sym, ◌∙◌, ap, ap₂, subst, arith, map}
+use Rattle.std.proofs.Common.{◌≡◌, ◌≢◌, ◌⊎◌, inl, inr, ◌^◌, ◌<◌, ℕ, suc, ◌&&◌, Bool, true, false, nat_eq, nat_lt, nat_le, List, [], ◌∷◌, ◌++◌, length, take, drop, Option, Some, None, refl, sym, ◌∙◌, ap, ap₂, subst, arith, map}
 use Rattle.std.proofs.lemmas.Bool.{or_from}
 use Rattle.md_engine.specs.declared.configuration.ParseOptions.{ParseOptions}
 use Rattle.md_engine.specs.declared.event.Event.{Event}
@@ -75,9 +75,11 @@ is_no_heading Enter name = true
 is_no_heading Exit n.HeadingAtx = false
 is_no_heading Exit _ = true
 
+-- an event that ends no such part
 abbrev IsOther : (Kind → Name → Bool) → Event → Type 0
 IsOther test e = test e.kind e.name ≡ true
 
+-- events none of which does
 abbrev Others : (Kind → Name → Bool) → List Event → Type 0
 Others test es = Each (IsOther test) es
 

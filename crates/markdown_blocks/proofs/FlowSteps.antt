@@ -20,7 +20,7 @@ use Rattle.md_leaves.specs.BreakRule.{Apart, runs}
 use Rattle.md_leaves.specs.HeadingText.{begins, headings_resolved, is_heading}
 use Rattle.md_seam.specs.declared.inline.Chunk.{Chunk}
 use Rattle.md_seam.specs.Ahead.{begins_white, from_ending, line_cells, line_end, point_after, white_end, white_rest}
-use Rattle.md_seam.specs.Nested.{around, enter, enter_link, exit, pair, is_exit}
+use Rattle.md_seam.specs.Nested.{enter_link, exit, pair, is_exit}
 use Rattle.md_seam.specs.Rest.{is_white}
 use Rattle.md_seam.specs.Spaces.{small_indent}
 use Rattle.md_seam.specs.State.{Container, InFootnote, InItem, InQuote}
@@ -29,7 +29,7 @@ use Rattle.md_seam.proofs.SpelledLemmas.{Quiet, Roles, roles-append}
 use Rattle.markdown_blocks.specs.Change.{interrupts, open_behind, others_of}
 use Rattle.markdown_blocks.specs.FlowReads.{has_text}
 use Rattle.markdown_blocks.specs.Rows.{BlankRow, BreakRow, Front, HeadingRow, Held, Passed, Row, RowKind, TextRow, ending_of, first_cell, goes_at, held_at, in_front, inside_of, is_text, leaf_events, new_front, no_front, opens_at, quote_new, quote_on, row_events, row_events_by, row_kind, rows_at, rows_by, rows_events, tail_events, went_front}
-use Rattle.markdown_blocks.proofs.EachEvent.{Each, each-append}
+use Rattle.markdown_blocks.proofs.EachEvent.{Each}
 use Rattle.markdown_blocks.proofs.EachRow.{EachRow}
 use Rattle.markdown_blocks.proofs.FrontNames.{AreFront, front-append}
 use Rattle.markdown_blocks.proofs.GroupLemmas.{AreOutside, around-outside, front-outside, outside-append, outside-passes, quiet-outside, tail-outside}
@@ -39,10 +39,12 @@ use Rattle.markdown_blocks.proofs.SubstitutedLemmas.{keeps, keeps-each}
 
 -- What stands in front of a line that flow reads.
 
+-- whitespace that may stand there
 white-front : (x : Bool) (p q : Point) → AreFront (cond x (pair n.SpaceOrTab p q) [])
 white-front true p q = (refl, refl, (refl, refl, tt))
 white-front false p q = tt
 
+-- behind the marker of a quote
 behind-front : (cells : List Cell) (p : Point) → AreFront (behind_events cells p)
 behind-front [] p = (refl, refl, tt)
 behind-front (c ∷ cs) p = go (is_white c.byte)
@@ -51,6 +53,7 @@ behind-front (c ∷ cs) p = go (is_white c.byte)
     go true = (refl, refl, (refl, refl, (refl, refl, tt)))
     go false = (refl, refl, tt)
 
+-- from the marker on
 marker-front : (cells : List Cell) (p : Point) → AreFront (marker_events cells p)
 marker-front [] p = tt
 marker-front (c ∷ cs) p = (refl, refl, (refl, refl, (refl, refl, behind-front cs c.after)))
@@ -67,6 +70,7 @@ abbrev PassesFront : Option Passed → Type 0
 PassesFront None = Unit {0}
 PassesFront (Some t) = AreFront t.events
 
+-- one that goes on
 goes-front : (options : ParseOptions) (c : Container) (cells : List Cell) (p : Point) → PassesFront (goes_at options c cells p)
 goes-front options InQuote cells p = go (takes_prefix options cells)
   where
@@ -76,6 +80,7 @@ goes-front options InQuote cells p = go (takes_prefix options cells)
 goes-front options (InItem digits marker width starts_blank) cells p = tt
 goes-front options (InFootnote label) cells p = tt
 
+-- one that opens
 opens-front : (options : ParseOptions) (interrupting : Bool) (cells : List Cell) (p : Point) → PassesFront (opens_at options interrupting cells p)
 opens-front options interrupting cells p = go (options.constructs.block_quote && takes_prefix options cells)
   where
@@ -83,6 +88,7 @@ opens-front options interrupting cells p = go (options.constructs.block_quote &&
     go true = (refl, refl, quote-front options cells p)
     go false = tt
 
+-- the events of what stands there
 abbrev events_of : Front → List Event
 events_of f = f.events
 
@@ -91,11 +97,13 @@ more-front : (f : Passed → Front) (none : Front) → ((t : Passed) → AreFron
 more-front f none below h None k = h
 more-front f none below h (Some t) k = front-append t.events (f t).events k (below t)
 
+-- all that go on
 went-are : (options : ParseOptions) (cs : List Container) (cells : List Cell) (p : Point) → AreFront (went_front options cs cells p).events
 went-are options [] cells p = tt
 went-are options (c ∷ cs) cells p =
     more-front (λ (t : Passed). went_front options cs t.cells t.point) (no_front cells p) (λ t. went-are options cs t.cells t.point) tt (goes_at options c cells p) (goes-front options c cells p)
 
+-- all that open
 new-are : (options : ParseOptions) (interrupting : Bool) (size : ℕ) (cells : List Cell) (p : Point) → AreFront (new_front options interrupting size cells p).events
 new-are options interrupting zero cells p = tt
 new-are options interrupting (suc size) cells p =
@@ -113,10 +121,12 @@ held-are options cs going cells p =
 
 -- Lines.
 
+-- whitespace that may stand in a line
 white-quiet : (x : Bool) (p q : Point) → Roles Quiet (cond x (pair n.SpaceOrTab p q) [])
 white-quiet true p q = (tt, (tt, tt))
 white-quiet false p q = tt
 
+-- what stands in a line that is no heading
 inside-quiet : (options : ParseOptions) (cells : List Cell) (p : Point) (kind : RowKind) → kind ≢ HeadingRow → Roles Quiet (inside_of options cells p kind)
 inside-quiet options cells p BlankRow other = white-quiet (begins_white cells) p (line_end cells p)
 inside-quiet options cells p HeadingRow other = absurd (other refl)
@@ -144,6 +154,7 @@ rows_by-framed options h further front each = (record { front = front; inside = 
     go [] = tt
     go (c ∷ cs) = each (open_behind h.change) going cs c.after
 
+-- however many there are
 pub rows_at-framed : (options : ParseOptions) (size : ℕ) (open_before : List Container) (going : Bool) (cells : List Cell) (p : Point) → EachRow IsFramed (rows_at options size open_before going cells p)
 rows_at-framed options zero open_before going cells p = tt
 rows_at-framed options (suc size) open_before going cells p =
@@ -151,12 +162,14 @@ rows_at-framed options (suc size) open_before going cells p =
 
 -- Reading content.
 
+-- what `is_text` says of a kind
 text-kind : (kind : RowKind) → is_text kind ≡ false → kind ≢ TextRow
 text-kind TextRow e k = cc
 text-kind BlankRow e k = cc
 text-kind HeadingRow e k = cc
 text-kind BreakRow e k = cc
 
+-- where no line is text there is no content
 rows-no_content : (wants : Content → Bool) → wants content.Text ≡ false → (rows : List Row) → EachRow IsFramed rows → EachNoContent rows → has_text rows ≡ false → NoContent wants (rows_events rows)
 rows-no_content wants w [] framed quiet none = tt
 rows-no_content wants w (row ∷ rows) framed quiet none =
@@ -175,6 +188,7 @@ content-same reads rows framed quiet none =
 
 -- What holds of each event wherever it stands, and of each that is read, goes on to hold.
 
+-- once lines are joined
 joined-each : (P : Event → Type 0) → ((e : Event) (q : Point) → P e → P (record e { point = q })) → (es : List Event) → Each P es → Each P (joined es)
 joined-each P moves [] h = tt
 joined-each P moves (e ∷ []) h = h
@@ -185,6 +199,7 @@ joined-each P moves (e ∷ f ∷ g ∷ es) h = go (is_exit e.kind && is_content 
     go true k l = (moves e g.point h.0, k)
     go false k l = (h.0, l)
 
+-- once lines end where their chunks do
 settled-each : (P : Event → Type 0) → ((e : Event) (q : Point) → P e → P (record e { point = q })) → (chunks : List Chunk) (es : List Event) → Each P es → Each P (settled chunks es)
 settled-each P moves chunks [] h = tt
 settled-each P moves [] (e ∷ es) h = h
@@ -196,6 +211,7 @@ settled-each P moves (chunk ∷ chunks) (e ∷ es) h = go (is_data_end e) (settl
 
 -- Setting the text of headings.
 
+-- no heading begins with an event
 abbrev IsOutside : Event → Type 0
 IsOutside e = begins is_heading e ≡ false
 
@@ -220,10 +236,12 @@ row-outside row kind e other framed =
     ending BreakRow = refl
     ending TextRow = refl
 
+-- lines none of which is a heading
 pub rows-outside : (rows : List Row) → EachRow IsFramed rows → EachRow (λ (row : Row). row.kind ≢ HeadingRow) rows → AreOutside (rows_events rows)
 rows-outside [] framed other = tt
 rows-outside (row ∷ rows) framed other = outside-append (row_events row) (rows_events rows) (row-outside row row.kind refl other.0 framed.0) (rows-outside rows framed.1 other.1)
 
+-- the lines of a paragraph
 lines-outside : (cells : List Cell) (p : Point) → AreOutside (line_events cells p)
 lines-outside [] p = (refl, tt)
 lines-outside (c ∷ cs) p = go (c.byte == 10) (lines-outside cs c.after)
