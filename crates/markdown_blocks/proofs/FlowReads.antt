@@ -1,5 +1,6 @@
 -- What flow has read of a text, by what pushing and flushing it do.
-use Rattle.std.proofs.Common.{◌≡◌, ◌≢◌, ◌⊎◌, inl, inr, ◌^◌, ◌<◌, ℕ, zero, suc, ◌&&◌, Bool, true, false, nat_eq, nat_lt, nat_le, List, [], ◌∷◌, ◌++◌, length, take, drop, Option, Some, None, refl, sym, ◌∙◌, ap, ap₂, subst, arith, map}
+use Rattle.std.proofs.Common.{◌≡◌, ◌≢◌, ◌⊎◌, inl, inr, ◌^◌, ◌<◌, ℕ, suc, ◌&&◌, Bool, true, false, nat_eq, nat_lt, nat_le, List, [], ◌∷◌, ◌++◌, length, take, drop, Option, Some, None, refl, sym, ◌∙◌, ap, ap₂, subst, arith, map}
+use Rattle.std.proofs.lemmas.Bool.{or_from}
 use Rattle.md_engine.specs.declared.configuration.ParseOptions.{ParseOptions}
 use Rattle.md_engine.specs.declared.event.Event.{Event}
 use Rattle.md_engine.specs.declared.event.Kind.{Kind}
@@ -30,25 +31,35 @@ use Rattle.md_engine.specs.World.{Setting, World, closed, closed_events, fresh, 
 use Rattle.md_engine.proofs.Keeps.{runs-append, runs-at_end, runs-setting}
 use Rattle.md_containers.specs.Quote as quote
 use Rattle.md_content.specs.Chunks.{chunk_inside_code, content_link}
+use Rattle.md_content.specs.ContentReads.{content_readings, wants_content}
+use Rattle.md_content.specs.Joined.{joined}
+use Rattle.md_content.specs.Resolves.{Resolves, found_in_content}
 use Rattle.md_seam.specs.Nested.{around, enter_link, exit}
 use Rattle.md_leaves.specs.Blank as blank
 use Rattle.md_leaves.specs.Break as break
 use Rattle.md_leaves.specs.Heading as heading
 use Rattle.md_leaves.specs.Heading.{heading_link, sees_text}
+use Rattle.md_leaves.specs.HeadingText.{headings_resolved}
 use Rattle.md_seam.specs.Spaces as spaces
 use Rattle.md_seam.specs.Spaces.{ends_line, is_current, sees_white}
+use Rattle.md_seam.specs.Substituted.{Substituted}
 use Rattle.md_seam.specs.Went.{entered, exited, taken}
 use Rattle.markdown_blocks.specs.Flow as flow
 use Rattle.markdown_blocks.specs.Fed.{FlowRan}
-use Rattle.markdown_blocks.specs.FlowReads.{FlowReads, NoHeading, NoText, ReadsContent, ReadsNone, SetsHeadings, SetsNone, text_cells, text_rows, text_setting}
+use Rattle.markdown_blocks.specs.FlowReads.{FlowReads, has_text, text_cells, text_rows, text_setting}
 use Rattle.markdown_blocks.specs.LineFlags.{ending_name, next_container, stays}
 use Rattle.markdown_blocks.specs.Resolved.{resolved_as}
 use Rattle.markdown_blocks.specs.FlowRule.{flow_at, flow_behaves}
-use Rattle.markdown_blocks.specs.Rows.{HeadingRow, Row, RowKind, TextRow, leaf_events, row_events, row_events_by, rows_events, tail_events}
+use Rattle.markdown_blocks.specs.Rows.{BlankRow, BreakRow, HeadingRow, Row, RowKind, TextRow, is_text, leaf_events, row_events, row_events_by, rows_events, tail_events}
 use Rattle.markdown_blocks.specs.States.{FlowStep, flow_table_scheme, flow_went}
+use Rattle.markdown_blocks.proofs.EachEvent.{Each, each-append, each-behind, each-drop, each-front, each-take}
+use Rattle.markdown_blocks.proofs.EachRow.{EachRow}
 use Rattle.markdown_blocks.proofs.FlowLemmas.{flow_by_line}
 use Rattle.markdown_blocks.proofs.FlowRows.{flow_at-rows}
 use Rattle.markdown_blocks.proofs.FlowRuns.{flow_flush, flow_outcome, flow_push}
+use Rattle.markdown_blocks.proofs.FlowSteps.{IsFramed, content-same, headings-same, reading-outside, rows-outside, rows_at-framed}
+use Rattle.markdown_blocks.proofs.GroupLemmas.{AreOutside}
+use Rattle.markdown_blocks.proofs.JoinedLemmas.{EachNoContent, rows_at-no_content}
 use Rattle.markdown_blocks.proofs.StandsLemmas.{flow-ran}
 
 -- Events without the end of a part.
@@ -64,26 +75,13 @@ is_no_heading Enter name = true
 is_no_heading Exit n.HeadingAtx = false
 is_no_heading Exit _ = true
 
+-- an event that ends no such part
+abbrev IsOther : (Kind → Name → Bool) → Event → Type 0
+IsOther test e = test e.kind e.name ≡ true
+
+-- events none of which does
 abbrev Others : (Kind → Name → Bool) → List Event → Type 0
-Others test [] = Unit {0}
-Others test (e ∷ es) = (test e.kind e.name ≡ true) × Others test es
-
-others-append : (test : Kind → Name → Bool) (a b : List Event) → Others test a → Others test b → Others test (a ++ b)
-others-append test [] b o k = k
-others-append test (e ∷ es) b o k = (o.0, others-append test es b o.1 k)
-
-others-front : (test : Kind → Name → Bool) (a b : List Event) → Others test (a ++ b) → Others test a
-others-front test [] b o = tt
-others-front test (e ∷ es) b o = (o.0, others-front test es b o.1)
-
-others-behind : (test : Kind → Name → Bool) (a b : List Event) → Others test (a ++ b) → Others test b
-others-behind test [] b o = o
-others-behind test (e ∷ es) b o = others-behind test es b o.1
-
-others-take : (test : Kind → Name → Bool) (k : ℕ) (es : List Event) → Others test es → Others test (take k es)
-others-take test zero es o = tt
-others-take test (suc k) [] o = tt
-others-take test (suc k) (e ∷ es) o = (o.0, others-take test k es o.1)
+Others test es = Each (IsOther test) es
 
 -- What flow registers: the resolver of content, and behind it that of headings; each once, and only where such a part has ended.
 
@@ -112,8 +110,8 @@ adds events e names a b h = record {
   content = h.content;
   heading = h.heading;
   names_are = h.names_are;
-  no_content = λ k. others-append is_no_content events (e ∷ []) (h.no_content k) (a, tt);
-  no_heading = λ k. others-append is_no_heading events (e ∷ []) (h.no_heading k) (b, tt);
+  no_content = λ k. each-append (IsOther is_no_content) events (e ∷ []) (h.no_content k) (a, tt);
+  no_heading = λ k. each-append (IsOther is_no_heading) events (e ∷ []) (h.no_heading k) (b, tt);
 }
 
 goes-back : (k : ℕ) (events : List Event) (names : List ResolveName) → RegistersBy events names → RegistersBy (take k events) names
@@ -121,8 +119,8 @@ goes-back k events names h = record {
   content = h.content;
   heading = h.heading;
   names_are = h.names_are;
-  no_content = λ e. others-take is_no_content k events (h.no_content e);
-  no_heading = λ e. others-take is_no_heading k events (h.no_heading e);
+  no_content = λ e. each-take (IsOther is_no_content) k events (h.no_content e);
+  no_heading = λ e. each-take (IsOther is_no_heading) k events (h.no_heading e);
 }
 
 -- the two resolvers of flow are registered each once
@@ -152,25 +150,20 @@ chunk-inside w true h = record {
   heading = h.heading;
   names_are = ap (λ (x : List ResolveName). registered_before (same_name r.Content) x r.Content) h.names_are ∙ content-named h.content h.heading;
   no_content = λ k. cc;
-  no_heading = λ k. others-append is_no_heading w.events (exit n.Content w.point ∷ []) (h.no_heading k) (refl, tt);
+  no_heading = λ k. each-append (IsOther is_no_heading) w.events (exit n.Content w.point ∷ []) (h.no_heading k) (refl, tt);
 }
 chunk-inside w false h = h
 
 -- ends of containers end no part of these
-others-drop : (test : Kind → Name → Bool) (k : ℕ) (es : List Event) → Others test es → Others test (drop k es)
-others-drop test zero es o = o
-others-drop test (suc k) [] o = tt
-others-drop test (suc k) (e ∷ es) o = others-drop test k es o.1
-
 ends-others : (test : Kind → Name → Bool) → test Exit n.BlockQuote ≡ true → (cs : List Container) (p : Point) → Others test (ends_at cs p)
 ends-others test e [] p = tt
-ends-others test e (c ∷ cs) p = others-append test (ends_at cs p) (exit (name_of c.kind) p ∷ []) (ends-others test e cs p) (by c.kind, tt)
+ends-others test e (c ∷ cs) p = each-append (IsOther test) (ends_at cs p) (exit (name_of c.kind) p ∷ []) (ends-others test e cs p) (by c.kind, tt)
   where
     by : (k : ContainerKind) → test Exit (name_of k) ≡ true
     by kind.BlockQuote = e
 
 others-put : (test : Kind → Name → Bool) (k : ℕ) (ends es : List Event) → Others test ends → Others test es → Others test (put k ends es)
-others-put test k ends es a o = others-append test (take k es ++ ends) (drop k es) (others-append test (take k es) ends (others-take test k es o) a) (others-drop test k es o)
+others-put test k ends es a o = each-append (IsOther test) (take k es ++ ends) (drop k es) (each-append (IsOther test) (take k es) ends (each-take (IsOther test) k es o) a) (each-drop (IsOther test) k es o)
 
 closes : (keep at : ℕ) (cs : List Container) (events : List Event) (p : Point) (names : List ResolveName) → RegistersBy events names → RegistersBy (closed_events keep at cs events p) names
 closes keep at cs events p names h = record {
@@ -241,7 +234,7 @@ heading-at w false b true h = record {
   content = h.content;
   heading = true;
   names_are = ap (λ (x : List ResolveName). registered (same_name r.HeadingAtx) x r.HeadingAtx) h.names_are ∙ heading-named h.content h.heading;
-  no_content = λ k. others-append is_no_content w.events (exit n.HeadingAtx w.point ∷ []) (h.no_content k) (refl, tt);
+  no_content = λ k. each-append (IsOther is_no_content) w.events (exit n.HeadingAtx w.point ∷ []) (h.no_content k) (refl, tt);
   no_heading = λ k. cc;
 }
 heading-at w false b false h = h
@@ -379,22 +372,25 @@ resolved-last R w names found new (More ns name f more v v' h step) others last 
     let Q : ResolveName → Type 0 = λ x. R x v more v' in
     record { mid = v; mid_found = f; more = more; before = subst P same.0 h; resolved = subst Q same.1 step; found_is = refl }
 
-abbrev ReadIf : Resolution → Bool → World → Found → World → Type 0
-ReadIf R true at found new = ReadsContent R at found new
-ReadIf R false at found new = (found ≡ nothing) × (new ≡ at)
+-- one ran once
+record RanOnce (R : Resolution) (name : ResolveName) (at : World) (was found : Found) (new : World) : Type 0 where
+  more : Option Found
+  resolved : R name at more new
+  found_is : found ≡ with_found was more
 
-abbrev SetIf : Resolution → Bool → World → Found → Found → World → Type 0
-SetIf R true at was found new = SetsHeadings R at was found new
-SetIf R false at was found new = (found ≡ was) × (new ≡ at)
+-- or it did not
+abbrev RanIf : Resolution → ResolveName → Bool → World → Found → Found → World → Type 0
+RanIf R name true at was found new = RanOnce R name at was found new
+RanIf R name false at was found new = (found ≡ was) × (new ≡ at)
 
 -- each of the two ran that was registered
 record Ran (R : Resolution) (content heading : Bool) (w : World) (found : Found) (new : World) : Type 0 where
   mid : World
   mid_found : Found
-  reads : ReadIf R content w mid_found mid
-  sets : SetIf R heading mid mid_found found new
+  reads : RanIf R r.Content content w nothing mid_found mid
+  sets : RanIf R r.HeadingAtx heading mid mid_found found new
 
-resolved-content : (R : Resolution) (w : World) (b : Bool) (names : List ResolveName) (found : Found) (new : World) → Resolved R w names found new → names ≡ named b false → ReadIf R b w found new
+resolved-content : (R : Resolution) (w : World) (b : Bool) (names : List ResolveName) (found : Found) (new : World) → Resolved R w names found new → names ≡ named b false → RanIf R r.Content b w nothing found new
 resolved-content R w true names found new h e =
     let last = resolved-last R w names found new h [] r.Content e in
     let none = resolved-none R w [] last.mid_found last.mid last.before refl in
@@ -419,41 +415,73 @@ others-text : (k : RowKind) (row : Row) → Others is_no_content (row_events_by 
 others-text k row o e =
     let P : RowKind → Type 0 = λ x. Others is_no_content (row_events_by x row) in
     let leaf : List Event = leaf_events TextRow row in
-    let inside = others-behind is_no_content row.front leaf (others-front is_no_content (row.front ++ leaf) (tail_events n.LineEnding row) (subst P e o)) in
+    let inside = each-behind (IsOther is_no_content) row.front leaf (each-front (IsOther is_no_content) (row.front ++ leaf) (tail_events n.LineEnding row) (subst P e o)) in
     let bad : false ≡ true = inside.1.0 in
     absurd (cc)
 
-no-text : (rows : List Row) → Others is_no_content (rows_events rows) → NoText rows
-no-text [] o = tt
-no-text (row ∷ rows) o = (others-text row.kind row (others-front is_no_content (row_events row) (rows_events rows) o), no-text rows (others-behind is_no_content (row_events row) (rows_events rows) o))
+no-text : (rows : List Row) → Others is_no_content (rows_events rows) → has_text rows ≡ false
+no-text [] o = refl
+no-text (row ∷ rows) o =
+    or_from (is_text row.kind) (has_text rows) (other row.kind (others-text row.kind row (each-front (IsOther is_no_content) (row_events row) (rows_events rows) o)))
+    (no-text rows (each-behind (IsOther is_no_content) (row_events row) (rows_events rows) o))
+  where
+    other : (kind : RowKind) → kind ≢ TextRow → is_text kind ≡ false
+    other BlankRow h = refl
+    other HeadingRow h = refl
+    other BreakRow h = refl
+    other TextRow h = absurd (h refl)
 
 others-heading : (k : RowKind) (row : Row) → Others is_no_heading (row_events_by k row) → k ≢ HeadingRow
 others-heading k row o e =
     let P : RowKind → Type 0 = λ x. Others is_no_heading (row_events_by x row) in
     let leaf : List Event = around n.HeadingAtx row.first row.end row.inside in
-    let inside = others-behind is_no_heading row.front leaf (others-front is_no_heading (row.front ++ leaf) (tail_events n.LineEnding row) (subst P e o)) in
-    let bad : false ≡ true = (others-behind is_no_heading row.inside (exit n.HeadingAtx row.end ∷ []) inside.1).0 in
+    let inside = each-behind (IsOther is_no_heading) row.front leaf (each-front (IsOther is_no_heading) (row.front ++ leaf) (tail_events n.LineEnding row) (subst P e o)) in
+    let bad : false ≡ true = (each-behind (IsOther is_no_heading) row.inside (exit n.HeadingAtx row.end ∷ []) inside.1).0 in
     absurd (cc)
 
-no-heading : (rows : List Row) → Others is_no_heading (rows_events rows) → NoHeading rows
+no-heading : (rows : List Row) → Others is_no_heading (rows_events rows) → EachRow (λ (row : Row). row.kind ≢ HeadingRow) rows
 no-heading [] o = tt
 no-heading (row ∷ rows) o =
-    (others-heading row.kind row (others-front is_no_heading (row_events row) (rows_events rows) o), no-heading rows (others-behind is_no_heading (row_events row) (rows_events rows) o))
+    (others-heading row.kind row (each-front (IsOther is_no_heading) (row_events row) (rows_events rows) o), no-heading rows (each-behind (IsOther is_no_heading) (row_events row) (rows_events rows) o))
 
-reads-by : (R : Resolution) (rows : List Row) (b : Bool) (at : World) (found : Found) (new : World) → (b ≡ false → NoText rows) → ReadIf R b at found new → ReadsNone rows at found new ⊎ ReadsContent R at found new
-reads-by R rows true at found new none h = inr h
-reads-by R rows false at found new none h = inl (record { no_text = none refl; same = h.1; found_is = h.0 })
+-- The steps behind the states, whether each resolver ran or not.
 
-sets-by : (R : Resolution) (rows : List Row) (b : Bool) (at : World) (was found : Found) (new : World) → (b ≡ false → NoHeading rows) → SetIf R b at was found new → SetsNone rows at was found new ⊎ SetsHeadings R at was found new
-sets-by R rows true at was found new none h = inr h
-sets-by R rows false at was found new none h = inl (record { no_heading = none refl; same = h.1; found_is = h.0 })
+-- content is read
+record ContentRead (bytes : List ℕ) (options : ParseOptions) (rows : List Row) (at : World) (found : Found) (new : World) : Type 0 where
+  rest : new ≡ record at { events = new.events }
+  read : Substituted wants_content (content_readings bytes options) [] 0 (joined (rows_events rows)) new.events
+  found_is : ((has_text rows ≡ false) × (found ≡ nothing)) ⊎ (found ≡ found_in_content new.events)
+
+content-step : (bytes : List ℕ) (options : ParseOptions) (rows : List Row) (b : Bool) (at : World) (found : Found) (new : World) → EachRow IsFramed rows → EachNoContent rows →
+    at.events ≡ rows_events rows → at.setting.bytes ≡ bytes → at.setting.options ≡ options → (b ≡ false → Others is_no_content (rows_events rows)) → RanIf resolved_as r.Content b at nothing found new →
+    ContentRead bytes options rows at found new
+content-step bytes options rows true at found new framed quiet events text set others h =
+    let resolves : Resolves at h.more new = h.resolved in
+    let A : List ℕ → Type 0 = λ l. Substituted wants_content (content_readings l at.setting.options) [] 0 (joined at.events) new.events in
+    let B : ParseOptions → Type 0 = λ o. Substituted wants_content (content_readings bytes o) [] 0 (joined at.events) new.events in
+    let C : List Event → Type 0 = λ l. Substituted wants_content (content_readings bytes options) [] 0 (joined l) new.events in
+    record { rest = resolves.rest; read = subst C events (subst B set (subst A text resolves.events)); found_is = inr (h.found_is ∙ ap (with_found nothing) resolves.found_is) }
+content-step bytes options rows false at found new framed quiet events text set others h =
+    let none : has_text rows ≡ false = no-text rows (others refl) in
+    let same : new.events ≡ rows_events rows = ap (λ (w : World). w.events) h.1 ∙ events in
+    let P : List Event → Type 0 = λ l. Substituted wants_content (content_readings bytes options) [] 0 (joined (rows_events rows)) l in
+    record {
+      rest = h.1 ∙ ap (λ (l : List Event). record at { events = l }) (sym (ap (λ (w : World). w.events) h.1));
+      read = subst P (sym same) (content-same (content_readings bytes options) rows framed quiet none);
+      found_is = inl (none, h.0);
+    }
+
+-- and the text of headings is set
+headings-step : (b : Bool) (at : World) (was found : Found) (new : World) → (b ≡ false → AreOutside at.events) → RanIf resolved_as r.HeadingAtx b at was found new → (found ≡ was) × (new ≡ record at { events = headings_resolved at.events })
+headings-step true at was found new outside h = (h.found_is ∙ ap (with_found was) h.resolved.0, h.resolved.1)
+headings-step false at was found new outside h = (h.0, h.1 ∙ ap (λ (l : List Event). record at { events = l }) (sym (headings-same at.events (outside refl))))
 
 -- what flow has read of a text from a point on, once all of it was pushed and flushed
-pub flow-reads : (R : Resolution) (bytes : List ℕ) (options : ParseOptions) (p : Point) (end : State) (at : World) (found : Found) (new : World) → length bytes < 2 ^ 61 →
+pub flow-reads : (bytes : List ℕ) (options : ParseOptions) (p : Point) (end : State) (at : World) (found : Found) (new : World) → length bytes < 2 ^ 61 →
     Runs (FlowStep same_name) false (Next s.DocumentContainerExistingBefore) (reads_to (fresh bytes options p) (length bytes)) end at →
-    Flushes (FlowStep same_name) R end at true found new →
-    FlowReads R bytes options p found new
-flow-reads R bytes options p end at found new small run f =
+    Flushes (FlowStep same_name) resolved_as end at true found new →
+    FlowReads bytes options p found new
+flow-reads bytes options p end at found new small run f =
     go (runs-register true end at (runs-register false (Next s.DocumentContainerExistingBefore) (reads_to w0 (length bytes)) none-yet end at run) f.end f.at f.runs)
   where
     w0 : World
@@ -479,7 +507,7 @@ flow-reads R bytes options p end at found new small run f =
     out : flow_at options (text_cells bytes options p) (here (fresh bytes options p)) ≡ Accepts (here f.at) []
     out =
         let P : Setting → Type 0 = λ y. flow_at y.options (text_cells bytes options p) (here (fresh bytes options p)) ≡ Accepts (here f.at) [] in
-        subst P kept (flow_outcome same_name R end at true found new (text_cells bytes options p) (here (fresh bytes options p)) limit pushed.1 means f)
+        subst P kept (flow_outcome same_name resolved_as end at true found new (text_cells bytes options p) (here (fresh bytes options p)) limit pushed.1 means f)
 
     -- the run of a push and a flush, which ends with the text
     ends : (e : State) → IsEnd e → goes (flow_behaves at.setting.options) e (text_feed at.setting f.at.point) (here f.at) ≡ Accepts (here f.at) [] → (e ≡ Ok) × (text_feed at.setting f.at.point ≡ [])
@@ -492,9 +520,9 @@ flow-reads R bytes options p end at found new small run f =
     ran_so : FlowRan bytes options p f.end f.at
     ran_so =
         let same : flow_at at.setting.options (text_cells bytes options p) (here (fresh bytes options p)) ≡ goes (flow_behaves at.setting.options) f.end (text_feed at.setting f.at.point) (here f.at) =
-        sym means ∙ flow_flush same_name R end at true found new limit pushed.1 f in
+        sym means ∙ flow_flush same_name resolved_as end at true found new limit pushed.1 f in
         let comes : goes (flow_behaves at.setting.options) f.end (text_feed at.setting f.at.point) (here f.at) ≡ Accepts (here f.at) [] =
-        sym same ∙ flow_outcome same_name R end at true found new (text_cells bytes options p) (here (fresh bytes options p)) limit pushed.1 means f in
+        sym same ∙ flow_outcome same_name resolved_as end at true found new (text_cells bytes options p) (here (fresh bytes options p)) limit pushed.1 means f in
         let done = ends f.end f.ends comes in
         flow-ran bytes options p f.end f.at small (runs-append (FlowStep same_name) true (Next s.DocumentContainerExistingBefore) (reads_to (fresh bytes options p) (length bytes)) end at f.end f.at (runs-at_end (FlowStep same_name) (Next s.DocumentContainerExistingBefore) (reads_to (fresh bytes options p) (length bytes)) end at run) f.runs)
         done.0 f.none_left (ap (λ (x : Setting). text_feed x f.at.point) (sym kept) ∙ done.1)
@@ -505,52 +533,57 @@ flow-reads R bytes options p end at found new small run f =
     setting : f.at.setting ≡ text_setting bytes options p
     setting = runs-setting (FlowStep same_name) true end at f.end f.at f.runs ∙ kept
 
-    go : Registers f.at → FlowReads R bytes options p found new
+    rows : List Row
+    rows = text_rows options bytes p
+
+    quiet : EachNoContent rows
+    quiet = rows_at-no_content options (suc (length (text_cells bytes options p))) [] false (text_cells bytes options p) p
+
+    framed : EachRow IsFramed rows
+    framed = rows_at-framed options (suc (length (text_cells bytes options p))) [] false (text_cells bytes options p) p
+
+    go : Registers f.at → FlowReads bytes options p found new
     go registers =
-        let ran = resolved-named R (record f.at { resolvers = [] }) registers.content registers.heading f.at.resolvers found new f.resolved registers.names_are in
+        let w : World = record f.at { resolvers = [] } in
+        let ran = resolved-named resolved_as w registers.content registers.heading f.at.resolvers found new f.resolved registers.names_are in
         let P : List Event → Type 0 = λ es. Others is_no_content es in
         let Q : List Event → Type 0 = λ es. Others is_no_heading es in
+        let read : ContentRead bytes options rows w ran.mid_found ran.mid =
+        content-step bytes options rows registers.content w ran.mid_found ran.mid framed quiet events (ap (λ (x : Setting). x.bytes) setting) (ap (λ (x : Setting). x.options) setting)
+        (λ e. subst P events (registers.no_content e)) ran.reads in
+        let set : (found ≡ ran.mid_found) × (new ≡ record ran.mid { events = headings_resolved ran.mid.events }) =
+        headings-step registers.heading ran.mid ran.mid_found found new
+        (λ e. reading-outside bytes options (rows_events rows) ran.mid.events (rows-outside rows framed (no-heading rows (subst Q events (registers.no_heading e)))) read.read) ran.sets in
+        let all : new ≡ record w { events = headings_resolved ran.mid.events } = set.1 ∙ ap (λ (x : World). record x { events = headings_resolved ran.mid.events }) read.rest in
+        let is : new.events ≡ headings_resolved ran.mid.events = ap (λ (x : World). x.events) all in
+        let F : Found → Type 0 = λ x. ((has_text rows ≡ false) × (x ≡ nothing)) ⊎ (x ≡ found_in_content ran.mid.events) in
         record {
           end = f.end;
           ended = f.at;
           ran = ran_so;
-          at = record f.at { resolvers = [] };
-          at_is = refl;
           events = events;
-          setting = setting;
-          frames = f.none_left;
-          resolvers = refl;
-          mid = ran.mid;
-          mid_found = ran.mid_found;
-          reads = reads-by R (text_rows options bytes p) registers.content (record f.at { resolvers = [] }) ran.mid_found ran.mid (λ e. no-text (text_rows options bytes p) (subst P events (registers.no_content e))) ran.reads;
-          sets = sets-by R (text_rows options bytes p) registers.heading ran.mid ran.mid_found found new (λ e. no-heading (text_rows options bytes p) (subst Q events (registers.no_heading e))) ran.sets;
+          content = ran.mid.events;
+          content_read = read.read;
+          events_are = is;
+          rest = all ∙ ap (λ (l : List Event). record w { events = l }) (sym is);
+          setting = ap (λ (x : World). x.setting) all ∙ setting;
+          frames = ap (λ (x : World). x.frames) all ∙ f.none_left;
+          found_is = subst F (sym set.0) read.found_is;
         }
 
 -- the same for a tokenizer that is known to be fresh, whose test of names is known to be that one
-pub flow-reads-from : (is_name : ResolveName → ResolveName → Bool) (R : Resolution) (bytes : List ℕ) (options : ParseOptions) (p : Point) (start : World) (to : ℕ) (end : State) (at : World) (found : Found) (new : World) →
+pub flow-reads-from : (is_name : ResolveName → ResolveName → Bool) (bytes : List ℕ) (options : ParseOptions) (p : Point) (start : World) (to : ℕ) (end : State) (at : World) (found : Found) (new : World) →
     ((a b : ResolveName) → is_name a b ≡ same_name a b) → start ≡ fresh bytes options p → to ≡ length bytes → length bytes < 2 ^ 61 →
-    Runs (FlowStep is_name) false (Next s.DocumentContainerExistingBefore) (reads_to start to) end at → Flushes (FlowStep is_name) R end at true found new → FlowReads R bytes options p found new
-flow-reads-from is_name R bytes options p start to end at found new names same all small run f =
+    Runs (FlowStep is_name) false (Next s.DocumentContainerExistingBefore) (reads_to start to) end at → Flushes (FlowStep is_name) resolved_as end at true found new → FlowReads bytes options p found new
+flow-reads-from is_name bytes options p start to end at found new names same all small run f =
     let named : is_name ≡ same_name = λ i a b. names a b i in
     let P : World → Type 0 = λ w. Runs (FlowStep same_name) false (Next s.DocumentContainerExistingBefore) (reads_to w (length bytes)) end at in
     let Q : ℕ → Type 0 = λ n. Runs (FlowStep same_name) false (Next s.DocumentContainerExistingBefore) (reads_to start n) end at in
     let S : (ResolveName → ResolveName → Bool) → Type 0 = λ t. Runs (FlowStep t) false (Next s.DocumentContainerExistingBefore) (reads_to start to) end at in
-    let F : (ResolveName → ResolveName → Bool) → Type 0 = λ t. Flushes (FlowStep t) R end at true found new in
-    flow-reads R bytes options p end at found new small (subst P same (subst Q all (subst S named run))) (subst F named f)
+    let F : (ResolveName → ResolveName → Bool) → Type 0 = λ t. Flushes (FlowStep t) resolved_as end at true found new in
+    flow-reads bytes options p end at found new small (subst P same (subst Q all (subst S named run))) (subst F named f)
 
 -- What is known behind the resolvers of flow.
-
--- they keep the setting
-pub reads-setting : (bytes : List ℕ) (options : ParseOptions) (p : Point) (found : Found) (new : World) → FlowReads resolved_as bytes options p found new → new.setting ≡ text_setting bytes options p
-reads-setting bytes options p found new h = onto h.sets ∙ go h.reads ∙ h.setting
-  where
-    onto : SetsNone (text_rows options bytes p) h.mid h.mid_found found new ⊎ SetsHeadings resolved_as h.mid h.mid_found found new → new.setting ≡ h.mid.setting
-    onto (inl none) = ap (λ (w : World). w.setting) none.same
-    onto (inr some) = ap (λ (w : World). w.setting) some.resolved.1
-
-    go : ReadsNone (text_rows options bytes p) h.at h.mid_found h.mid ⊎ ReadsContent resolved_as h.at h.mid_found h.mid → h.mid.setting ≡ h.at.setting
-    go (inl none) = ap (λ (w : World). w.setting) none.same
-    go (inr some) = ap (λ (w : World). w.setting) some.resolved.rest
 
 -- nothing that is found is a label
 pub record NoLabels (found : Found) : Type 0 where
@@ -563,13 +596,9 @@ map-nil f [] e = refl
 map-nil f (x ∷ xs) e = cc
 
 -- what flow finds is no label
-pub reads-labels : (bytes : List ℕ) (options : ParseOptions) (p : Point) (found : Found) (new : World) → FlowReads resolved_as bytes options p found new → NoLabels found
-reads-labels bytes options p found new h = onto h.sets (go h.reads)
+pub reads-labels : (bytes : List ℕ) (options : ParseOptions) (p : Point) (found : Found) (new : World) → FlowReads bytes options p found new → NoLabels found
+reads-labels bytes options p found new h = go h.found_is
   where
-    go : ReadsNone (text_rows options bytes p) h.at h.mid_found h.mid ⊎ ReadsContent resolved_as h.at h.mid_found h.mid → NoLabels h.mid_found
-    go (inl none) = rw none.found_is (record { definitions = refl; footnotes = refl })
-    go (inr some) = rw (some.found_is, some.resolved.found_is) (record { definitions = refl; footnotes = refl })
-
-    onto : SetsNone (text_rows options bytes p) h.mid h.mid_found found new ⊎ SetsHeadings resolved_as h.mid h.mid_found found new → NoLabels h.mid_found → NoLabels found
-    onto (inl none) k = rw none.found_is k
-    onto (inr some) k = rw (some.found_is, some.resolved.0) k
+    go : ((has_text (text_rows options bytes p) ≡ false) × (found ≡ nothing)) ⊎ (found ≡ found_in_content h.content) → NoLabels found
+    go (inl none) = rw none.1 (record { definitions = refl; footnotes = refl })
+    go (inr some) = rw some (record { definitions = refl; footnotes = refl })

@@ -36,12 +36,12 @@ use Rattle.md_seam.proofs.SpelledLemmas.{Quiet, Roles}
 use Rattle.md_seam.proofs.TextsLemmas.{Ending, EndsBefore, LineFeed, NoEnding, Return, Both, ending_bytes, split-line, split-next, no_ending-drop}
 use Rattle.markdown_blocks.specs.Change.{container_name, ends_of}
 use Rattle.markdown_blocks.specs.Change as change
-use Rattle.markdown_blocks.specs.FlowReads.{NoHeading, NoText}
 use Rattle.markdown_blocks.specs.Rows.{BlankRow, BreakRow, Group, HeadingRow, Lines, Row, RowKind, Single, TextRow, behind_row, chunks_of, ending_events, goes_on, group_events, groups, groups_events, is_text, last_row, line_kind, onto_groups, paragraph_events, read_lines, read_text, read_title, row_events, row_events_by, row_title, rows_events, single_events_by, tail_events}
 use Rattle.markdown_blocks.specs.Fronted.{contained, rest_from, rest_line}
 use Rattle.markdown_blocks.specs.Unread.{joined_groups, linked, linked_lines, titled_group, titled_groups, titled_row_by, unread_group, unread_groups, unread_paragraph}
 use Rattle.md_seam.proofs.FeedLines.{ending-some, past_text-whole, slice-inside}
 pub use Rattle.markdown_blocks.proofs.FrontNames.{HasFront}
+use Rattle.markdown_blocks.proofs.EachEvent.{Each, each-append}
 use Rattle.markdown_blocks.proofs.FrontNames.{AreFront, ArePrefixes, container-prefix, ends-are, ends-first, front-heading, fronts-are, fronts-prefixes, prefixes-front}
 use Rattle.markdown_blocks.proofs.FrontPlaces.{fronts-grow}
 use Rattle.markdown_blocks.proofs.JoinedLemmas.{EachEnds, EachFront, EachNoContent, HasNoContent, behind-is, ending-is, events-no_content, has_front-no_content, joined-rows, no_content-unwanted, tail-no_content}
@@ -257,7 +257,7 @@ front-unwanted wants bytes row h = no_content-unwanted wants row.front (has_fron
 
 -- a line that is no text, of which a reader reads no text
 single-unwanted : (options : ParseOptions) (bytes : List ℕ) (wants : Content → Bool) (row : Row) → IsSingle options bytes row → (row.kind ≡ HeadingRow → wants content.Text ≡ false) → Unwanted wants (row_events row)
-single-unwanted options bytes wants row is w = no_content-unwanted wants (row_events row) (events-no_content wants bytes row row.kind refl is.other is.front (is.quiet wants w))
+single-unwanted options bytes wants row is w = no_content-unwanted wants (row_events row) (events-no_content wants row row.kind refl is.other (has_front-no_content wants bytes row is.front) (is.quiet wants w))
 
 -- in front of the further lines of a paragraph stand prefixes alone
 pub paragraph-fronts : (options : ParseOptions) (bytes : List ℕ) (row : Row) (rows : List Row) → IsParagraph options bytes row rows → EachPrefixed rows
@@ -391,34 +391,21 @@ content-read options bytes open_before going p lines rows are quiet wants reads 
     groups-content options bytes wants reads w other unique (groups rows) (groups-are options bytes open_before going p lines rows are quiet) [] unread
     (subst (λ (l : List Event). Substituted wants reads [] 0 l unread) (joined-rows bytes rows (rows-front options bytes open_before going p lines rows are) (rows-end options bytes open_before going p lines rows are) quiet) s)
 
--- Where no line is text there is no content.
-pub no-content : (rows : List Row) → NoText rows → rows_events rows ≡ unread_groups (groups rows)
-no-content [] h = refl
-no-content (row ∷ rows) h = go (no-content rows h.1) row.kind refl
-  where
-    go : rows_events rows ≡ unread_groups (groups rows) → (kind : RowKind) → row.kind ≡ kind → row_events row ++ rows_events rows ≡ unread_groups (onto_groups row kind (groups rows))
-    go same BlankRow e = ap (λ (l : List Event). row_events row ++ l) same
-    go same HeadingRow e = ap (λ (l : List Event). row_events row ++ l) same
-    go same BreakRow e = ap (λ (l : List Event). row_events row ++ l) same
-    go same TextRow e = absurd (h.0 e)
-
 -- The text of headings.
 
 -- no heading begins among some events
 abbrev pub AreOutside : List Event → Type 0
-AreOutside [] = Unit {0}
-AreOutside (e ∷ es) = (begins is_heading e ≡ false) × AreOutside es
+AreOutside es = Each (λ (e : Event). begins is_heading e ≡ false) es
 
-outside-append : (xs ys : List Event) → AreOutside xs → AreOutside ys → AreOutside (xs ++ ys)
-outside-append [] ys h k = k
-outside-append (e ∷ xs) ys h k = (h.0, outside-append xs ys h.1 k)
+pub outside-append : (xs ys : List Event) → AreOutside xs → AreOutside ys → AreOutside (xs ++ ys)
+outside-append xs ys h k = each-append (λ (e : Event). begins is_heading e ≡ false) xs ys h k
 
 -- they stay as they are
-outside-passes : (xs ys : List Event) → AreOutside xs → headings_resolved (xs ++ ys) ≡ xs ++ headings_resolved ys
+pub outside-passes : (xs ys : List Event) → AreOutside xs → headings_resolved (xs ++ ys) ≡ xs ++ headings_resolved ys
 outside-passes [] ys h = refl
 outside-passes (e ∷ xs) ys h = ap (λ (x : Bool). e ∷ resolved (cond x Before Outside) (xs ++ ys)) h.0 ∙ ap (λ (l : List Event). e ∷ l) (outside-passes xs ys h.1)
 
-front-outside : (es : List Event) → AreFront es → AreOutside es
+pub front-outside : (es : List Event) → AreFront es → AreOutside es
 front-outside [] h = tt
 front-outside (e ∷ es) h = (and_right (is_enter e.kind) (is_heading e.name) (front-heading e.name h.0), front-outside es h.2)
 
@@ -426,7 +413,7 @@ quiet-name : (name : Name) → Quiet (role name) → is_heading name ≡ false
 quiet-name n.HeadingAtx h = absurd h
 quiet-name _ h = refl
 
-quiet-outside : (es : List Event) → Roles Quiet es → AreOutside es
+pub quiet-outside : (es : List Event) → Roles Quiet es → AreOutside es
 quiet-outside [] h = tt
 quiet-outside (e ∷ es) h = (and_right (is_enter e.kind) (is_heading e.name) (quiet-name e.name h.0), quiet-outside es h.1)
 
@@ -444,13 +431,13 @@ ending-outside name row h = go row.after
     go None = tt
     go (Some q) = (h, (refl, tt))
 
-tail-outside : (name : Name) (row : Row) → is_heading name ≡ false → AreOutside (tail_events name row)
+pub tail-outside : (name : Name) (row : Row) → is_heading name ≡ false → AreOutside (tail_events name row)
 tail-outside name row h = outside-append (ends_of row.leaves row.end) (ending_events name row) (front-outside (ends_of row.leaves row.end) (ends-are row.leaves row.end)) (ending-outside name row h)
 
 has_front-outside : (bytes : List ℕ) (row : Row) → HasFront bytes row → AreOutside row.front
 has_front-outside bytes row h = front-outside row.front (fronts-are bytes row.change.opens h.0 row.first row.front h.1)
 
-around-outside : (name : Name) (p q : Point) (inside : List Event) → is_heading name ≡ false → AreOutside inside → AreOutside (around name p q inside)
+pub around-outside : (name : Name) (p q : Point) (inside : List Event) → is_heading name ≡ false → AreOutside inside → AreOutside (around name p q inside)
 around-outside name p q inside other h = (other, outside-append inside (exit name q ∷ []) h (refl, tt))
 
 -- what stands between the front of a line and its tail
@@ -497,43 +484,6 @@ groups-set options bytes (Lines row rows ∷ gs) are =
 pub headings-set : (options : ParseOptions) (bytes : List ℕ) (open_before : List Container) (going : Bool) (p : Point) (lines : List (List ℕ)) (rows : List Row) → AreRows options bytes open_before going p lines rows → EachNoContent rows →
     headings_resolved (unread_groups (groups rows)) ≡ titled_groups bytes (groups rows)
 headings-set options bytes open_before going p lines rows are quiet = groups-set options bytes (groups rows) (groups-are options bytes open_before going p lines rows are quiet)
-
--- no group is a heading
-abbrev NoTitles : List Group → Type 0
-NoTitles [] = Unit {0}
-NoTitles (Single row ∷ gs) = (row.kind ≢ HeadingRow) × NoTitles gs
-NoTitles (Lines row rows ∷ gs) = NoTitles gs
-
-no_titles : (rows : List Row) → NoHeading rows → NoTitles (groups rows)
-no_titles [] h = tt
-no_titles (row ∷ rows) h = onto (groups rows) (no_titles rows h.1) row.kind refl
-  where
-    onto : (gs : List Group) → NoTitles gs → (kind : RowKind) → row.kind ≡ kind → NoTitles (onto_groups row kind gs)
-    onto gs k BlankRow e = (h.0, k)
-    onto gs k HeadingRow e = (h.0, k)
-    onto gs k BreakRow e = (h.0, k)
-    onto [] k TextRow e = tt
-    onto (Single first ∷ gs) k TextRow e = k
-    onto (Lines first rows ∷ gs) k TextRow e = go (goes_on row first)
-      where
-        go : (x : Bool) → NoTitles (cond x (Lines row (first ∷ rows) ∷ gs) (Lines row [] ∷ Lines first rows ∷ gs))
-        go true = k
-        go false = k
-
-no_titles-same : (bytes : List ℕ) (gs : List Group) → NoTitles gs → unread_groups gs ≡ titled_groups bytes gs
-no_titles-same bytes [] h = refl
-no_titles-same bytes (Single row ∷ gs) h = go (no_titles-same bytes gs h.1) row.kind refl
-  where
-    go : unread_groups gs ≡ titled_groups bytes gs → (kind : RowKind) → row.kind ≡ kind → row_events_by kind row ++ unread_groups gs ≡ titled_row_by bytes kind row ++ titled_groups bytes gs
-    go same BlankRow e = ap (λ (l : List Event). row_events_by BlankRow row ++ l) same
-    go same HeadingRow e = absurd (h.0 e)
-    go same BreakRow e = ap (λ (l : List Event). row_events_by BreakRow row ++ l) same
-    go same TextRow e = ap (λ (l : List Event). row_events_by TextRow row ++ l) same
-no_titles-same bytes (Lines row rows ∷ gs) h = ap (λ (l : List Event). unread_group (Lines row rows) ++ l) (no_titles-same bytes gs h)
-
--- Where no line is a heading there is no text to set.
-pub no-headings : (bytes : List ℕ) (rows : List Row) → NoHeading rows → unread_groups (groups rows) ≡ titled_groups bytes (groups rows)
-no-headings bytes rows h = no_titles-same bytes (groups rows) (no_titles rows h)
 
 -- The text of headings and paragraphs.
 

@@ -160,11 +160,11 @@ around-no_content : (wants : Content → Bool) (name : Name) (row : Row) → is_
 around-no_content wants name row other h = (refl, other, no_content-append wants row.inside (exit name row.end ∷ []) h (refl, other, tt))
 
 -- what a line adds that is not text
-pub events-no_content : (wants : Content → Bool) (bytes : List ℕ) (row : Row) (kind : RowKind) → row.kind ≡ kind → (kind ≡ TextRow → ⊥) → HasFront bytes row → NoContent wants row.inside → NoContent wants (row_events row)
-events-no_content wants bytes row kind e other front h =
+pub events-no_content : (wants : Content → Bool) (row : Row) (kind : RowKind) → row.kind ≡ kind → (kind ≡ TextRow → ⊥) → NoContent wants row.front → NoContent wants row.inside → NoContent wants (row_events row)
+events-no_content wants row kind e other front h =
     subst (λ (k : RowKind). NoContent wants (row_events_by k row)) (sym e)
     (no_content-append wants (row.front ++ leaf_events kind row) (tail_events (ending_of kind) row)
-    (no_content-append wants row.front (leaf_events kind row) (has_front-no_content wants bytes row front) (leaf kind other))
+    (no_content-append wants row.front (leaf_events kind row) front (leaf kind other))
     (tail-no_content wants (ending_of kind) row (ending kind)))
   where
     leaf : (kind : RowKind) → (kind ≡ TextRow → ⊥) → NoContent wants (leaf_events kind row)
@@ -187,7 +187,7 @@ joined-one e (f ∷ []) h = refl
 joined-one e (f ∷ g ∷ es) h = ap (λ (x : Bool). cond (x && goes_on (f ∷ g ∷ es)) (record e { point = g.point } ∷ joined es) (e ∷ joined (f ∷ g ∷ es))) h
 
 -- what is not content stays as it is
-joined-passes : (xs ys : List Event) → NoContent nothing xs → joined (xs ++ ys) ≡ xs ++ joined ys
+pub joined-passes : (xs ys : List Event) → NoContent nothing xs → joined (xs ++ ys) ≡ xs ++ joined ys
 joined-passes [] ys h = refl
 joined-passes (e ∷ xs) ys h = joined-one e (xs ++ ys) (and_right (is_exit e.kind) (is_content e.name) h.1) ∙ ap (λ (l : List Event). e ∷ l) (joined-passes xs ys h.2)
 
@@ -418,7 +418,7 @@ joined-rows bytes [] fronts ends h = refl
 joined-rows bytes (row ∷ []) fronts ends h = go row.kind refl
   where
     other : (kind : RowKind) → row.kind ≡ kind → (kind ≡ TextRow → ⊥) → joined (row_events row ++ []) ≡ joined_groups (Single row ∷ [])
-    other kind e apart = single-rows row [] (events-no_content nothing bytes row kind e apart fronts.0 (h.0 nothing (λ k. refl))) refl
+    other kind e apart = single-rows row [] (events-no_content nothing row kind e apart (has_front-no_content nothing bytes row fronts.0) (h.0 nothing (λ k. refl))) refl
 
     go : (kind : RowKind) → row.kind ≡ kind → joined (row_events row ++ []) ≡ joined_groups (onto_groups row kind [])
     go BlankRow e = other BlankRow e (λ k. cc)
@@ -428,7 +428,7 @@ joined-rows bytes (row ∷ []) fronts ends h = go row.kind refl
 joined-rows bytes (row ∷ below ∷ rows) fronts ends h = go (joined-rows bytes (below ∷ rows) fronts.1 ends.2 h.1) row.kind refl
   where
     other : joined (rows_events (below ∷ rows)) ≡ joined_groups (groups (below ∷ rows)) → (kind : RowKind) → row.kind ≡ kind → (kind ≡ TextRow → ⊥) → joined (row_events row ++ rows_events (below ∷ rows)) ≡ joined_groups (Single row ∷ groups (below ∷ rows))
-    other same kind e apart = single-rows row (below ∷ rows) (events-no_content nothing bytes row kind e apart fronts.0 (h.0 nothing (λ k. refl))) same
+    other same kind e apart = single-rows row (below ∷ rows) (events-no_content nothing row kind e apart (has_front-no_content nothing bytes row fronts.0) (h.0 nothing (λ k. refl))) same
 
     go : joined (rows_events (below ∷ rows)) ≡ joined_groups (groups (below ∷ rows)) → (kind : RowKind) → row.kind ≡ kind → joined (row_events row ++ rows_events (below ∷ rows)) ≡ joined_groups (onto_groups row kind (groups (below ∷ rows)))
     go same BlankRow e = other same BlankRow e (λ k. cc)

@@ -24,6 +24,8 @@ pub mod RowLemmas
 pub mod LeafRows
 pub mod FlowRows
 pub mod LinesFed
+pub mod EachEvent
+pub mod FlowSteps
 pub mod FlowReads
 pub mod SubstitutedLemmas
 pub mod JoinedLemmas

@@ -1,5 +1,5 @@
 -- What a text is read as, where quotes, headings and breaks may be on: its events nest, spell its tree and tile it.
-use Rattle.std.proofs.Common.{◌≡◌, ◌^◌, ◌<◌, ◌⊎◌, inl, inr, arith, ℕ, Bool, true, false, suc, List, [], ◌++◌, length, drop, refl, ap, sym, ◌∙◌, subst}
+use Rattle.std.proofs.Common.{◌≡◌, ◌^◌, ◌<◌, arith, ℕ, Bool, true, false, suc, List, [], ◌++◌, length, drop, refl, ap, sym, ◌∙◌, subst}
 use Rattle.std.specs.Prelude.{IsTrue}
 use Rattle.std.specs.Str.{IsUtf8}
 use Rattle.md_engine.specs.declared.configuration.ParseOptions.{ParseOptions}
@@ -8,10 +8,8 @@ use Rattle.md_engine.specs.declared.event.Content.TheVariants as content
 use Rattle.md_engine.specs.declared.event.Event.{Event}
 use Rattle.md_engine.specs.declared.event.Point.{Point}
 use Rattle.md_engine.specs.Found.{Found}
-use Rattle.md_engine.specs.World.{Setting, World}
+use Rattle.md_engine.specs.World.{World}
 use Rattle.md_content.specs.ContentReads.{content_readings, wants_content}
-use Rattle.md_content.specs.Joined.{joined}
-use Rattle.md_content.specs.Resolves.{Resolves}
 use Rattle.md_leaves.specs.HeadingText.{headings_resolved}
 use Rattle.md_seam.specs.Endings.{endings_stand}
 use Rattle.md_seam.specs.Grammar.{keeps_grammar, plain_text}
@@ -27,15 +25,14 @@ use Rattle.md_seam.specs.Tiles.{Tiles, parts, plain_lists, plain_read}
 use Rattle.md_outline.specs.Outlined.{IsOutlined, are_shallow}
 use Rattle.markdown_blocks.specs.BlockList.{block_list}
 use Rattle.markdown_blocks.specs.Document.{body_point, mark_events}
-use Rattle.markdown_blocks.specs.FlowReads.{FlowReads, ReadsContent, ReadsNone, SetsHeadings, SetsNone, text_cells, text_rows}
+use Rattle.markdown_blocks.specs.FlowReads.{FlowReads, text_cells, text_rows}
 use Rattle.markdown_blocks.specs.Parsed.{IsBuilt, IsSmall, reads_plain}
-use Rattle.markdown_blocks.specs.Resolved.{resolved_as}
 use Rattle.markdown_blocks.specs.Rows.{Row, groups, groups_events}
 use Rattle.markdown_blocks.specs.Unread.{titled_groups, unread_groups}
 use Rattle.markdown_blocks.proofs.BetweenRows.{rows-between}
 use Rattle.markdown_blocks.proofs.EndingRows.{blocks-endings, events-endings}
 use Rattle.markdown_blocks.proofs.GrammarRows.{blocks-grammar, events-grammar}
-use Rattle.markdown_blocks.proofs.GroupLemmas.{ReadsText, content-read, headings-set, no-content, no-headings, text-read}
+use Rattle.markdown_blocks.proofs.GroupLemmas.{ReadsText, content-read, headings-set, text-read}
 use Rattle.markdown_blocks.proofs.JoinedLemmas.{EachNoContent, rows_at-no_content}
 use Rattle.markdown_blocks.proofs.MarkLemmas.{body-between, body-column, body-index, body-vs, mark-nested, mark-outlined, mark-spelled}
 use Rattle.markdown_blocks.proofs.NestedRows.{Nests, rows-nest}
@@ -64,46 +61,22 @@ text-are : (options : ParseOptions) (bytes : List ℕ) → IsBuilt options → l
 text-are options bytes built small = fresh-rows options bytes (body_point bytes) built small (body-index bytes) (body-vs bytes) (body-column bytes)
 
 -- The events of a text, once flow and content were read.
-content-are : (options : ParseOptions) (bytes : List ℕ) → IsBuilt options → length bytes < 2 ^ 61 → (found : Found) (new : World) → (flow : FlowReads resolved_as bytes options (body_point bytes) found new) →
-    flow.mid.events ≡ unread_groups (groups (rows_of options bytes))
-content-are options bytes built small found new flow = go flow.reads
-  where
-    rows : List Row
-    rows = rows_of options bytes
-
-    some : ReadsContent resolved_as flow.at flow.mid_found flow.mid → flow.mid.events ≡ unread_groups (groups rows)
-    some h =
-        let resolves : Resolves flow.at h.more flow.mid = h.resolved in
-        let here : Substituted wants_content (content_readings bytes options) [] 0 (joined flow.at.events) flow.mid.events =
-        subst (λ (x : Setting). Substituted wants_content (content_readings x.bytes x.options) [] 0 (joined flow.at.events) flow.mid.events) flow.setting resolves.events in
-        content-read options bytes [] false (body_point bytes) (lines_of bytes) rows (text-are options bytes built small) (text-quiet options bytes (body_point bytes))
-        wants_content (content_readings bytes options) refl refl (content-reads options options bytes small) flow.mid.events
-        (subst (λ (l : List Event). Substituted wants_content (content_readings bytes options) [] 0 (joined l) flow.mid.events) flow.events here)
-
-    go : ReadsNone rows flow.at flow.mid_found flow.mid ⊎ ReadsContent resolved_as flow.at flow.mid_found flow.mid → flow.mid.events ≡ unread_groups (groups rows)
-    go (inl h) = ap (λ (w : World). w.events) h.same ∙ flow.events ∙ no-content rows h.no_text
-    go (inr h) = some h
+content-are : (options : ParseOptions) (bytes : List ℕ) → IsBuilt options → length bytes < 2 ^ 61 → (found : Found) (new : World) → (flow : FlowReads bytes options (body_point bytes) found new) →
+    flow.content ≡ unread_groups (groups (rows_of options bytes))
+content-are options bytes built small found new flow =
+    content-read options bytes [] false (body_point bytes) (lines_of bytes) (rows_of options bytes) (text-are options bytes built small) (text-quiet options bytes (body_point bytes))
+    wants_content (content_readings bytes options) refl refl (content-reads options options bytes small) flow.content flow.content_read
 
 -- Then the text of headings was set.
-titles-are : (options : ParseOptions) (bytes : List ℕ) → IsBuilt options → length bytes < 2 ^ 61 → (found : Found) (new : World) → (flow : FlowReads resolved_as bytes options (body_point bytes) found new) →
+titles-are : (options : ParseOptions) (bytes : List ℕ) → IsBuilt options → length bytes < 2 ^ 61 → (found : Found) (new : World) → (flow : FlowReads bytes options (body_point bytes) found new) →
     new.events ≡ titled_groups bytes (groups (rows_of options bytes))
-titles-are options bytes built small found new flow = go flow.sets
-  where
-    rows : List Row
-    rows = rows_of options bytes
-
-    before : flow.mid.events ≡ unread_groups (groups rows)
-    before = content-are options bytes built small found new flow
-
-    go : SetsNone rows flow.mid flow.mid_found found new ⊎ SetsHeadings resolved_as flow.mid flow.mid_found found new → new.events ≡ titled_groups bytes (groups rows)
-    go (inl h) = ap (λ (w : World). w.events) h.same ∙ before ∙ no-headings bytes rows h.no_heading
-    go (inr h) =
-        ap (λ (w : World). w.events) h.resolved.1
-        ∙ ap headings_resolved before
-        ∙ headings-set options bytes [] false (body_point bytes) (lines_of bytes) rows (text-are options bytes built small) (text-quiet options bytes (body_point bytes))
+titles-are options bytes built small found new flow =
+    flow.events_are
+    ∙ ap headings_resolved (content-are options bytes built small found new flow)
+    ∙ headings-set options bytes [] false (body_point bytes) (lines_of bytes) (rows_of options bytes) (text-are options bytes built small) (text-quiet options bytes (body_point bytes))
 
 -- And then texts were read.
-pub events-are : (options : ParseOptions) (bytes : List ℕ) → IsBuilt options → length bytes < 2 ^ 61 → (found : Found) (new : World) → FlowReads resolved_as bytes options (body_point bytes) found new →
+pub events-are : (options : ParseOptions) (bytes : List ℕ) → IsBuilt options → length bytes < 2 ^ 61 → (found : Found) (new : World) → FlowReads bytes options (body_point bytes) found new →
     (wants : Content → Bool) (reads : Readings) → wants content.Text ≡ true → ReadsText bytes reads → (events : List Event) → Substituted wants reads [] 0 new.events events →
     events ≡ groups_events bytes (groups (text_rows options bytes (body_point bytes)))
 events-are options bytes built small found new flow wants reads wanted text events substituted =
@@ -184,12 +157,12 @@ text-reads options bytes built utf8 small events is =
 
 -- The same in the words of the calls that `parse` makes.
 pub parsed-reads : (options : ParseOptions) (bytes text : List ℕ) (start : Point) (found : Found) (new : World) (mark items body events : List Event) → bytes ≡ text → IsBuilt options → IsUtf8 text → IsSmall text →
-    start ≡ body_point bytes → mark ≡ mark_events bytes → FlowReads resolved_as bytes options start found new →
+    start ≡ body_point bytes → mark ≡ mark_events bytes → FlowReads bytes options start found new →
     (wants : Content → Bool) (reads : Readings) → wants content.Text ≡ true → ReadsText bytes reads → items ≡ new.events → Substituted wants reads [] 0 items body → events ≡ mark ++ body → Reads options text (mark ++ items) events
 parsed-reads options bytes text start found new mark items body events same built utf8 most starts marks flow wants reads wanted plain are substituted is =
     let small : length text < 2 ^ 61 = omega (arith, most) in
     let here : length bytes < 2 ^ 61 = subst (λ (l : List ℕ). length l < 2 ^ 61) (sym same) small in
-    let from : FlowReads resolved_as bytes options (body_point bytes) found new = subst (λ (p : Point). FlowReads resolved_as bytes options p found new) starts flow in
+    let from : FlowReads bytes options (body_point bytes) found new = subst (λ (p : Point). FlowReads bytes options p found new) starts flow in
     let body-is : body ≡ groups_events bytes (groups (rows_of options bytes)) =
     events-are options bytes built here found new from wants reads wanted plain body
     (subst (λ (l : List Event). Substituted wants reads [] 0 l body) are substituted) in

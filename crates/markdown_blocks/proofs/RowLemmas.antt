@@ -103,7 +103,7 @@ inside-append p q r xs ys a b =
 
 -- The runs of a break.
 
-quiet-runs : (run : Run) (m : ℕ) (cells : List Cell) (p : Point) → Roles Quiet (runs run m cells p)
+pub quiet-runs : (run : Run) (m : ℕ) (cells : List Cell) (p : Point) → Roles Quiet (runs run m cells p)
 quiet-runs Apart m [] p = tt
 quiet-runs Marks m [] p = (tt, tt)
 quiet-runs White m [] p = (tt, tt)

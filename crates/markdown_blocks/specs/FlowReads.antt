@@ -1,65 +1,41 @@
--- What flow has read of a text, before and after its resolvers.
-use Rattle.std.specs.Prelude.{◌≡◌, ◌≢◌, ◌⊎◌, ℕ, List, [], ◌∷◌, Option}
+-- What flow has read of a text: its lines, and behind them the steps of the resolvers, in their order. Each step is total: where nothing
+-- is its own, it changes nothing.
+use Rattle.std.specs.Prelude.{◌≡◌, ◌⊎◌, ℕ, Bool, false, ◌||◌, List, [], ◌∷◌}
 use Rattle.md_engine.specs.declared.configuration.ParseOptions.{ParseOptions}
+use Rattle.md_engine.specs.declared.event.Event.{Event}
 use Rattle.md_engine.specs.declared.event.Point.{Point}
-use Rattle.md_engine.specs.declared.resolve.Name.TheVariants.{Content, HeadingAtx}
 use Rattle.md_engine.specs.declared.state.State.{State}
-use Rattle.md_engine.specs.Found.{Found, nothing, with_found}
-use Rattle.md_engine.specs.Run.{Resolution}
+use Rattle.md_engine.specs.Found.{Found, nothing}
 use Rattle.md_engine.specs.World.{World}
+use Rattle.md_content.specs.ContentReads.{content_readings, wants_content}
+use Rattle.md_content.specs.Joined.{joined}
+use Rattle.md_content.specs.Resolves.{found_in_content}
+use Rattle.md_leaves.specs.HeadingText.{headings_resolved}
+use Rattle.md_seam.specs.Substituted.{Substituted}
 use Rattle.markdown_blocks.specs.Fed.{FlowRan}
-use Rattle.markdown_blocks.specs.Rows.{HeadingRow, Row, TextRow, rows_events}
+use Rattle.markdown_blocks.specs.Rows.{Row, is_text, rows_events}
 pub use Rattle.markdown_blocks.specs.TextRows.{text_cells, text_rows, text_setting}
 
--- no line is content
-abbrev pub NoText : List Row → Type 0
-NoText [] = Unit {0}
-NoText (row ∷ rows) = (row.kind ≢ TextRow) × NoText rows
+-- whether a line is content
+abbrev pub has_text : List Row → Bool
+has_text [] = false
+has_text (row ∷ rows) = is_text row.kind || has_text rows
 
--- no line is a heading
-abbrev pub NoHeading : List Row → Type 0
-NoHeading [] = Unit {0}
-NoHeading (row ∷ rows) = (row.kind ≢ HeadingRow) × NoHeading rows
-
--- no line is content, and its resolver did not run
-pub record ReadsNone (rows : List Row) (at : World) (found : Found) (new : World) : Type 0 where
-  pub no_text : NoText rows
-  pub same : new ≡ at
-  pub found_is : found ≡ nothing
-
--- the resolver of content ran once
-pub record ReadsContent (R : Resolution) (at : World) (found : Found) (new : World) : Type 0 where
-  pub more : Option Found
-  pub resolved : R Content at more new
-  pub found_is : found ≡ with_found nothing more
-
--- no line is a heading, and the resolver of headings did not run
-pub record SetsNone (rows : List Row) (at : World) (was : Found) (found : Found) (new : World) : Type 0 where
-  pub no_heading : NoHeading rows
-  pub same : new ≡ at
-  pub found_is : found ≡ was
-
--- the resolver of headings ran once
-pub record SetsHeadings (R : Resolution) (at : World) (was : Found) (found : Found) (new : World) : Type 0 where
-  pub more : Option Found
-  pub resolved : R HeadingAtx at more new
-  pub found_is : found ≡ with_found was more
-
--- flow has read a text from a point to its end, and then its resolvers ran: that of content, and then that of headings
-pub record FlowReads (R : Resolution) (bytes : List ℕ) (options : ParseOptions) (p : Point) (found : Found) (new : World) : Type 0 where
-  -- its states have come to this,
+-- flow has read a text from a point to its end, and then its resolvers ran
+pub record FlowReads (bytes : List ℕ) (options : ParseOptions) (p : Point) (found : Found) (new : World) : Type 0 where
+  -- its states have come to this, with the events of the lines
   pub end : State
   pub ended : World
   pub ran : FlowRan bytes options p end ended
-  -- which is what is there before the resolvers
-  pub at : World
-  pub at_is : at ≡ record ended { resolvers = [] }
-  pub events : at.events ≡ rows_events (text_rows options bytes p)
-  pub setting : at.setting ≡ text_setting bytes options p
-  pub frames : at.frames ≡ []
-  pub resolvers : at.resolvers ≡ []
-  -- between them
-  pub mid : World
-  pub mid_found : Found
-  pub reads : ReadsNone (text_rows options bytes p) at mid_found mid ⊎ ReadsContent R at mid_found mid
-  pub sets : SetsNone (text_rows options bytes p) mid mid_found found new ⊎ SetsHeadings R mid mid_found found new
+  pub events : ended.events ≡ rows_events (text_rows options bytes p)
+  -- content is read,
+  pub content : List Event
+  pub content_read : Substituted wants_content (content_readings bytes options) [] 0 (joined (rows_events (text_rows options bytes p))) content
+  -- and then the text of headings is set
+  pub events_are : new.events ≡ headings_resolved content
+  -- all else stays, but that no resolver is left to run
+  pub rest : new ≡ record ended { events = new.events; resolvers = [] }
+  pub setting : new.setting ≡ text_setting bytes options p
+  pub frames : new.frames ≡ []
+  -- the resolver of content alone says what it has found, and it runs if a line is content
+  pub found_is : ((has_text (text_rows options bytes p) ≡ false) × (found ≡ nothing)) ⊎ (found ≡ found_in_content content)

@@ -7,7 +7,6 @@ ghost use Rattle.md_engine.specs.World.{world};
 ghost use Rattle.markdown_blocks.specs.Document.{ReadsMark};
 ghost use Rattle.markdown_blocks.specs.FlowReads.{FlowReads};
 ghost use Rattle.markdown_blocks.specs.Parsed.{IsBuilt, IsParsed, IsSmall};
-ghost use Rattle.markdown_blocks.specs.Resolved.{resolved_as};
 ghost use Rattle.markdown_blocks.specs.TextReads.{text_kind, wants_text};
 
 use crate::construct::document::DocumentTable;
@@ -104,7 +103,7 @@ fn read_flow<'a>(
 ) -> Result<(Tokenizer<'a>, Subresult), Message>
     requires small { IsSmall bytes.now }
     requires placed { IsPlaced bytes.now start }
-    ensures { IfOk result (λ read. FlowReads resolved_as bytes.now options.now start (found_in read.1) (world read.0)) }
+    ensures { IfOk result (λ read. FlowReads bytes.now options.now start (found_in read.1) (world read.0)) }
 {
     let mut tokenizer = Tokenizer::new(alloc, start, bytes, options);
     let start = State::Next(StateName::DocumentContainerExistingBefore);

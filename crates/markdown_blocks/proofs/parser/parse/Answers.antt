@@ -11,7 +11,7 @@ use Rattle.md_seam.specs.On.{are_on}
 use Rattle.md_seam.proofs.HeldLemmas.{blocks-held}
 use Rattle.md_seam.proofs.OnLemmas.{tree-on}
 use Rattle.md_seam.proofs.ReachedLemmas.{events-placed}
-use Rattle.markdown_blocks.proofs.FlowReads.{reads-labels, reads-setting, map-nil}
+use Rattle.markdown_blocks.proofs.FlowReads.{reads-labels, map-nil}
 use Rattle.markdown_blocks.proofs.MarkLemmas.{body-placed}
 use Rattle.markdown_blocks.proofs.Parses.{Reads, parsed-reads}
 use Rattle.markdown_blocks.proofs.TextQuoted.{text-quoted}
@@ -31,7 +31,7 @@ read_flow-requires-clause-placed c =
 
 pub subtokenize-requires : goal.subtokenize-requires
 subtokenize-requires c =
-    let same : c.in_ok-tokenizer.tokenizer.bytes.now ≡ c.as_bytes-bytes.result.now = ap (λ (x : Setting). x.bytes) (reads-setting _ _ _ _ _ c.in_ok-tokenizer.ensures) in
+    let same : c.in_ok-tokenizer.tokenizer.bytes.now ≡ c.as_bytes-bytes.result.now = ap (λ (x : Setting). x.bytes) c.in_ok-tokenizer.ensures.setting in
     rw c.deref.ensures.value (rw same at c.in_ok-tokenizer.tokenizer.sound.right)
 
 pub returns : goal.returns
@@ -45,7 +45,7 @@ returns c =
     wants_text (λ content chunks events. PlainReads bytes (record { kind = text_kind content; chunks = chunks }) events) refl (λ chunks answer reads end lines whole. reads end lines whole)
     c.deref.ensures.value c.in_ok-body.ensures.substituted c.in_ok-events.ensures in
     let of_mark : ArePlaced bytes c.in_ok-front.front.events.items = rw c.in_ok-front.ensures.bytes_are at c.in_ok-front.front.sound.right in
-    let same : c.in_ok-tokenizer.tokenizer.bytes.now ≡ bytes = ap (λ (x : Setting). x.bytes) (reads-setting _ _ _ _ _ c.in_ok-tokenizer.ensures) in
+    let same : c.in_ok-tokenizer.tokenizer.bytes.now ≡ bytes = ap (λ (x : Setting). x.bytes) c.in_ok-tokenizer.ensures.setting in
     let of_flow : ArePlaced bytes c.deref.result.now = rw c.deref.ensures.value (rw same at c.in_ok-tokenizer.tokenizer.sound.right) in
     let before : ArePlaced bytes (c.in_ok-front.front.events.items ++ c.deref.result.now) = All-append (λ (e : Event). IsPlaced bytes e.point) c.in_ok-front.front.events.items c.deref.result.now of_mark of_flow in
     let placed : ArePlaced bytes c.in_ok-events.events.items =

@@ -1,0 +1,269 @@
+-- Behind the states of flow each resolver is a step that changes nothing where no line is its own: then it does not matter whether it ran.
+use Rattle.std.proofs.Common.{◌≡◌, ◌≢◌, ℕ, zero, suc, Bool, true, false, cond, ◌&&◌, ◌==◌, List, [], ◌∷◌, ◌++◌, length, refl, ap, sym, ◌∙◌, subst, append-nil}
+use Rattle.std.specs.Prelude.{Option, Some, None}
+use Rattle.std.proofs.lemmas.Bool.{or_parts}
+use Rattle.md_engine.specs.declared.configuration.ParseOptions.{ParseOptions}
+use Rattle.md_engine.specs.declared.event.Content.{Content}
+use Rattle.md_engine.specs.declared.event.Content.TheVariants as content
+use Rattle.md_engine.specs.declared.event.Event.{Event}
+use Rattle.md_engine.specs.declared.event.Name.TheVariants as n
+use Rattle.md_engine.specs.declared.event.Point.{Point}
+use Rattle.md_engine.specs.Meaning.{Cell}
+use Rattle.md_engine.specs.TextFeed.{text_feed}
+use Rattle.md_engine.specs.World.{World}
+use Rattle.md_containers.specs.QuoteRule.{behind_events, indent_events, marker_events, prefix_events, takes_prefix}
+use Rattle.md_content.specs.ContentReads.{content_events, content_readings, is_data_end, paragraph_over, part_world, settled, wants_content}
+use Rattle.md_content.specs.Joined.{goes_on, is_content, joined}
+use Rattle.md_content.specs.Paragraph.{text_link}
+use Rattle.md_content.specs.ParagraphRule.{line_events}
+use Rattle.md_leaves.specs.BreakRule.{Apart, runs}
+use Rattle.md_leaves.specs.HeadingText.{begins, headings_resolved, is_heading}
+use Rattle.md_seam.specs.declared.inline.Chunk.{Chunk}
+use Rattle.md_seam.specs.Ahead.{begins_white, from_ending, line_cells, line_end, point_after, white_end, white_rest}
+use Rattle.md_seam.specs.Nested.{enter_link, exit, pair, is_exit}
+use Rattle.md_seam.specs.Rest.{is_white}
+use Rattle.md_seam.specs.Spaces.{small_indent}
+use Rattle.md_seam.specs.State.{Container, InFootnote, InItem, InQuote}
+use Rattle.md_seam.specs.Substituted.{Readings, Substituted}
+use Rattle.md_seam.proofs.SpelledLemmas.{Quiet, Roles, roles-append}
+use Rattle.markdown_blocks.specs.Change.{interrupts, open_behind, others_of}
+use Rattle.markdown_blocks.specs.FlowReads.{has_text}
+use Rattle.markdown_blocks.specs.Rows.{BlankRow, BreakRow, Front, HeadingRow, Held, Passed, Row, RowKind, TextRow, ending_of, first_cell, goes_at, held_at, in_front, inside_of, is_text, leaf_events, new_front, no_front, opens_at, quote_new, quote_on, row_events, row_events_by, row_kind, rows_at, rows_by, rows_events, tail_events, went_front}
+use Rattle.markdown_blocks.proofs.EachEvent.{Each}
+use Rattle.markdown_blocks.proofs.EachRow.{EachRow}
+use Rattle.markdown_blocks.proofs.FrontNames.{AreFront, front-append}
+use Rattle.markdown_blocks.proofs.GroupLemmas.{AreOutside, around-outside, front-outside, outside-append, outside-passes, quiet-outside, tail-outside}
+use Rattle.markdown_blocks.proofs.JoinedLemmas.{EachNoContent, NoContent, events-no_content, front-no_content, joined-passes, no_content-append, no_content-unwanted, nothing}
+use Rattle.markdown_blocks.proofs.RowLemmas.{quiet-runs}
+use Rattle.markdown_blocks.proofs.SubstitutedLemmas.{keeps, keeps-each}
+
+-- What stands in front of a line that flow reads.
+
+-- whitespace that may stand there
+white-front : (x : Bool) (p q : Point) → AreFront (cond x (pair n.SpaceOrTab p q) [])
+white-front true p q = (refl, refl, (refl, refl, tt))
+white-front false p q = tt
+
+-- behind the marker of a quote
+behind-front : (cells : List Cell) (p : Point) → AreFront (behind_events cells p)
+behind-front [] p = (refl, refl, tt)
+behind-front (c ∷ cs) p = go (is_white c.byte)
+  where
+    go : (x : Bool) → AreFront (cond x (pair n.SpaceOrTab p c.after ++ exit n.BlockQuotePrefix c.after ∷ []) (exit n.BlockQuotePrefix p ∷ []))
+    go true = (refl, refl, (refl, refl, (refl, refl, tt)))
+    go false = (refl, refl, tt)
+
+-- from the marker on
+marker-front : (cells : List Cell) (p : Point) → AreFront (marker_events cells p)
+marker-front [] p = tt
+marker-front (c ∷ cs) p = (refl, refl, (refl, refl, (refl, refl, behind-front cs c.after)))
+
+-- the prefix of a quote
+quote-front : (options : ParseOptions) (cells : List Cell) (p : Point) → AreFront (prefix_events options cells p)
+quote-front options cells p =
+    let q : Point = white_end (small_indent options) cells p in
+    let rest : List Cell = white_rest (small_indent options) cells in
+    front-append (indent_events options cells p) (marker_events rest q) (white-front (begins_white cells) p q) (marker-front rest q)
+
+-- a container that goes on or opens, if one does
+abbrev PassesFront : Option Passed → Type 0
+PassesFront None = Unit {0}
+PassesFront (Some t) = AreFront t.events
+
+-- one that goes on
+goes-front : (options : ParseOptions) (c : Container) (cells : List Cell) (p : Point) → PassesFront (goes_at options c cells p)
+goes-front options InQuote cells p = go (takes_prefix options cells)
+  where
+    go : (x : Bool) → PassesFront (cond x (Some (quote_on options cells p)) None)
+    go true = quote-front options cells p
+    go false = tt
+goes-front options (InItem digits marker width starts_blank) cells p = tt
+goes-front options (InFootnote label) cells p = tt
+
+-- one that opens
+opens-front : (options : ParseOptions) (interrupting : Bool) (cells : List Cell) (p : Point) → PassesFront (opens_at options interrupting cells p)
+opens-front options interrupting cells p = go (options.constructs.block_quote && takes_prefix options cells)
+  where
+    go : (x : Bool) → PassesFront (cond x (Some (quote_new options cells p)) None)
+    go true = (refl, refl, quote-front options cells p)
+    go false = tt
+
+-- the events of what stands there
+abbrev events_of : Front → List Event
+events_of f = f.events
+
+-- one more in front of others
+more-front : (f : Passed → Front) (none : Front) → ((t : Passed) → AreFront (f t).events) → AreFront none.events → (o : Option Passed) → PassesFront o → AreFront (events_of (elim o [ None ↦ none | Some t ↦ in_front t (f t) ]))
+more-front f none below h None k = h
+more-front f none below h (Some t) k = front-append t.events (f t).events k (below t)
+
+-- all that go on
+went-are : (options : ParseOptions) (cs : List Container) (cells : List Cell) (p : Point) → AreFront (went_front options cs cells p).events
+went-are options [] cells p = tt
+went-are options (c ∷ cs) cells p =
+    more-front (λ (t : Passed). went_front options cs t.cells t.point) (no_front cells p) (λ t. went-are options cs t.cells t.point) tt (goes_at options c cells p) (goes-front options c cells p)
+
+-- all that open
+new-are : (options : ParseOptions) (interrupting : Bool) (size : ℕ) (cells : List Cell) (p : Point) → AreFront (new_front options interrupting size cells p).events
+new-are options interrupting zero cells p = tt
+new-are options interrupting (suc size) cells p =
+    more-front (λ (t : Passed). new_front options false size t.cells t.point) (no_front cells p) (λ t. new-are options false size t.cells t.point) tt
+    (opens_at options interrupting cells p) (opens-front options interrupting cells p)
+
+-- all of it
+held-are : (options : ParseOptions) (cs : List Container) (going : Bool) (cells : List Cell) (p : Point) → AreFront (held_at options cs going cells p).front
+unfolding held_at
+held-are options cs going cells p =
+    let went : Front = went_front options cs cells p in
+    let new : Front = new_front options (interrupts going (others_of cs went.containers)) (length went.cells) went.cells went.point in
+    front-append went.events new.events (went-are options cs cells p)
+    (new-are options (interrupts going (others_of cs went.containers)) (length went.cells) went.cells went.point)
+
+-- Lines.
+
+-- whitespace that may stand in a line
+white-quiet : (x : Bool) (p q : Point) → Roles Quiet (cond x (pair n.SpaceOrTab p q) [])
+white-quiet true p q = (tt, (tt, tt))
+white-quiet false p q = tt
+
+-- what stands in a line that is no heading
+inside-quiet : (options : ParseOptions) (cells : List Cell) (p : Point) (kind : RowKind) → kind ≢ HeadingRow → Roles Quiet (inside_of options cells p kind)
+inside-quiet options cells p BlankRow other = white-quiet (begins_white cells) p (line_end cells p)
+inside-quiet options cells p HeadingRow other = absurd (other refl)
+inside-quiet options cells p BreakRow other =
+    let rest : List Cell = white_rest (small_indent options) cells in
+    let q : Point = white_end (small_indent options) cells p in
+    roles-append Quiet (cond (begins_white cells) (pair n.SpaceOrTab p q) []) (runs Apart (first_cell rest) (line_cells rest) q) (white-quiet (begins_white cells) p q)
+    (quiet-runs Apart (first_cell rest) (line_cells rest) q)
+inside-quiet options cells p TextRow other = tt
+
+-- prefixes and begins of containers stand in front of a line, and in one that is no heading nothing that the tree shows
+pub record IsFramed (row : Row) : Type 0 where
+  pub front : AreFront row.front
+  pub inside : row.kind ≢ HeadingRow → Roles Quiet row.inside
+
+-- so it is in the lines that flow reads
+rows_by-framed : (options : ParseOptions) (h : Held) (further : List Container → Bool → List Cell → Point → List Row) → AreFront h.front →
+    ((open_before : List Container) (going : Bool) (cells : List Cell) (p : Point) → EachRow IsFramed (further open_before going cells p)) → EachRow IsFramed (rows_by options h further)
+rows_by-framed options h further front each = (record { front = front; inside = λ other. inside-quiet options h.cells h.point (row_kind options h.cells) other }, go (from_ending h.cells))
+  where
+    going : Bool
+    going = is_text (row_kind options h.cells)
+
+    go : (rest : List Cell) → EachRow IsFramed (elim rest [ [] ↦ [] | c ∷ cs ↦ further (open_behind h.change) going cs c.after ])
+    go [] = tt
+    go (c ∷ cs) = each (open_behind h.change) going cs c.after
+
+-- however many there are
+pub rows_at-framed : (options : ParseOptions) (size : ℕ) (open_before : List Container) (going : Bool) (cells : List Cell) (p : Point) → EachRow IsFramed (rows_at options size open_before going cells p)
+rows_at-framed options zero open_before going cells p = tt
+rows_at-framed options (suc size) open_before going cells p =
+    rows_by-framed options (held_at options open_before going cells p) (rows_at options size) (held-are options open_before going cells p) (rows_at-framed options size)
+
+-- Reading content.
+
+-- what `is_text` says of a kind
+text-kind : (kind : RowKind) → is_text kind ≡ false → kind ≢ TextRow
+text-kind TextRow e k = cc
+text-kind BlankRow e k = cc
+text-kind HeadingRow e k = cc
+text-kind BreakRow e k = cc
+
+-- where no line is text there is no content
+rows-no_content : (wants : Content → Bool) → wants content.Text ≡ false → (rows : List Row) → EachRow IsFramed rows → EachNoContent rows → has_text rows ≡ false → NoContent wants (rows_events rows)
+rows-no_content wants w [] framed quiet none = tt
+rows-no_content wants w (row ∷ rows) framed quiet none =
+    let other = or_parts (is_text row.kind) (has_text rows) none in
+    no_content-append wants (row_events row) (rows_events rows)
+    (events-no_content wants row row.kind refl (text-kind row.kind other.0) (front-no_content wants row.front framed.0.front) (quiet.0 wants (λ k. w)))
+    (rows-no_content wants w rows framed.1 quiet.1 other.1)
+
+-- Where no line is text, reading content changes nothing.
+pub content-same : (reads : Readings) (rows : List Row) → EachRow IsFramed rows → EachNoContent rows → has_text rows ≡ false → Substituted wants_content reads [] 0 (joined (rows_events rows)) (rows_events rows)
+content-same reads rows framed quiet none =
+    let es : List Event = rows_events rows in
+    let same : joined es ≡ es = ap joined (sym (append-nil es)) ∙ joined-passes es [] (rows-no_content nothing refl rows framed quiet none) ∙ append-nil es in
+    subst (λ (l : List Event). Substituted wants_content reads [] 0 l es) (sym same)
+    (keeps wants_content reads [] 0 es (no_content-unwanted wants_content es (rows-no_content wants_content refl rows framed quiet none)))
+
+-- What holds of each event wherever it stands, and of each that is read, goes on to hold.
+
+-- once lines are joined
+joined-each : (P : Event → Type 0) → ((e : Event) (q : Point) → P e → P (record e { point = q })) → (es : List Event) → Each P es → Each P (joined es)
+joined-each P moves [] h = tt
+joined-each P moves (e ∷ []) h = h
+joined-each P moves (e ∷ f ∷ []) h = h
+joined-each P moves (e ∷ f ∷ g ∷ es) h = go (is_exit e.kind && is_content e.name && goes_on (f ∷ g ∷ es)) (joined-each P moves es h.1.1.1) (joined-each P moves (f ∷ g ∷ es) h.1)
+  where
+    go : (x : Bool) → Each P (joined es) → Each P (joined (f ∷ g ∷ es)) → Each P (cond x (record e { point = g.point } ∷ joined es) (e ∷ joined (f ∷ g ∷ es)))
+    go true k l = (moves e g.point h.0, k)
+    go false k l = (h.0, l)
+
+-- once lines end where their chunks do
+settled-each : (P : Event → Type 0) → ((e : Event) (q : Point) → P e → P (record e { point = q })) → (chunks : List Chunk) (es : List Event) → Each P es → Each P (settled chunks es)
+settled-each P moves chunks [] h = tt
+settled-each P moves [] (e ∷ es) h = h
+settled-each P moves (chunk ∷ chunks) (e ∷ es) h = go (is_data_end e) (settled-each P moves chunks es h.1) (settled-each P moves (chunk ∷ chunks) es h.1)
+  where
+    go : (x : Bool) → Each P (settled chunks es) → Each P (settled (chunk ∷ chunks) es) → Each P (cond x (record e { point = chunk.after } ∷ settled chunks es) (e ∷ settled (chunk ∷ chunks) es))
+    go true k l = (moves e chunk.after h.0, k)
+    go false k l = (h.0, l)
+
+-- Setting the text of headings.
+
+-- no heading begins with an event
+abbrev IsOutside : Event → Type 0
+IsOutside e = begins is_heading e ≡ false
+
+-- a line that is no heading
+row-outside : (row : Row) (kind : RowKind) → row.kind ≡ kind → row.kind ≢ HeadingRow → IsFramed row → AreOutside (row_events_by kind row)
+row-outside row kind e other framed =
+    outside-append (row.front ++ leaf_events kind row) (tail_events (ending_of kind) row)
+    (outside-append row.front (leaf_events kind row) (front-outside row.front framed.front) (leaf kind e)) (tail-outside (ending_of kind) row (ending kind))
+  where
+    inside : AreOutside row.inside
+    inside = quiet-outside row.inside (framed.inside other)
+
+    leaf : (kind : RowKind) → row.kind ≡ kind → AreOutside (leaf_events kind row)
+    leaf BlankRow e = inside
+    leaf HeadingRow e = absurd (other e)
+    leaf BreakRow e = around-outside n.ThematicBreak row.first row.end row.inside refl inside
+    leaf TextRow e = (refl, (refl, tt))
+
+    ending : (kind : RowKind) → is_heading (ending_of kind) ≡ false
+    ending BlankRow = refl
+    ending HeadingRow = refl
+    ending BreakRow = refl
+    ending TextRow = refl
+
+-- lines none of which is a heading
+pub rows-outside : (rows : List Row) → EachRow IsFramed rows → EachRow (λ (row : Row). row.kind ≢ HeadingRow) rows → AreOutside (rows_events rows)
+rows-outside [] framed other = tt
+rows-outside (row ∷ rows) framed other = outside-append (row_events row) (rows_events rows) (row-outside row row.kind refl other.0 framed.0) (rows-outside rows framed.1 other.1)
+
+-- the lines of a paragraph
+lines-outside : (cells : List Cell) (p : Point) → AreOutside (line_events cells p)
+lines-outside [] p = (refl, tt)
+lines-outside (c ∷ cs) p = go (c.byte == 10) (lines-outside cs c.after)
+  where
+    go : (x : Bool) → AreOutside (line_events cs c.after) → AreOutside (cond x (exit n.Data c.after ∷ enter_link n.Data c.after text_link ∷ line_events cs c.after) (line_events cs c.after))
+    go true k = (refl, (refl, k))
+    go false k = k
+
+-- what is read of content is a paragraph
+content-outside : (bytes : List ℕ) (options : ParseOptions) (chunks : List Chunk) → AreOutside (content_events bytes options chunks)
+unfolding content_events
+content-outside bytes options chunks =
+    let w : World = part_world bytes options chunks in
+    let cells : List Cell = text_feed w.setting w.point in
+    settled-each IsOutside (λ e q h. h) chunks (paragraph_over cells w.point) (refl, (refl, outside-append (line_events cells w.point) (exit n.Paragraph (point_after cells w.point) ∷ []) (lines-outside cells w.point) (refl, tt)))
+
+-- so no heading begins behind it where none did before
+pub reading-outside : (bytes : List ℕ) (options : ParseOptions) (es out : List Event) → AreOutside es → Substituted wants_content (content_readings bytes options) [] 0 (joined es) out → AreOutside out
+reading-outside bytes options es out h s =
+    keeps-each IsOutside wants_content (content_readings bytes options) (λ content chunks answer is. subst (Each IsOutside) (sym is) (content-outside bytes options chunks)) [] 0 (joined es) out tt
+    (joined-each IsOutside (λ e q h. h) es h) s
+
+-- Where no heading begins, setting their text changes nothing.
+pub headings-same : (es : List Event) → AreOutside es → headings_resolved es ≡ es
+headings-same es h = ap headings_resolved (sym (append-nil es)) ∙ outside-passes es [] h ∙ append-nil es
