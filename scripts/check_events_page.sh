@@ -8,7 +8,7 @@ set -euo pipefail
 cd "$(dirname "$0")/.."
 cases=$(mktemp -d)
 trap 'rm -rf "$cases"' EXIT
-python3 - docs/events.md "$cases" <<'PYTHON'
+if ! python3 - docs/events.md "$cases" <<'PYTHON'
 import re, subprocess, sys
 page, cases = sys.argv[1:]
 lines = open(page, encoding="utf-8").read().split("\n")
@@ -46,6 +46,10 @@ while at < len(lines):
     open(f"{cases}/{name}.args", "w").write(found[1] + "\n")
     open(f"{cases}/{name}.stdout", "w").write("".join(line + "\n" for line in events))
 PYTHON
+then
+    echo "events page: 0 passed, 1 failed"
+    exit 1
+fi
 all=$(find "$cases" -name '*.stdout' | wc -l)
 answer=$(cd crates/events && rt try --cases "$cases" 2>&1) || true
 passed=$(grep -c '^case=line[0-9]* run=ended status=0 .*output=expected' <<<"$answer" || true)
