@@ -1,6 +1,5 @@
 use Rattle.std.proofs.Common.{◌≡◌, List, ℕ, IsUtf8, string_bytes, sym, ◌∙◌, subst}
 use Rattle.md_engine.specs.declared.configuration.ParseOptions.{ParseOptions}
-use Rattle.md_program.specs.Sets.{options_of}
 use Rattle.md_program.proofs.run.whole_output.Goals as goal
 
 pub returns : goal.returns
