@@ -6,6 +6,9 @@ pub mod run;
 use md_program::system::arguments;
 use std::process::ExitCode;
 
+/// The program's name, as its lines on the standard error say it.
+const NAME: &str = "blocks";
+
 fn main(rt: HostRuntime) -> ExitCode {
     let mut errors = rt.stderr();
     match arguments(&rt) {
@@ -16,6 +19,6 @@ fn main(rt: HostRuntime) -> ExitCode {
             &mut rt.stdout(),
             &mut errors,
         )),
-        Err(failure) => ExitCode::from(failure.report(&mut errors)),
+        Err(failure) => ExitCode::from(failure.report(NAME, &mut errors)),
     }
 }

@@ -1,9 +1,11 @@
 // A run of the program.
-ghost use Rattle.std.specs.Prelude.{map, string_bytes};
+ghost use Rattle.std.specs.Prelude.{codes, map, string_bytes};
 ghost use Rattle.md_program.specs.Ends.{Runs};
+ghost use Rattle.md_program.specs.Printed.{PrintsOutline};
 ghost use Rattle.blocks_body.specs.Built.{Outlines, built_from};
 
 use blocks_body::Blocks;
+use md_program::printing::OutlineOf;
 use std::alloc::Global;
 use std::io::{Read, Write};
 
@@ -18,12 +20,19 @@ pub fn run<R: Read, W: Write, E: Write>(
     output: &mut W,
     errors: &mut E,
 ) -> u8
-    ensures { Runs Outlines built_from (map string_bytes args.now)
+    ensures { Runs (codes "blocks") (PrintsOutline Outlines built_from) (map string_bytes args.now)
         (R.remaining input.old) (R.remaining input.new)
         (W.contents output.old) (W.contents output.new)
         (E.contents errors.old) (E.contents errors.new) result }
 {
-    md_program::run::run::<Blocks, R, W, E>(alloc, args, input, output, errors)
+    md_program::run::run::<OutlineOf<Blocks>, R, W, E>(
+        alloc,
+        crate::NAME,
+        args,
+        input,
+        output,
+        errors,
+    )
 }
 
 #[cfg(test)]

@@ -2,9 +2,7 @@
 use Rattle.std.specs.Prelude.{◌≡◌, ℕ, ◌≤◌, ◌<◌, List, ◌++◌, length, codes, ⊤, Option, Some, None, IsSome, IfSome, IsUtf8}
 use Rattle.std.specs.Io.KnownBytes.{Keeps, Appends}
 use Rattle.md_engine.specs.declared.configuration.ParseOptions.{ParseOptions}
-use Rattle.md_program.specs.Printed.{printed}
 use Rattle.md_program.specs.Sets.{options_of, set_asked_for}
-use Rattle.md_program.specs.Listing.{Listing}
 use Rattle.md_program.specs.declared.body.TheConstants.{MOST}
 use Rattle.md_program.specs.declared.failure.Failure.{Failure}
 use Rattle.md_program.specs.declared.failure.Failure.TheVariants.{UnknownArgument, NotUtf8, TooLong, OutOfMemory, ReadFailed, WriteFailed}
@@ -19,14 +17,18 @@ failed_status OutOfMemory = 3
 failed_status ReadFailed = 4
 failed_status WriteFailed = 4
 
--- the line on the standard error after a failure
-abbrev pub message : Failure → List ℕ
-message UnknownArgument = codes "blocks: unknown argument\n"
-message NotUtf8 = codes "blocks: not UTF-8\n"
-message TooLong = codes "blocks: too long\n"
-message OutOfMemory = codes "blocks: out of memory\n"
-message ReadFailed = codes "blocks: read failed\n"
-message WriteFailed = codes "blocks: write failed\n"
+-- what is said of a failure, behind the program's name
+abbrev pub reason : Failure → List ℕ
+reason UnknownArgument = codes ": unknown argument\n"
+reason NotUtf8 = codes ": not UTF-8\n"
+reason TooLong = codes ": too long\n"
+reason OutOfMemory = codes ": out of memory\n"
+reason ReadFailed = codes ": read failed\n"
+reason WriteFailed = codes ": write failed\n"
+
+-- the line on the standard error after a failure of the program of this name
+abbrev pub message : List ℕ → Failure → List ℕ
+message name failure = name ++ reason failure
 
 -- the known bytes of a writer have grown by a beginning of bs
 abbrev pub AppendsBeginning : Option (List ℕ) → Option (List ℕ) → List ℕ → Type 0
@@ -46,20 +48,18 @@ FailsRead input UnknownArgument = ⊥
 FailsRead input NotUtf8 = ⊥
 FailsRead input WriteFailed = ⊥
 
--- the input, whose bytes may be known, was a text, and this is its listing under a set
-pub record Shows (outlines : List ℕ → ParseOptions → Listing → Type 0) (built : ParseOptions → ParseOptions) (input : Option (List ℕ)) (set : Set) (listing : Listing) : Type 0 where
+-- the input, whose bytes may be known, was a text, and these bytes are what is printed of it under a set
+pub record Shows (prints : List ℕ → ParseOptions → List ℕ → Type 0) (input : Option (List ℕ)) (set : Set) (bytes : List ℕ) : Type 0 where
   pub text : List ℕ
   pub read : Gives input text
   pub utf8 : IsUtf8 text
-  pub shown : outlines text (built (options_of set)) listing
+  pub shown : prints text (options_of set) bytes
 
--- the arguments ask for a set, and these bytes are the printed form of a listing under it
-pub record Prints (shows : Set → Listing → Type 0) (asked : Option Set) (bytes : List ℕ) : Type 0 where
+-- the arguments ask for a set, and these bytes are shown under it
+pub record Prints (shows : Set → List ℕ → Type 0) (asked : Option Set) (bytes : List ℕ) : Type 0 where
   pub set : Set
   pub known : asked ≡ Some set
-  pub listing : Listing
-  pub shown : shows set listing
-  pub printing : bytes ≡ printed listing
+  pub shown : shows set bytes
 
 -- why the program stops before it writes: `input` and `left` are what it could read before and after
 abbrev pub Stops : Option Set → Option (List ℕ) → Option (List ℕ) → Failure → Type 0
@@ -72,7 +72,7 @@ Stops asked input left WriteFailed = ⊥
 
 -- what the program has read and written, by how it ended: `input` and `left` are what it could read before and after, `held`
 -- and `holds` what the output held before and after
-abbrev pub Ran : (Set → Listing → Type 0) → Option Set → Option (List ℕ) → Option (List ℕ) → Option (List ℕ) → Option (List ℕ) → Option Failure → Type 0
+abbrev pub Ran : (Set → List ℕ → Type 0) → Option Set → Option (List ℕ) → Option (List ℕ) → Option (List ℕ) → Option (List ℕ) → Option Failure → Type 0
 Ran shows asked input left held holds None = (bytes : List ℕ) × Prints shows asked bytes × Appends held holds bytes
 Ran shows asked input left held holds (Some WriteFailed) = (bytes : List ℕ) × Prints shows asked bytes × AppendsBeginning held holds bytes
 Ran shows asked input left held holds (Some failure) = Stops asked input left failure × Keeps held holds
@@ -82,15 +82,15 @@ abbrev pub status : Option Failure → ℕ
 status None = 0
 status (Some failure) = failed_status failure
 
--- what the program says on the standard error: a write there may fail
-abbrev pub Tells : Option (List ℕ) → Option (List ℕ) → Option Failure → Type 0
-Tells said says None = Keeps said says
-Tells said says (Some failure) = AppendsBeginning said says (message failure)
+-- what the program of this name says on the standard error: a write there may fail
+abbrev pub Tells : List ℕ → Option (List ℕ) → Option (List ℕ) → Option Failure → Type 0
+Tells name said says None = Keeps said says
+Tells name said says (Some failure) = AppendsBeginning said says (message name failure)
 
--- a run of the program with these arguments: the bytes that its input, output and standard error are known to have before
--- and after, and its status
-pub record Runs (outlines : List ℕ → ParseOptions → Listing → Type 0) (built : ParseOptions → ParseOptions) (args : List (List ℕ)) (input left held holds said says : Option (List ℕ)) (ended : ℕ) : Type 0 where
+-- a run of the program of this name with these arguments: what it may print of a text, the bytes that its input, output and
+-- standard error are known to have before and after, and its status
+pub record Runs (name : List ℕ) (prints : List ℕ → ParseOptions → List ℕ → Type 0) (args : List (List ℕ)) (input left held holds said says : Option (List ℕ)) (ended : ℕ) : Type 0 where
   pub failure : Option Failure
   pub ending : ended ≡ status failure
-  pub telling : Tells said says failure
-  pub running : Ran (Shows outlines built input) (set_asked_for args) input left held holds failure
+  pub telling : Tells name said says failure
+  pub running : Ran (Shows prints input) (set_asked_for args) input left held holds failure

@@ -1,7 +1,8 @@
 -- The printed form of a listing.
-use Rattle.std.specs.Prelude.{ℕ, Bool, true, false, List, [], ◌∷◌, ◌++◌, length, codes, encode_utf8}
+use Rattle.std.specs.Prelude.{◌≡◌, ℕ, Bool, true, false, List, [], ◌∷◌, ◌++◌, length, codes, encode_utf8}
 use Rattle.std.specs.List.{flat_map, repeat}
 use Rattle.std.specs.Fmt.{decimal}
+use Rattle.md_engine.specs.declared.configuration.ParseOptions.{ParseOptions}
 use Rattle.md_seam.specs.Outline.{Entry}
 use Rattle.md_seam.specs.declared.outline.Word.{Word}
 use Rattle.md_seam.specs.declared.outline.Word.TheVariants.{Frontmatter, Heading, Break, Code, Fence, Math, Html, Definition, Paragraph, Table, Row, Quote, List as ListOf, Item, Footnote, Line, Info, Meta, Label, Destination, Title, Delimiter, Cell}
@@ -60,3 +61,9 @@ printed listing =
     flat_map printed_line listing.lines ++ line_end
     ++ printed_labels (codes "definitions ") listing.definitions
     ++ printed_labels (codes "footnotes ") listing.footnotes
+
+-- what is printed of a text: the printed form of a listing that may be answered to it, under what stands for the options
+pub record PrintsOutline (outlines : List ℕ → ParseOptions → Listing → Type 0) (built : ParseOptions → ParseOptions) (text : List ℕ) (options : ParseOptions) (bytes : List ℕ) : Type 0 where
+  pub listing : Listing
+  pub shown : outlines text (built options) listing
+  pub printing : bytes ≡ printed listing

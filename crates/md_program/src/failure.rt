@@ -1,7 +1,7 @@
 // Why the program ends without its output, and what it says then.
 ghost use Rattle.std.specs.Prelude.{◌≡◌};
 ghost use Rattle.md_program.specs.declared.failure.Failure.TheVariants.{OutOfMemory};
-ghost use Rattle.md_program.specs.Ends.{AppendsBeginning, failed_status, message};
+ghost use Rattle.md_program.specs.Ends.{AppendsBeginning, failed_status, message, reason};
 
 use crate::streams::write_whole;
 use md_engine::message::Message;
@@ -37,27 +37,35 @@ impl Failure {
         }
     }
 
-    /// The line on the standard error, with its line feed.
-    pub fn message(self) -> &'static str
-        ensures { result.now ≡ message self }
+    /// What the line on the standard error says behind the program's name, with its line feed.
+    pub fn reason(self) -> &'static str
+        ensures { result.now ≡ reason self }
     {
         match self {
-            Failure::UnknownArgument => "blocks: unknown argument\n",
-            Failure::NotUtf8 => "blocks: not UTF-8\n",
-            Failure::TooLong => "blocks: too long\n",
-            Failure::OutOfMemory => "blocks: out of memory\n",
-            Failure::ReadFailed => "blocks: read failed\n",
-            Failure::WriteFailed => "blocks: write failed\n",
+            Failure::UnknownArgument => ": unknown argument\n",
+            Failure::NotUtf8 => ": not UTF-8\n",
+            Failure::TooLong => ": too long\n",
+            Failure::OutOfMemory => ": out of memory\n",
+            Failure::ReadFailed => ": read failed\n",
+            Failure::WriteFailed => ": write failed\n",
         }
     }
 
-    /// Writes the line to `errors` and answers the status. A write there may fail, which changes nothing.
-    pub fn report<E: Write>(self, errors: &mut E) -> u8
+    /// Writes the line of the program `name` to `errors` and answers the status. A write there may fail, which changes nothing.
+    pub fn report<E: Write>(self, name: &str, errors: &mut E) -> u8
         ensures status { result ≡ failed_status self }
-        ensures told { AppendsBeginning (E.contents errors.old) (E.contents errors.new) (message self) }
+        ensures told { AppendsBeginning (E.contents errors.old) (E.contents errors.new) (message name.now self) }
     {
-        let _ = write_whole(errors, self.message().as_bytes());
+        let _ = self.tell(name, errors);
         self.status()
+    }
+
+    // Writes the line. After a failure a beginning of it may have been written.
+    fn tell<E: Write>(self, name: &str, errors: &mut E) -> Result<(), Failure>
+        ensures { AppendsBeginning (E.contents errors.old) (E.contents errors.new) (message name.now self) }
+    {
+        write_whole(errors, name.as_bytes())?;
+        write_whole(errors, self.reason().as_bytes())
     }
 }
 

@@ -53,7 +53,8 @@ fn push_line(text: &mut String, line: &OutlineLine) -> Result<(), AllocError>
     text.push_str("\n")
 }
 
-fn push_repeated(text: &mut String, piece: &str, count: usize) -> Result<(), AllocError>
+/// Puts `piece` behind the text, so many times.
+pub fn push_repeated(text: &mut String, piece: &str, count: usize) -> Result<(), AllocError>
     ensures { OnOk result (string_bytes text.new ≡ string_bytes text.old ++ repeat count piece.now) }
 {
     for _done in 0..count {
@@ -105,7 +106,8 @@ fn push_marked(text: &mut String, name: &str, marker: u8) -> Result<(), AllocErr
     text.push(char::from(marker))
 }
 
-fn push_counted(text: &mut String, name: &str, count: usize) -> Result<(), AllocError>
+/// Puts `name` behind the text, and behind it a number.
+pub fn push_counted(text: &mut String, name: &str, count: usize) -> Result<(), AllocError>
     ensures { OnOk result (string_bytes text.new ≡ string_bytes text.old ++ (name.now ++ Rattle.std.specs.Fmt.decimal count)) }
 {
     text.push_str(name)?;

@@ -3,6 +3,7 @@ ghost use Rattle.std.specs.Prelude.{◌≤◌};
 
 use super::run;
 use crate::body::{Body, Outlined};
+use crate::printing::OutlineOf;
 use md_engine::configuration::ParseOptions;
 use md_engine::message::Message;
 use md_seam::outline::{OutlineLine, Word};
@@ -156,7 +157,14 @@ fn check(
     said: &[u8],
 ) {
     let mut errors = Sink::new();
-    let ended = run::<Lines, Source, Sink, Sink>(alloc, &[], &mut input, &mut output, &mut errors);
+    let ended = run::<OutlineOf<Lines>, Source, Sink, Sink>(
+        alloc,
+        "lines",
+        &[],
+        &mut input,
+        &mut output,
+        &mut errors,
+    );
     assert_eq!(rt; ended, status);
     assert_eq!(rt; output.bytes(), held);
     assert_eq!(rt; errors.bytes(), said);
@@ -190,7 +198,7 @@ fn a_failed_read_leaves_no_output(rt: HostRuntime) {
             Sink::new(),
             4,
             b"",
-            b"blocks: read failed\n",
+            b"lines: read failed\n",
         );
     }
 }
@@ -205,7 +213,7 @@ fn an_input_that_is_not_text_leaves_no_output(rt: HostRuntime) {
         Sink::new(),
         2,
         b"",
-        b"blocks: not UTF-8\n",
+        b"lines: not UTF-8\n",
     );
 }
 
@@ -222,7 +230,7 @@ fn a_failed_write_leaves_a_beginning(rt: HostRuntime) {
         output,
         4,
         held,
-        b"blocks: write failed\n",
+        b"lines: write failed\n",
     );
 }
 
@@ -237,7 +245,7 @@ fn a_write_that_takes_nothing_has_failed(rt: HostRuntime) {
         output,
         4,
         b"",
-        b"blocks: write failed\n",
+        b"lines: write failed\n",
     );
 }
 
@@ -252,7 +260,7 @@ fn a_failed_flush_is_a_failed_write(rt: HostRuntime) {
         output,
         4,
         OUTPUT,
-        b"blocks: write failed\n",
+        b"lines: write failed\n",
     );
 }
 
@@ -264,8 +272,9 @@ fn a_failed_write_of_the_message_changes_nothing(rt: HostRuntime) {
         let mut errors = Sink::new();
         errors.step = 1;
         errors.calls = calls;
-        let ended = run::<Lines, Source, Sink, Sink>(
+        let ended = run::<OutlineOf<Lines>, Source, Sink, Sink>(
             rt.alloc(),
+            "lines",
             &[],
             &mut input,
             &mut output,
@@ -298,8 +307,9 @@ fn arguments_come_first(rt: HostRuntime) -> Result<(), Fail> {
         input.calls = 0;
         let mut output = Sink::new();
         let mut errors = Sink::new();
-        let ended = run::<Lines, Source, Sink, Sink>(
+        let ended = run::<OutlineOf<Lines>, Source, Sink, Sink>(
             rt.alloc(),
+            "lines",
             args.as_slice(),
             &mut input,
             &mut output,
@@ -308,7 +318,7 @@ fn arguments_come_first(rt: HostRuntime) -> Result<(), Fail> {
         assert_eq!(rt; ended, status, "{words:?}");
         assert_eq!(rt; output.bytes(), b"".as_slice());
         if status == 2 {
-            assert_eq!(rt; errors.bytes(), b"blocks: unknown argument\n".as_slice());
+            assert_eq!(rt; errors.bytes(), b"lines: unknown argument\n".as_slice());
         }
     }
     Ok(())
@@ -320,8 +330,9 @@ fn want_of_memory_leaves_no_output(rt: HostRuntime) {
     let mut input = Source::of(b"a");
     let mut output = Sink::new();
     let mut errors = Sink::new();
-    let ended = run::<Lines, Source, Sink, Sink>(
+    let ended = run::<OutlineOf<Lines>, Source, Sink, Sink>(
         rt.alloc(),
+        "lines",
         &[],
         &mut input,
         &mut output,
@@ -332,6 +343,6 @@ fn want_of_memory_leaves_no_output(rt: HostRuntime) {
     } else {
         assert_eq!(rt; ended, 3);
         assert_eq!(rt; output.bytes(), b"".as_slice());
-        assert_eq!(rt; errors.bytes(), b"blocks: out of memory\n".as_slice());
+        assert_eq!(rt; errors.bytes(), b"lines: out of memory\n".as_slice());
     }
 }

@@ -1,0 +1,24 @@
+// The program `events`: it reads a Markdown text from its standard input and prints the events of its blocks.
+#![tactic(auto)]
+
+pub mod run;
+
+use md_program::system::arguments;
+use std::process::ExitCode;
+
+/// The program's name, as its lines on the standard error say it.
+const NAME: &str = "events";
+
+fn main(rt: HostRuntime) -> ExitCode {
+    let mut errors = rt.stderr();
+    match arguments(&rt) {
+        Ok(args) => ExitCode::from(run::run(
+            rt.alloc(),
+            &args,
+            &mut rt.stdin(),
+            &mut rt.stdout(),
+            &mut errors,
+        )),
+        Err(failure) => ExitCode::from(failure.report(NAME, &mut errors)),
+    }
+}
