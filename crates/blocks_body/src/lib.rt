@@ -10,28 +10,6 @@ use md_engine::message::Message;
 use md_program::body::{Body, Outlined};
 use std::alloc::Global;
 
-/// No construct at all.
-const NONE: Constructs = Constructs {
-    block_quote: false,
-    code_fenced: false,
-    code_indented: false,
-    definition: false,
-    frontmatter: false,
-    gfm_footnote_definition: false,
-    gfm_table: false,
-    heading_atx: false,
-    heading_setext: false,
-    html_flow: false,
-    list_item: false,
-    math_flow: false,
-    thematic_break: false,
-    mdx_esm: false,
-    mdx_expression_flow: false,
-    mdx_expression_text: false,
-    mdx_jsx_flow: false,
-    mdx_jsx_text: false,
-};
-
 /// The parser of blocks. Of the constructs it has block quotes, ATX headings and thematic breaks, and turns the others off.
 pub struct Blocks;
 
@@ -50,7 +28,7 @@ impl Body for Blocks {
                 block_quote: options.constructs.block_quote,
                 heading_atx: options.constructs.heading_atx,
                 thematic_break: options.constructs.thematic_break,
-                ..NONE
+                ..Constructs::NONE
             },
         }
     }

@@ -11,27 +11,6 @@ use md_seam::outline::Word;
 use std::alloc::{AllocError, Global};
 use std::process::Abort;
 
-const NONE: Constructs = Constructs {
-    block_quote: false,
-    code_fenced: false,
-    code_indented: false,
-    definition: false,
-    frontmatter: false,
-    gfm_footnote_definition: false,
-    gfm_table: false,
-    heading_atx: false,
-    heading_setext: false,
-    html_flow: false,
-    list_item: false,
-    math_flow: false,
-    thematic_break: false,
-    mdx_esm: false,
-    mdx_expression_flow: false,
-    mdx_expression_text: false,
-    mdx_jsx_flow: false,
-    mdx_jsx_text: false,
-};
-
 // Prints an outline: a heading as its markers, a quote as `q`, a paragraph as `p`, a break as `b`, and each line of text between bars.
 fn printed(alloc: Global, text: &str, is_on: bool) -> Result<String, Message>
     requires { IsSmall text.now }
@@ -41,7 +20,7 @@ fn printed(alloc: Global, text: &str, is_on: bool) -> Result<String, Message>
             block_quote: is_on,
             heading_atx: is_on,
             thematic_break: is_on,
-            ..NONE
+            ..Constructs::NONE
         },
     };
     let (events, state) = parse(alloc, text, &options)?;
@@ -247,7 +226,7 @@ fn quoted(alloc: Global) -> Result<String, Message> {
             return Err(Message);
         }
     }
-    let options = ParseOptions { constructs: NONE };
+    let options = ParseOptions::NONE;
     let state = ParseState {
         options: &options,
         bytes: QUOTES.as_bytes(),

@@ -1,6 +1,6 @@
 // A row, read.
 
-use crate::constructs::{ALL, GFM, NONE, both, named};
+use crate::constructs::{both, named};
 use md_engine::configuration::Constructs;
 use std::alloc::{AllocError, Global};
 
@@ -42,7 +42,7 @@ impl<'a> Case<'a> {
         let constructs = constructs_of(set).ok_or(CaseError::Form)?;
         let needed = match about {
             "" => constructs,
-            "nothing" => NONE,
+            "nothing" => Constructs::NONE,
             names => named(names).ok_or(CaseError::Form)?,
         };
         let (text, outline) = rest.split_once('\n').unwrap_or((rest, ""));
@@ -65,8 +65,8 @@ impl<'a> Case<'a> {
 fn constructs_of(set: &str) -> Option<Constructs> {
     match set {
         "commonmark" => Some(Constructs::COMMONMARK),
-        "gfm" => Some(GFM),
-        "all" => Some(ALL),
+        "gfm" => Some(Constructs::GFM),
+        "all" => Some(Constructs::ALL),
         _ => named(set.strip_prefix("exactly")?),
     }
 }

@@ -2,43 +2,7 @@
 
 use md_engine::configuration::Constructs;
 
-/// No construct.
-pub const NONE: Constructs = Constructs {
-    block_quote: false,
-    code_fenced: false,
-    code_indented: false,
-    definition: false,
-    frontmatter: false,
-    gfm_footnote_definition: false,
-    gfm_table: false,
-    heading_atx: false,
-    heading_setext: false,
-    html_flow: false,
-    list_item: false,
-    math_flow: false,
-    thematic_break: false,
-    mdx_esm: false,
-    mdx_expression_flow: false,
-    mdx_expression_text: false,
-    mdx_jsx_flow: false,
-    mdx_jsx_text: false,
-};
-
-/// CommonMark with the tables and footnotes of GitHub.
-pub const GFM: Constructs = Constructs {
-    gfm_footnote_definition: true,
-    gfm_table: true,
-    ..Constructs::COMMONMARK
-};
-
-/// Every construct but those of MDX.
-pub const ALL: Constructs = Constructs {
-    frontmatter: true,
-    math_flow: true,
-    ..GFM
-};
-
-/// The names of the constructs of `ALL`.
+/// The names of the constructs of `Constructs::ALL`.
 pub const NAMES: [&str; 13] = [
     "block_quote",
     "code_fenced",
@@ -78,7 +42,7 @@ pub fn switch(constructs: &mut Constructs, name: &str, on: bool) -> bool {
 
 /// The constructs whose names stand in a text, parted by spaces.
 pub fn named(names: &str) -> Option<Constructs> {
-    let mut constructs = NONE;
+    let mut constructs = Constructs::NONE;
     for name in names.split(' ') {
         if !name.is_empty() && !switch(&mut constructs, name, true) {
             return None;
@@ -103,6 +67,6 @@ pub fn both(a: &Constructs, b: &Constructs) -> Constructs {
         list_item: a.list_item && b.list_item,
         math_flow: a.math_flow && b.math_flow,
         thematic_break: a.thematic_break && b.thematic_break,
-        ..NONE
+        ..Constructs::NONE
     }
 }

@@ -4,7 +4,7 @@ use crate::report::Report;
 use crate::rows::{built_of, printed};
 use crate::texts::numbered;
 use blocks_cases::case::CaseError;
-use blocks_cases::constructs::ALL;
+use md_engine::configuration::Constructs;
 use md_program::body::Body;
 use std::alloc::Global;
 
@@ -17,7 +17,7 @@ pub fn try_agree<A: Body, B: Body>(
     most: usize,
     report: &mut Report,
 ) -> Result<(), CaseError> {
-    let constructs = built_of::<A>(&ALL);
+    let constructs = built_of::<A>(&Constructs::ALL);
     let mut count: usize = 1;
     for length in 0..=most {
         for number in 0..count {

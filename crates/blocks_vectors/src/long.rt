@@ -4,7 +4,7 @@ use crate::report::Report;
 use crate::rows::printed;
 use crate::texts::repeated;
 use blocks_cases::case::CaseError;
-use blocks_cases::constructs::ALL;
+use md_engine::configuration::Constructs;
 use md_program::body::Body;
 use std::alloc::Global;
 
@@ -62,7 +62,7 @@ pub fn try_labels<B: Body>(alloc: Global, report: &mut Report) -> Result<(), Cas
         let mut text = repeated(alloc, "a", long.times)?;
         text.insert_str(0, long.open)?;
         text.push_str(long.close)?;
-        let got = printed::<B>(alloc, text.as_str(), &ALL)?;
+        let got = printed::<B>(alloc, text.as_str(), &Constructs::ALL)?;
         let front = if got.as_str().starts_with(long.begin) {
             long.begin
         } else {
@@ -106,7 +106,7 @@ fn try_depth<B: Body>(
     ] {
         wanted.push_str(part)?;
     }
-    let got = printed::<B>(alloc, text.as_str(), &ALL)?;
+    let got = printed::<B>(alloc, text.as_str(), &Constructs::ALL)?;
     report.add("deep nesting", text.as_str(), wanted.as_str(), got.as_str())?;
     Ok(())
 }

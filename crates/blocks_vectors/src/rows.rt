@@ -3,7 +3,6 @@ ghost use Rattle.md_program.specs.Sets.{IsWithoutMdx};
 
 use crate::report::Report;
 use blocks_cases::case::{Case, CaseError};
-use blocks_cases::constructs::ALL;
 use md_engine::configuration::{Constructs, ParseOptions};
 use md_program::body::{Body, MOST};
 use md_program::print::print;
@@ -48,7 +47,7 @@ pub fn built_of<B: Body>(constructs: &Constructs) -> Constructs {
 
 /// Tries a body on a table of rows, of which it takes those whose constructs it has.
 pub fn try_rows<B: Body>(alloc: Global, rows: &str, report: &mut Report) -> Result<(), CaseError> {
-    let built = built_of::<B>(&ALL);
+    let built = built_of::<B>(&Constructs::ALL);
     for row in rows.split("\n\n") {
         let case = Case::read(alloc, row)?;
         if case.holds_with(&built) {

@@ -5,7 +5,7 @@ use crate::report::Report;
 use crate::rows::built_of;
 use crate::texts::{numbered, random};
 use blocks_cases::case::{Case, CaseError};
-use blocks_cases::constructs::{ALL, NAMES, switch};
+use blocks_cases::constructs::{NAMES, switch};
 use md_engine::configuration::Constructs;
 use md_program::body::Body;
 use rand_core::utils::NextWord;
@@ -34,7 +34,7 @@ pub fn try_short<B: Body>(
     length: usize,
     report: &mut Report,
 ) -> Result<(), CaseError> {
-    let constructs = built_of::<B>(&ALL);
+    let constructs = built_of::<B>(&Constructs::ALL);
     let mut count: usize = 1;
     for _ in 0..length {
         count = count.wrapping_mul(LETTERS.len());
@@ -52,7 +52,7 @@ pub fn try_begins<B: Body>(
     rows: &str,
     report: &mut Report,
 ) -> Result<(), CaseError> {
-    let constructs = built_of::<B>(&ALL);
+    let constructs = built_of::<B>(&Constructs::ALL);
     for row in rows.split("\n\n") {
         let case = Case::read(alloc, row)?;
         let mut begin = String::new(alloc);
@@ -82,7 +82,7 @@ pub fn try_random<B: Body>(
 
 /// All constructs, of which about one in eight is off.
 fn some_of(source: &mut Pcg32) -> Constructs {
-    let mut constructs = ALL;
+    let mut constructs = Constructs::ALL;
     for name in NAMES {
         if source.next_word() % 8 == 0 {
             let _ = switch(&mut constructs, name, false);

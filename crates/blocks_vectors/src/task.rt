@@ -12,7 +12,7 @@ use crate::search::{try_begins, try_random, try_short};
 use crate::without::try_without;
 use crate::wraps::try_wraps;
 use blocks_cases::case::CaseError;
-use blocks_cases::constructs::ALL;
+use md_engine::configuration::Constructs;
 use md_program::body::Body;
 use std::alloc::Global;
 
@@ -61,7 +61,7 @@ fn try_all<B: Body>(alloc: Global, report: &mut Report) -> Result<(), CaseError>
         try_begins::<B>(alloc, rows, report)?;
     }
     try_wraps(alloc, blocks_cases::wraps::rows(), report)?;
-    let built = built_of::<B>(&ALL);
+    let built = built_of::<B>(&Constructs::ALL);
     if built.definition && built.gfm_footnote_definition {
         try_labels::<B>(alloc, report)?;
     }

@@ -3,7 +3,7 @@
 use crate::report::Report;
 use crate::rows::options_of;
 use blocks_cases::case::{Case, CaseError};
-use blocks_cases::constructs::{ALL, NAMES, switch};
+use blocks_cases::constructs::{NAMES, switch};
 use md_engine::configuration::Constructs;
 use md_program::body::{Body, MOST};
 use md_seam::outline::Word;
@@ -54,7 +54,7 @@ pub fn try_without<B: Body>(
     for row in rows.split("\n\n") {
         let case = Case::read(alloc, row)?;
         for name in NAMES {
-            let mut constructs = ALL;
+            let mut constructs = Constructs::ALL;
             let _ = switch(&mut constructs, name, false);
             let there = occurs::<B>(alloc, case.text.as_str(), &constructs, name)?;
             report.add(

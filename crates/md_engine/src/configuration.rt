@@ -44,6 +44,28 @@ pub struct Constructs {
 }
 
 impl Constructs {
+    /// No construct.
+    pub const NONE: Constructs = Constructs {
+        block_quote: false,
+        code_fenced: false,
+        code_indented: false,
+        definition: false,
+        frontmatter: false,
+        gfm_footnote_definition: false,
+        gfm_table: false,
+        heading_atx: false,
+        heading_setext: false,
+        html_flow: false,
+        list_item: false,
+        math_flow: false,
+        thematic_break: false,
+        mdx_esm: false,
+        mdx_expression_flow: false,
+        mdx_expression_text: false,
+        mdx_jsx_flow: false,
+        mdx_jsx_text: false,
+    };
+
     /// The constructs of CommonMark.
     pub const COMMONMARK: Constructs = Constructs {
         block_quote: true,
@@ -65,6 +87,20 @@ impl Constructs {
         mdx_jsx_flow: false,
         mdx_jsx_text: false,
     };
+
+    /// CommonMark with the footnote definitions and tables of GitHub.
+    pub const GFM: Constructs = Constructs {
+        gfm_footnote_definition: true,
+        gfm_table: true,
+        ..Constructs::COMMONMARK
+    };
+
+    /// Every construct but those of MDX: those of `GFM`, frontmatter and math.
+    pub const ALL: Constructs = Constructs {
+        frontmatter: true,
+        math_flow: true,
+        ..Constructs::GFM
+    };
 }
 
 /// What a parse is asked for.
@@ -74,8 +110,23 @@ pub struct ParseOptions {
 }
 
 impl ParseOptions {
+    /// No construct.
+    pub const NONE: ParseOptions = ParseOptions {
+        constructs: Constructs::NONE,
+    };
+
     /// CommonMark, without any extension.
     pub const COMMONMARK: ParseOptions = ParseOptions {
         constructs: Constructs::COMMONMARK,
+    };
+
+    /// CommonMark with footnote definitions and tables.
+    pub const GFM: ParseOptions = ParseOptions {
+        constructs: Constructs::GFM,
+    };
+
+    /// Every construct but those of MDX.
+    pub const ALL: ParseOptions = ParseOptions {
+        constructs: Constructs::ALL,
     };
 }

@@ -2,7 +2,7 @@
 ghost use Rattle.std.specs.Prelude.{◌≡◌, map, string_bytes};
 ghost use Rattle.md_program.specs.Sets.{IsWithoutMdx, options_of, set_asked_for, set_named};
 
-use md_engine::configuration::{Constructs, ParseOptions};
+use md_engine::configuration::ParseOptions;
 
 /// A set of constructs.
 #[derive(Clone, Copy, Debug, PartialEq, Eq)]
@@ -42,14 +42,9 @@ pub fn options(set: Set) -> ParseOptions
     ensures value { result ≡ options_of set }
     ensures without_mdx { IsWithoutMdx result }
 {
-    let mut constructs = Constructs::COMMONMARK;
-    if set != Set::CommonMark {
-        constructs.gfm_footnote_definition = true;
-        constructs.gfm_table = true;
+    match set {
+        Set::CommonMark => ParseOptions::COMMONMARK,
+        Set::Gfm => ParseOptions::GFM,
+        Set::All => ParseOptions::ALL,
     }
-    if set == Set::All {
-        constructs.frontmatter = true;
-        constructs.math_flow = true;
-    }
-    ParseOptions { constructs }
 }

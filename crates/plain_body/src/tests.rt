@@ -1,22 +1,12 @@
 // Worked texts and their outlines, as the program `blocks` prints them.
 
-use md_engine::configuration::{Constructs, ParseOptions};
+use md_engine::configuration::ParseOptions;
 use md_engine::message::Message;
 use md_plain::meaning::tree;
 use md_plain::outline_lines::outline;
 use md_seam::outline::{OutlineLine, Word};
 use plain_grammars::memory;
 use std::alloc::Global;
-
-const EXTENDED: ParseOptions = ParseOptions {
-    constructs: Constructs {
-        frontmatter: true,
-        gfm_footnote_definition: true,
-        gfm_table: true,
-        math_flow: true,
-        ..Constructs::COMMONMARK
-    },
-};
 
 fn push_text(out: &mut Vec<u8>, text: &str) -> Result<(), Message> {
     for byte in text.as_bytes() {
@@ -195,7 +185,7 @@ fn extended_rows(rt: HostRuntime) {
         ),
     ];
     for (text, outline) in &rows {
-        let printed = printed(rt.alloc(), text, &EXTENDED);
+        let printed = printed(rt.alloc(), text, &ParseOptions::ALL);
         assert!(rt;
             matches!(printed, Ok(ref bytes) if bytes.as_slice() == outline.as_bytes()),
             "{}",

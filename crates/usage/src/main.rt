@@ -14,23 +14,9 @@ use std::process::ExitCode;
 const BUILT: ParseOptions = ParseOptions {
     constructs: Constructs {
         block_quote: true,
-        code_fenced: false,
-        code_indented: false,
-        definition: false,
-        frontmatter: false,
-        gfm_footnote_definition: false,
-        gfm_table: false,
         heading_atx: true,
-        heading_setext: false,
-        html_flow: false,
-        list_item: false,
-        math_flow: false,
         thematic_break: true,
-        mdx_esm: false,
-        mdx_expression_flow: false,
-        mdx_expression_text: false,
-        mdx_jsx_flow: false,
-        mdx_jsx_text: false,
+        ..Constructs::NONE
     },
 };
 
