@@ -6,7 +6,7 @@ use Rattle.std.proofs.lemmas.Bool.{and_parts, and_from, eqb-true}
 use Rattle.std.proofs.lemmas.Bool.Decides.{nat_tests}
 use Rattle.std.proofs.lemmas.List.{get_or-drop, get_or_past, get_or-take, take-append-drop}
 use Rattle.std.proofs.lemmas.Option.{get_or_from_slice_get}
-use Rattle.std.proofs.lemmas.List.Sums.{take_while-cons, AllPass-from_list_all}
+use Rattle.std.proofs.lemmas.List.Sums.{AllPass-from_list_all}
 use Rattle.std.proofs.lemmas.List.Elements.{All-get_or}
 use Rattle.md_engine.specs.declared.configuration.ParseOptions.{ParseOptions}
 use Rattle.md_engine.specs.declared.event.Event.{Event}
@@ -21,25 +21,27 @@ use Rattle.md_leaves.proofs.TitleLemmas.{behind-marks, front-marks, is_mark}
 use Rattle.md_leaves.proofs.TitleRuns.{pass-first, pass-rest}
 use Rattle.md_seam.specs.Inline.{line_end, pair_unless_empty, plain_chunk}
 use Rattle.md_seam.specs.Leaves.{is_rule, is_rule_marker}
-use Rattle.md_seam.specs.Lines.{is_ending, without_ending}
+use Rattle.md_seam.specs.Lines.{without_ending}
 use Rattle.md_seam.specs.Nested.{Forward, around, enter, enter_link, exit, last_point, pair}
 use Rattle.md_seam.specs.Places.{at_or_before, past_byte, past_text, same_place}
 use Rattle.md_seam.specs.Rest.{is_blank, is_white, trim_start}
 use Rattle.md_seam.specs.State.{Container, InQuote}
 use Rattle.md_seam.proofs.InlineLemmas.{past-index}
 use Rattle.md_seam.proofs.NestedLemmas.{at_or_before-trans, forward-last}
-use Rattle.md_seam.proofs.PlacesLemmas.{all-append}
+use Rattle.md_seam.proofs.PlacesLemmas.{all-append, at-next}
 use Rattle.md_seam.proofs.TextsLemmas.{Both, Ending, LineFeed, NoEnding, Return, ending_bytes}
 use Rattle.md_outline.specs.Between.{is_between}
 use Rattle.markdown_blocks.specs.Change.{container_name, ends_of}
 use Rattle.markdown_blocks.specs.Fronted.{contained, rest_from, rest_line}
 use Rattle.markdown_blocks.specs.Rows.{BlankRow, BreakRow, Group, HeadingRow, Lines, Row, RowKind, Single, TextRow, behind_row, ending_events, groups, groups_events, is_text, last_row, line_kind, read_lines, read_text, read_title, row_title, single_events_by, tail_events}
-use Rattle.md_seam.proofs.FeedLines.{at-next, drop-past, past-next, slice-front}
+use Rattle.md_seam.proofs.FeedLines.{drop-past, past-next, slice-front}
 use Rattle.markdown_blocks.proofs.EachRow.{EachGroup, EachRow, groups-each, last-each}
 use Rattle.markdown_blocks.proofs.FrontFacts.{Begins, Behind, Fronts, Goes, IsFurther, IsOpening, IsPrefix}
+use Rattle.markdown_blocks.proofs.FrontPlaces.{order-grows}
+use Rattle.markdown_blocks.proofs.GroupLemmas.{line_end-alone, line_end-ended, without-none}
 use Rattle.markdown_blocks.proofs.JoinedLemmas.{behind-is, behind-none}
 use Rattle.markdown_blocks.proofs.LineKinds.{no_ending-parts}
-use Rattle.markdown_blocks.proofs.RowFacts.{AreRows, IsEnding, IsInside, IsLine, IsRow, behind_line, line-text}
+use Rattle.markdown_blocks.proofs.RowFacts.{AreRows, IsEnding, IsInside, IsLine, IsRow, behind_line}
 use Rattle.markdown_blocks.proofs.TitleNests.{back_bytes, blank-no_heading, break-no_heading, line-end-is, text-end-is, text_begin, text_bytes, text_end}
 
 -- Bytes of ASCII.
@@ -179,15 +181,12 @@ between-unless bytes name p q h k = go (same_place p q)
     go true = refl
     go false = between-pair bytes name p q h k
 
-order-index : (p q : Point) → IsTrue (at_or_before p q) → p.index ≤ q.index
-order-index p q h = grind (arith, nat_tests)
-
 -- events that go forward lie between two places
 forward-between : (bytes : List ℕ) (p q : Point) (es : List Event) → Forward p es → IsTrue (at_or_before (last_point p es) q) → ((i : ℕ) → p.index ≤ i → i ≤ q.index → is_between bytes i ≡ true) → AreBetween bytes es
 forward-between bytes p q [] f h all = refl
 forward-between bytes p q (e ∷ es) f h all =
-    let from : p.index ≤ e.point.index = order-index p e.point f.0 in
-    let to : e.point.index ≤ q.index = order-index e.point q (at_or_before-trans e.point (last_point e.point es) q (forward-last e.point es f.1) h) in
+    let from : p.index ≤ e.point.index = order-grows p e.point f.0 in
+    let to : e.point.index ≤ q.index = order-grows e.point q (at_or_before-trans e.point (last_point e.point es) q (forward-last e.point es f.1) h) in
     between-more bytes e es (all e.point.index from to) (forward-between bytes e.point q es f.1 h (λ i g k. all i (omega arith) k))
 
 -- Lines.
@@ -222,33 +221,6 @@ inside-between options bytes line row is end other = go row.kind refl (subst (λ
     go HeadingRow e h = absurd (other e)
     go BreakRow e h = low h
     go TextRow e h = subst (AreBetween bytes) (sym (is.no_inside e)) refl
-
--- a line ends where its ending begins
-without-none : (line : List ℕ) → NoEnding line → without_ending line ≡ line
-without-none [] h = refl
-without-none (b ∷ line) h =
-    take_while-cons (λ (b : ℕ). not (is_ending b)) b line
-    ∙ ap (λ (x : Bool). cond (not x) (b ∷ without_ending line) []) h.0
-    ∙ ap (λ (l : List ℕ). b ∷ l) (without-none line h.1)
-
-without-one : (line : List ℕ) (ending : Ending) → NoEnding line → without_ending (line ++ ending_bytes ending) ≡ line
-without-one [] LineFeed h = refl
-without-one [] Return h = refl
-without-one [] Both h = refl
-without-one (b ∷ line) ending h =
-    take_while-cons (λ (b : ℕ). not (is_ending b)) b (line ++ ending_bytes ending)
-    ∙ ap (λ (x : Bool). cond (not x) (b ∷ without_ending (line ++ ending_bytes ending)) []) h.0
-    ∙ ap (λ (l : List ℕ). b ∷ l) (without-one line ending h.1)
-
--- the plain layer finds the end of a line, without its ending and with it
-pub line_end-alone : (options : ParseOptions) (bytes line : List ℕ) (row : Row) → IsRow options bytes line row → line_end bytes (record { first = row.first; after = row.end }) ≡ row.end
-line_end-alone options bytes line row is = ap (λ (l : List ℕ). past_text (without_ending l) row.first) is.text ∙ ap (λ (l : List ℕ). past_text l row.first) (without-none line is.no_ending) ∙ sym is.end
-
-pub line_end-ended : (options : ParseOptions) (bytes line : List ℕ) (row : Row) (q : Point) → IsRow options bytes line row → IsEnding bytes row.end q → line_end bytes (record { first = row.first; after = q }) ≡ row.end
-line_end-ended options bytes line row q is ending =
-    ap (λ (l : List ℕ). past_text (without_ending l) row.first) (line-text options bytes line row q is ending)
-    ∙ ap (λ (l : List ℕ). past_text l row.first) (without-one line ending.ending is.no_ending)
-    ∙ sym is.end
 
 chunk-between : (bytes : List ℕ) (p e q : Point) → line_end bytes (record { first = p; after = q }) ≡ e → is_between bytes p.index ≡ true → is_between bytes e.index ≡ true → is_between bytes q.index ≡ true →
     AreBetween bytes (plain_chunk bytes (record { first = p; after = q }))
@@ -315,7 +287,7 @@ prefix-between bytes p q es from is =
     let marker : is_between bytes is.marker.index ≡ true = between-before bytes is.marker.index low in
     let back : is.behind.index - 1 ≡ is.marker.index = omega (arith, is.past) in
     let behind : is_between bytes is.behind.index ≡ true = between-behind bytes is.behind.index (subst (λ (i : ℕ). is_low (slice_index bytes i) ≡ true) (sym back) low) in
-    let end : is_between bytes q.index ≡ true = white-between bytes is.behind.index q.index is.white_behind (order-index is.behind q is.column) behind in
+    let end : is_between bytes q.index ≡ true = white-between bytes is.behind.index q.index is.white_behind (order-grows is.behind q is.column) behind in
     let one : List Event = pair_unless_empty n.SpaceOrTab p is.marker in
     let two : List Event = enter n.BlockQuotePrefix is.marker ∷ enter n.BlockQuoteMarker is.marker ∷ exit n.BlockQuoteMarker is.behind ∷ [] in
     let three : List Event = pair_unless_empty n.SpaceOrTab is.behind q in

@@ -69,6 +69,16 @@ pub none-nil : (cs : List Container) → is_none cs ≡ true → cs ≡ []
 none-nil [] e = refl
 none-nil (c ∷ cs) e = cc
 
+-- what opens does not hang on what went on
+pub change-opens : (lazy : Bool) (went others opens : List Container) → (change_by lazy went others opens).opens ≡ opens
+change-opens true went others opens = refl
+change-opens false went others opens = refl
+
+-- a line on which a container opens goes on no paragraph
+pub lazy-some : (going : Bool) (c : Container) (cs : List Container) (kind : RowKind) → is_lazy going (c ∷ cs) kind ≡ false
+lazy-some true c cs kind = refl
+lazy-some false c cs kind = refl
+
 -- on a line that goes on the open paragraph nothing opens
 pub lazy-opens : (going : Bool) (opens : List Container) (kind : RowKind) → is_lazy going opens kind ≡ true → opens ≡ []
 lazy-opens going [] kind e = refl

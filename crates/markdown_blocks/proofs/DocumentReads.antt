@@ -37,7 +37,8 @@ use Rattle.markdown_blocks.specs.DocumentRule.{document_at, document_behaves}
 use Rattle.markdown_blocks.specs.FlowReads.{text_cells, text_setting}
 use Rattle.markdown_blocks.specs.FlowRule.{tried}
 use Rattle.markdown_blocks.proofs.DocumentMeans.{document_means, document_stands}
-use Rattle.md_seam.proofs.FeedLines.{at-next, feed-next, feed-none, line-feed, past-next}
+use Rattle.md_seam.proofs.FeedLines.{feed-next, feed-none, line-feed, past-next}
+use Rattle.md_seam.proofs.PlacesLemmas.{at-next}
 use Rattle.md_seam.proofs.PreambleLemmas.{mark-bytes, mark-length}
 use Rattle.markdown_blocks.proofs.FlowReads.{resolved-none}
 

@@ -18,7 +18,8 @@ use Rattle.md_seam.specs.Rest.{is_blank}
 use Rattle.md_seam.specs.Spaces.{small_indent}
 use Rattle.markdown_blocks.specs.FlowRule.{Rule, blank_ended, content_of, continues_at, ended, ended_to, existing_by, existing_from, flow_at, flow_lines, leaf_of, line_ended, line_then, new_from, new_of, quote_opened, tried}
 use Rattle.markdown_blocks.specs.LineFlags.{begun_line, blanked, next_container, stays, went_on}
-use Rattle.markdown_blocks.proofs.FlowLemmas.{continues-shortens, from_ending-shrinks, white_rest-shrinks}
+use Rattle.md_seam.proofs.RestCells.{white-length}
+use Rattle.markdown_blocks.proofs.FlowLemmas.{continues-shortens, from_ending-shrinks}
 
 -- all is taken
 abbrev pub Finishes : Outcome → Type 0
@@ -27,7 +28,7 @@ Finishes (Refuses s g) = ⊥
 Finishes Fails = ⊥
 
 -- at the ending of a line, or at the end
-abbrev AtEnding : List Cell → Type 0
+abbrev pub AtEnding : List Cell → Type 0
 AtEnding [] = Unit {0}
 AtEnding (c ∷ cs) = nat_eq c.byte 10 ≡ true
 
@@ -37,7 +38,7 @@ Took n (Accepts h rest) = AtEnding rest × (length rest ≤ n)
 Took n (Refuses s g) = Unit {0}
 Took n Fails = ⊥
 
-from_ending-at : (cells : List Cell) → AtEnding (from_ending cells)
+pub from_ending-at : (cells : List Cell) → AtEnding (from_ending cells)
 from_ending-at [] = tt
 from_ending-at (c ∷ cs) = go (nat_eq c.byte 10) refl (from_ending-at cs)
   where
@@ -61,7 +62,7 @@ before_marker-took n (c ∷ cs) h le = cond-took n (is_rule (line_bytes (c ∷ c
 break_at-took : (options : ParseOptions) (cells : List Cell) (h : Here) → Took (length cells) (break_at options cells h)
 unfolding break_at
 break_at-took options cells h = cond-took _ (not options.constructs.thematic_break) _ _ tt
-    (cond-took _ (begins_white cells) _ _ (before_marker-took _ _ _ (white_rest-shrinks (small_indent options) cells)) (before_marker-took _ cells _ (omega arith)))
+    (cond-took _ (begins_white cells) _ _ (before_marker-took _ _ _ (white-length (small_indent options) cells)) (before_marker-took _ cells _ (omega arith)))
 
 before_opening-took : (n : ℕ) (cells : List Cell) (h : Here) → length cells ≤ n → Took n (before_opening cells h)
 unfolding before_opening in_heading
@@ -70,7 +71,7 @@ before_opening-took n cells h le = cond-took n (is_heading (line_bytes cells)) _
 heading_at-took : (options : ParseOptions) (cells : List Cell) (h : Here) → Took (length cells) (heading_at options cells h)
 unfolding heading_at
 heading_at-took options cells h = cond-took _ (not options.constructs.heading_atx) _ _ tt
-    (cond-took _ (begins_white cells) _ _ (before_opening-took _ _ _ (white_rest-shrinks (small_indent options) cells)) (before_opening-took _ cells _ (omega arith)))
+    (cond-took _ (begins_white cells) _ _ (before_opening-took _ _ _ (white-length (small_indent options) cells)) (before_opening-took _ cells _ (omega arith)))
 
 -- a rule that takes shorter texts to their end
 abbrev Ends : ℕ → Rule → Type 0

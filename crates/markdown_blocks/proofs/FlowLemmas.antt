@@ -14,10 +14,11 @@ use Rattle.md_content.specs.ChunkRule.{chunk_at, inside_chunk}
 use Rattle.md_leaves.specs.BlankRule.{blank_at}
 use Rattle.md_leaves.specs.BreakRule.{before_marker, break_at}
 use Rattle.md_leaves.specs.HeadingRule.{before_opening, heading_at, in_heading, is_heading}
-use Rattle.md_seam.specs.Ahead.{begins_white, from_ending, line_bytes, white_rest}
+use Rattle.md_seam.specs.Ahead.{begins_white, from_ending, line_bytes}
 use Rattle.md_seam.specs.Leaves.{is_rule}
-use Rattle.md_seam.specs.Rest.{is_blank, is_white}
+use Rattle.md_seam.specs.Rest.{is_blank}
 use Rattle.md_seam.specs.Spaces.{small_indent}
+use Rattle.md_seam.proofs.RestCells.{white-length}
 use Rattle.markdown_blocks.specs.FlowRule.{Rule, behind_containers, blank_ended, continues_at, ended, ended_to, existing_by, existing_from, flow_at, flow_lines, leaf_of, line_ended, line_then, new_from, new_of, quote_opened, tried}
 use Rattle.markdown_blocks.specs.LineFlags.{begun_line, blanked, next_container, stays, went_on}
 
@@ -26,15 +27,6 @@ abbrev Shrinks : ℕ → Outcome → Type 0
 Shrinks n (Accepts h rest) = length rest ≤ n
 Shrinks n (Refuses s g) = Unit {0}
 Shrinks n Fails = Unit {0}
-
-pub white_rest-shrinks : (room : ℕ) (cells : List Cell) → length (white_rest room cells) ≤ length cells
-white_rest-shrinks room [] = omega arith
-white_rest-shrinks zero (c ∷ cs) = omega arith
-white_rest-shrinks (suc room) (c ∷ cs) = go (is_white c.byte) (white_rest-shrinks room cs)
-  where
-    go : (x : Bool) → length (white_rest room cs) ≤ length cs → length (cond x (white_rest room cs) (c ∷ cs)) ≤ length (c ∷ cs)
-    go true h = omega arith
-    go false h = omega arith
 
 pub from_ending-shrinks : (cells : List Cell) → length (from_ending cells) ≤ length cells
 from_ending-shrinks [] = omega arith
@@ -60,7 +52,7 @@ before_marker-shrinks n (c ∷ cs) h le = cond-shrinks n (is_rule (line_bytes (c
 break_at-shrinks : (options : ParseOptions) (cells : List Cell) (h : Here) → Shrinks (length cells) (break_at options cells h)
 unfolding break_at
 break_at-shrinks options cells h = cond-shrinks _ (not options.constructs.thematic_break) _ _ tt
-    (cond-shrinks _ (begins_white cells) _ _ (before_marker-shrinks _ _ _ (white_rest-shrinks (small_indent options) cells)) (before_marker-shrinks _ cells _ (omega arith)))
+    (cond-shrinks _ (begins_white cells) _ _ (before_marker-shrinks _ _ _ (white-length (small_indent options) cells)) (before_marker-shrinks _ cells _ (omega arith)))
 
 before_opening-shrinks : (n : ℕ) (cells : List Cell) (h : Here) → length cells ≤ n → Shrinks n (before_opening cells h)
 unfolding before_opening in_heading
@@ -69,7 +61,7 @@ before_opening-shrinks n cells h le = cond-shrinks n (is_heading (line_bytes cel
 heading_at-shrinks : (options : ParseOptions) (cells : List Cell) (h : Here) → Shrinks (length cells) (heading_at options cells h)
 unfolding heading_at
 heading_at-shrinks options cells h = cond-shrinks _ (not options.constructs.heading_atx) _ _ tt
-    (cond-shrinks _ (begins_white cells) _ _ (before_opening-shrinks _ _ _ (white_rest-shrinks (small_indent options) cells)) (before_opening-shrinks _ cells _ (omega arith)))
+    (cond-shrinks _ (begins_white cells) _ _ (before_opening-shrinks _ _ _ (white-length (small_indent options) cells)) (before_opening-shrinks _ cells _ (omega arith)))
 
 chunk_at-shrinks : (cells : List Cell) (h : Here) → Shrinks (length cells) (chunk_at cells h)
 unfolding chunk_at inside_chunk

@@ -34,6 +34,7 @@ use Rattle.markdown_blocks.specs.FlowRule.{Rule, behind_containers, blank_ended,
 use Rattle.markdown_blocks.specs.LineFlags.{begun_line, ending_name, next_line, stays, went_on}
 use Rattle.markdown_blocks.specs.Rows.{BlankRow, BreakRow, Front, Held, HeadingRow, Passed, Row, RowKind, TextRow, after_ending, break_inside, closes_before, ending_of, goes_at, held_at, held_by, held_of, in_front, inside_of, is_break, is_lazy, is_text, leaf_events, new_front, no_front, opens_at, quote_new, quote_on, row_events, row_kind, row_of, rows_at, rows_events, went_front}
 use Rattle.markdown_blocks.specs.Stands.{AreOpen, Is}
+use Rattle.markdown_blocks.proofs.ContainedLemmas.{lazy-some}
 use Rattle.markdown_blocks.proofs.FlowLemmas.{from_ending-shrinks}
 use Rattle.markdown_blocks.proofs.LeafRows.{blank-refused, blank-took, break-refused, break-took, chunk-took}
 
@@ -462,10 +463,6 @@ record Between (front tail : List Event) (p : Point) (cs : List Container) (goin
 lazy-none : (going : Bool) (k : RowKind) → is_lazy going [] k ≡ (going && is_text k)
 lazy-none true k = refl
 lazy-none false k = refl
-
-lazy-some : (going : Bool) (c : Container) (cs : List Container) (k : RowKind) → is_lazy going (c ∷ cs) k ≡ false
-lazy-some true c cs k = refl
-lazy-some false c cs k = refl
 
 -- those that stay, and those that end, are all that went on or did not
 change-parts : (x : Bool) (went others : List Container) → let c = change_by x went others [] in c.stays ++ c.closes ≡ went ++ others

@@ -5,11 +5,17 @@ use Rattle.std.proofs.lemmas.Bool.Decides.{nat_tests}
 use Rattle.md_engine.specs.declared.event.Event.{Event}
 use Rattle.md_engine.specs.declared.event.Point.{Point}
 use Rattle.md_seam.specs.Places.{at_or_before}
+use Rattle.md_seam.specs.Spelled.{byte_at}
 use Rattle.md_seam.specs.State.{Container, InQuote}
 use Rattle.markdown_blocks.proofs.FrontFacts.{Behind, Begins, Fronts, Goes, IsFurther, IsOpening, IsPrefix}
 
-order-grows : (p q : Point) → IsTrue (at_or_before p q) → p.index ≤ q.index
+-- a later point has no fewer bytes before it
+pub order-grows : (p q : Point) → IsTrue (at_or_before p q) → p.index ≤ q.index
 order-grows p q h = grind (arith, nat_tests)
+
+-- and if it is in no tab, it stands behind the byte of the earlier one
+pub byte-order : (p q : Point) → IsTrue (at_or_before p q) → q.vs ≡ 0 → byte_at p ≤ q.index
+byte-order p q h w = grind (arith, nat_tests)
 
 pub prefix-grows : (bytes : List ℕ) (p q : Point) (es : List Event) → IsPrefix bytes p q es → p.index ≤ q.index
 prefix-grows bytes p q es is =

@@ -21,7 +21,7 @@ use Rattle.markdown_blocks.specs.Change.{change_by, container_name, interrupts, 
 use Rattle.markdown_blocks.specs.Fronted.{Contained, Prefixed, contained, contained_behind, contained_by, contained_of, no_prefix, one_more, prefixes_new, prefixes_on, rest_line}
 use Rattle.markdown_blocks.specs.Parsed.{IsBuilt}
 use Rattle.markdown_blocks.specs.Rows.{Front, Held, Passed, goes_at, held_at, held_behind, held_by, in_front, is_lazy, line_kind, new_front, no_front, opens_at, quote_new, quote_on, row_kind, went_front}
-use Rattle.markdown_blocks.proofs.ContainedLemmas.{quote-alone}
+use Rattle.markdown_blocks.proofs.ContainedLemmas.{change-opens, quote-alone}
 use Rattle.markdown_blocks.proofs.FrontFacts.{Behind, Begins, Fronts, Goes, IsFurther, IsOpening}
 use Rattle.markdown_blocks.proofs.RestRows.{kind-rest}
 
@@ -308,10 +308,6 @@ pub record HasHeld (line : Line) (text past : List ℕ) (p end : Point) (stop ce
   pub front : Fronts text h.change.opens p h.point h.front
   pub shorter : length h.cells ≤ length cells
 
-opens-by : (lazy : Bool) (went others opens : List Container) → (change_by lazy went others opens).opens ≡ opens
-opens-by true went others opens = refl
-opens-by false went others opens = refl
-
 read-behind : (lazy : Bool) (went others opens : List Container) → AreRead went → AreRead others → AreRead opens → AreRead (open_behind (change_by lazy went others opens))
 read-behind true went others opens a b c = read-append (went ++ others) opens (read-append went others a b) c
 read-behind false went others opens a b c = read-append went opens a c
@@ -325,7 +321,7 @@ held-by line text past p end stop cells cs lazy went new on more read a b = reco
   stands = b.front.stands;
   ends = b.front.ends ∙ a.front.ends;
   no_ending = b.front.no_ending;
-  front = subst (λ (opens : List Container). Fronts text opens p new.point (went.events ++ new.events)) (sym (opens-by lazy went.containers (others_of cs went.containers) new.containers)) (a.fronts new.containers new.point new.events b.fronts);
+  front = subst (λ (opens : List Container). Fronts text opens p new.point (went.events ++ new.events)) (sym (change-opens lazy went.containers (others_of cs went.containers) new.containers)) (a.fronts new.containers new.point new.events b.fronts);
   shorter = let le = a.front.shorter in let ge = b.front.shorter in omega arith;
 }
 

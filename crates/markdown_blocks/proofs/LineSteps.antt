@@ -20,7 +20,7 @@ use Rattle.markdown_blocks.specs.Parsed.{IsBuilt}
 use Rattle.markdown_blocks.specs.Rows.{BlankRow, BreakRow, HeadingRow, RowKind, TextRow, is_lazy, is_text, line_kind}
 use Rattle.markdown_blocks.specs.Sections.{heading_block}
 use Rattle.markdown_blocks.specs.Stands.{IsPlain, IsPlainLeaf, containers_of, is_going}
-use Rattle.markdown_blocks.proofs.ContainedLemmas.{contained-size, lazy-opens}
+use Rattle.markdown_blocks.proofs.ContainedLemmas.{change-opens, contained-size, lazy-opens, lazy-some}
 
 code-off : (options : ParseOptions) (against : Against) (r : Rest) → options.constructs.code_indented ≡ false → code_at options against r ≡ None
 unfolding code_at
@@ -254,15 +254,10 @@ rest_line-kind options r = go r.spaces
     go zero = refl
     go (suc n) = ap (λ (l : List ℕ). cond (is_blank r.bytes) BlankRow (cond (options.constructs.heading_atx && is_heading l) HeadingRow (cond (options.constructs.thematic_break && is_rule l) BreakRow TextRow))) (trim-tab r.bytes)
 
--- a line on which a container opens goes on no paragraph
-lazy-none : (going : Bool) (c : Container) (cs : List Container) (kind : RowKind) → is_lazy going (c ∷ cs) kind ≡ false
-lazy-none false c cs kind = refl
-lazy-none true c cs kind = refl
-
 stepped-more : (options : ParseOptions) (p : Path) (went : List Container) (c : Container) (new : Prefixed) → stepped options p went (one_more c new) ≡ behind_path (kept_to options went p) (new_line options (c ∷ new.containers) new.rest)
 stepped-more options p went c new =
     ap (λ (x : Bool). cond x (longer (renewed (went ++ others_of (containers_of p) went) p) (kept new.rest ∷ [])) (behind_path (kept_to options went p) (new_line options (c ∷ new.containers) new.rest)))
-    (lazy-none (is_going p) c new.containers (line_kind options (rest_line new.rest)))
+    (lazy-some (is_going p) c new.containers (line_kind options (rest_line new.rest)))
 
 -- the containers that open in a new one
 opened-new : (options : ParseOptions) (n : ℕ) (r : Rest) → opened options n r ≡ new_line options (prefixes_new options false n r).containers (prefixes_new options false n r).rest End
@@ -401,10 +396,6 @@ goes_lazy options p c = is_lazy (is_going p) c.change.opens (line_kind options (
 -- where it does not: some containers stay, and behind them it opens others, and is a line where nothing is open
 abbrev pub new_path : ParseOptions → Path → Contained → Path
 new_path options p c = behind_path (kept_to options c.change.stays p) (new_line options c.change.opens c.rest)
-
-change-opens : (x : Bool) (went others opens : List Container) → (change_by x went others opens).opens ≡ opens
-change-opens true went others opens = refl
-change-opens false went others opens = refl
 
 -- What a line does to the containers and the paragraph that are open, by its containers.
 pub step-contained : (options : ParseOptions) (p : Path) (r : Rest) → IsBuilt options → IsPlain p →

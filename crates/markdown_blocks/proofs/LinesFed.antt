@@ -34,6 +34,7 @@ use Rattle.markdown_blocks.specs.Rows.{Held, Row, after_ending, behind_row, clos
 use Rattle.markdown_blocks.specs.Stands.{AreOpen}
 use Rattle.markdown_blocks.specs.States.{FlowStep, flow_table_scheme, flow_went}
 use Rattle.markdown_blocks.specs.TextRows.{text_cells, text_rows, text_setting}
+use Rattle.markdown_blocks.proofs.FlowEnds.{AtEnding, from_ending-at}
 use Rattle.markdown_blocks.proofs.FlowLemmas.{from_ending-shrinks}
 use Rattle.markdown_blocks.proofs.FlowMeans.{Takes, ending-taken, flow-steps-by, flow_stands}
 use Rattle.markdown_blocks.proofs.FlowRows.{Begins, Done, held-shorter, leaving, line-done, next-begins, next_here, no-closes, row-adds, rows_below, text-begins}
@@ -97,19 +98,6 @@ line_stop cells h = Accepts h (record { byte = 0; after = h.point; line = record
 abbrev AtStop : (List Cell → Here → Type 0) → Outcome → Type 0
 AtStop P (Accepts h (c ∷ cells)) = P cells h
 AtStop P _ = ⊥
-
--- at the ending of a line, or at the end
-abbrev AtEnding : List Cell → Type 0
-AtEnding [] = Unit {0}
-AtEnding (c ∷ cs) = nat_eq c.byte 10 ≡ true
-
-from_ending-at : (cells : List Cell) → AtEnding (from_ending cells)
-from_ending-at [] = tt
-from_ending-at (c ∷ cs) = go (nat_eq c.byte 10) refl (from_ending-at cs)
-  where
-    go : (x : Bool) → nat_eq c.byte 10 ≡ x → AtEnding (from_ending cs) → AtEnding (cond x (c ∷ cs) (from_ending cs))
-    go true e h = e
-    go false e h = h
 
 -- A line begins at this place, where these cells are left and so many of all lines are before it.
 record LineAt (options : ParseOptions) (from : Point) (all : List Row) (n : ℕ) (left : List Cell) (h : Here) : Type 0 where

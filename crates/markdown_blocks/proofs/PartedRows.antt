@@ -37,6 +37,7 @@ use Rattle.markdown_blocks.proofs.BetweenRows.{between-behind, ending-behind, fu
 use Rattle.markdown_blocks.proofs.ContainedLemmas.{none-nil}
 use Rattle.markdown_blocks.proofs.FrontFacts.{Begins, Behind, Fronts, Goes, IsFurther, IsOpening, IsPrefix}
 use Rattle.markdown_blocks.proofs.FrontLemmas.{ends-roles, fronts-roles}
+use Rattle.markdown_blocks.proofs.FrontPlaces.{byte-order}
 use Rattle.markdown_blocks.proofs.PlainRoles.{chunk-roles}
 use Rattle.markdown_blocks.proofs.RowFacts.{AreRows, IsEnding, IsInside, IsLine, behind_line, slice-split}
 use Rattle.markdown_blocks.proofs.TitleNests.{blank-no_heading, break-no_heading, text_begin, text_end}
@@ -71,9 +72,6 @@ byte-from p = go (p.vs == 0)
     go : (x : Bool) → p.index ≤ cond x p.index (p.index + 1)
     go true = omega arith
     go false = omega arith
-
-byte-order : (p q : Point) → IsTrue (at_or_before p q) → q.vs ≡ 0 → byte_at p ≤ q.index
-byte-order p q h w = grind (arith, nat_tests)
 
 -- a prefix begins at such a point, and so does what stands in front of a line whose rest does
 prefix-clear : (bytes : List ℕ) (p q : Point) (es : List Event) → IsPrefix bytes p q es → clear bytes p ≡ true

@@ -2,7 +2,6 @@
 use Rattle.std.proofs.Common.{◌≡◌, ℕ, ◌+◌, ◌<◌, Bool, true, false, cond, ◌&&◌, ◌||◌, List, [], ◌∷◌, ◌++◌, length, drop, slice_range, refl, ap, ◌∙◌, arith}
 use Rattle.std.specs.Prelude.{◌==◌, not}
 use Rattle.std.proofs.lemmas.Bool.{and_from, or_right}
-use Rattle.std.proofs.lemmas.Bool.Decides.{nat_tests}
 use Rattle.std.proofs.lemmas.List.Folds.{list_all-append}
 use Rattle.md_engine.specs.declared.event.Event.{Event}
 use Rattle.md_engine.specs.declared.event.Kind.TheVariants.{Enter, Exit}
@@ -15,6 +14,7 @@ use Rattle.md_seam.specs.Places.{past_byte, past_text, same_place}
 use Rattle.md_seam.specs.Texts.{split_lines}
 use Rattle.md_seam.proofs.FeedLines.{past_text-whole, slice-front}
 use Rattle.md_seam.proofs.InlineLemmas.{past-index}
+use Rattle.md_seam.proofs.PlacesLemmas.{apart-later}
 use Rattle.markdown_blocks.proofs.PiecesLemmas.{Ends, ends-append, ends-exit, pieces-around, pieces-ended}
 
 -- Bytes between two points.
@@ -54,10 +54,6 @@ span name p q = record { name = name; linked = false; first = p; after = q }
 
 abbrev pub chunk_span : Name → Point → Point → Piece
 chunk_span name p q = record { name = name; linked = true; first = p; after = q }
-
--- later bytes stand elsewhere
-apart-later : (p q : Point) → p.index < q.index → same_place p q ≡ false
-apart-later p q lt = grind (arith, nat_tests)
 
 -- all four hold
 all-four : (a b c d : Bool) → a ≡ true → b ≡ true → c ≡ true → d ≡ true → (a && b && c && d) ≡ true

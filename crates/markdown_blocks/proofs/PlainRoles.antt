@@ -10,7 +10,8 @@ use Rattle.md_seam.specs.Places.{same_place}
 use Rattle.md_seam.specs.Spelled.{IsEnding, IsQuiet, Role, role}
 use Rattle.md_seam.proofs.SpelledLemmas.{Roles, roles-append}
 
-pair-roles : (P : Role → Type 0) (name : Name) (p q : Point) → P (role name) → Roles P (pair_unless_empty name p q)
+-- what a pair is for
+pub pair-roles : (P : Role → Type 0) (name : Name) (p q : Point) → P (role name) → Roles P (pair_unless_empty name p q)
 pair-roles P name p q h = go (same_place p q)
   where
     go : (x : Bool) → Roles P (cond x [] (pair name p q))

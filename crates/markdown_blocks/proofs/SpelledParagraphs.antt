@@ -1,24 +1,21 @@
 -- What the events of a paragraph are read as, where prefixes of containers stand in front of its lines: its lines without them.
 use Rattle.std.proofs.Common.{◌≡◌, ℕ, zero, suc, ◌+◌, ◌-◌, ◌≤◌, Bool, true, false, cond, ◌&&◌, List, [], ◌∷◌, ◌++◌, length, take, drop, slice_range, refl, ap, sym, ◌∙◌, subst, append_assoc, append-nil, arith}
-use Rattle.std.specs.Prelude.{◌==◌, IsTrue, None}
-use Rattle.std.specs.List.{prefix_len}
+use Rattle.std.specs.Prelude.{◌==◌, None}
 use Rattle.std.proofs.lemmas.Bool.{and_from, and_parts}
 use Rattle.std.proofs.lemmas.Bool.Decides.{nat_tests}
 use Rattle.std.proofs.lemmas.List.{take_all}
 use Rattle.md_engine.specs.declared.configuration.ParseOptions.{ParseOptions}
 use Rattle.md_engine.specs.declared.event.Event.{Event}
-use Rattle.md_engine.specs.declared.event.Name.{Name}
 use Rattle.md_engine.specs.declared.event.Name.TheVariants as n
 use Rattle.md_engine.specs.declared.event.Point.{Point}
 use Rattle.md_seam.specs.declared.inline.Chunk.{Chunk}
-use Rattle.md_seam.specs.Inline.{line_end, pair_unless_empty, plain_chunk}
+use Rattle.md_seam.specs.Inline.{pair_unless_empty, plain_chunk}
 use Rattle.md_leaves.specs.HeadingRule.{is_heading}
 use Rattle.md_seam.specs.Leaves.{is_rule}
 use Rattle.md_seam.specs.Lines.{begins_with}
-use Rattle.md_seam.specs.Nested.{around, enter, exit, pair}
-use Rattle.md_seam.specs.Places.{at_or_before, same_place}
+use Rattle.md_seam.specs.Nested.{around, enter, exit}
 use Rattle.md_seam.specs.Rest.{Rest, is_blank, is_white, trim_start}
-use Rattle.md_seam.specs.Spelled.{IsEnding, IsPrefix, IsQuiet, Reading, Role, Text, add_block, after_prefix, before_prefix, begun, byte_at, read, role, text_to}
+use Rattle.md_seam.specs.Spelled.{IsPrefix, IsQuiet, Reading, Role, Text, add_block, after_prefix, before_prefix, begun, byte_at, read, text_to}
 use Rattle.md_seam.specs.State.{Container, InQuote, Kept, kept, texts}
 use Rattle.md_seam.specs.Texts.{trim_each}
 use Rattle.md_seam.specs.Tree.{Paragraph}
@@ -27,26 +24,17 @@ use Rattle.md_seam.proofs.FeedLines.{slice-inside}
 use Rattle.md_seam.proofs.RestCells.{Cut}
 use Rattle.md_seam.proofs.SpelledLemmas.{Between, QuietOrEnding, Roles, roles-append, text-inline, text_after, text_after-append}
 use Rattle.md_seam.proofs.TextsLemmas.{Both, Ending, EndsBefore, IsOfLines, LineFeed, NoEnding, Return, ending_bytes}
+use Rattle.md_outline.proofs.TextCuts.{trim-blank}
 use Rattle.markdown_blocks.specs.Fronted.{cut_tab, rest_line}
 use Rattle.markdown_blocks.specs.Rows.{BlankRow, BreakRow, HeadingRow, Row, TextRow, behind_row, last_row, read_lines}
 use Rattle.markdown_blocks.proofs.LineSteps.{rest_line-kind}
 use Rattle.markdown_blocks.proofs.FrontFacts as front
 use Rattle.markdown_blocks.proofs.FrontFacts.{Behind, Begins, Fronts, Goes}
+use Rattle.markdown_blocks.proofs.FrontPlaces.{byte-order}
+use Rattle.markdown_blocks.proofs.PlainRoles.{chunk-roles, pair-roles}
 use Rattle.markdown_blocks.proofs.RowFacts as f
 
 -- Roles.
-
-pair-roles : (P : Role → Type 0) (name : Name) (p q : Point) → P (role name) → Roles P (pair_unless_empty name p q)
-pair-roles P name p q h = go (same_place p q)
-  where
-    go : (x : Bool) → Roles P (cond x [] (pair name p q))
-    go true = tt
-    go false = (h, (h, tt))
-
-chunk-roles : (P : Role → Type 0) (bytes : List ℕ) (chunk : Chunk) → P IsQuiet → P IsEnding → Roles P (plain_chunk bytes chunk)
-chunk-roles P bytes chunk quiet ending =
-    roles-append P (pair_unless_empty n.Data chunk.first (line_end bytes chunk)) (pair_unless_empty n.LineEnding (line_end bytes chunk) chunk.after)
-    (pair-roles P n.Data chunk.first (line_end bytes chunk) quiet) (pair-roles P n.LineEnding (line_end bytes chunk) chunk.after ending)
 
 -- the prefix of a quote is quiet but for the prefix itself
 pub prefix-roles : (P : Role → Type 0) (bytes : List ℕ) (p q : Point) (es : List Event) → front.IsPrefix bytes p q es → P IsQuiet → P IsPrefix → Roles P es
@@ -126,14 +114,6 @@ blank-append : (xs ys : List ℕ) → is_blank xs ≡ true → is_blank ys ≡ t
 blank-append [] ys h k = k
 blank-append (b ∷ xs) ys h k = let parts = and_parts (is_white b) (is_blank xs) h in and_from (is_white b) (is_blank (xs ++ ys)) parts.0 (blank-append xs ys parts.1 k)
 
--- what stands in front of a marker begins behind the byte of a point
-marker-behind : (p q : Point) → IsTrue (at_or_before p q) → q.vs ≡ 0 → byte_at p ≤ q.index
-marker-behind p q before whole = go (p.vs == 0) refl
-  where
-    go : (x : Bool) → (p.vs == 0) ≡ x → cond x p.index (p.index + 1) ≤ q.index
-    go true e = grind (arith, nat_tests)
-    go false e = grind (arith, nat_tests)
-
 blank-before : (bytes : List ℕ) (p : Point) (end : ℕ) → byte_at p ≤ end → is_blank (slice_range bytes p.index end) ≡ true → is_blank (slice_range bytes (byte_at p) end) ≡ true
 blank-before bytes p end le blank = go (p.vs == 0) le
   where
@@ -145,7 +125,7 @@ blank-before bytes p end le blank = go (p.vs == 0) le
 collects-quote : (bytes : List ℕ) (p q : Point) (es ys : List Event) (end : ℕ) (all : List ℕ) → front.IsPrefix bytes p q es → Collects bytes ys (byte_at q) end all →
     (white : List ℕ) × (is_blank white ≡ true) × Collects bytes (es ++ ys) (byte_at p) end (white ++ all)
 collects-quote bytes p q es ys end all is c =
-    let le = marker-behind p is.marker is.indent is.marker_whole in
+    let le = byte-order p is.marker is.indent is.marker_whole in
     (slice_range bytes (byte_at p) is.marker.index, blank-before bytes p is.marker.index le is.white_before, collects-prefix bytes p q es ys (byte_at p) end all is le c)
 
 -- what stands in front of the content of a container that goes on leaves whitespace alone
@@ -225,15 +205,6 @@ of-white white [] all blank is = is
 of-white white (line ∷ []) all blank is = (white-no_ending white line blank is.0, ap (λ (l : List ℕ). white ++ l) is.1)
 of-white white (line ∷ next ∷ lines) all blank is =
     (white-no_ending white line blank is.0, (is.1.0, is.1.1, is.1.2, ap (λ (l : List ℕ). white ++ l) is.1.3 ∙ sym (append_assoc white (line ++ ending_bytes is.1.0) is.1.1) ∙ ap (λ (l : List ℕ). l ++ is.1.1) (sym (append_assoc white line (ending_bytes is.1.0))), is.1.4))
-
-trim-one : (b : ℕ) (bs : List ℕ) → is_white b ≡ true → trim_start (b ∷ bs) ≡ trim_start bs
-trim-one b bs e =
-    let size : 1 + prefix_len is_white bs ≡ suc (prefix_len is_white bs) = omega arith in
-    ap (λ (x : Bool). drop (cond x (1 + prefix_len is_white bs) 0) (b ∷ bs)) e ∙ ap (λ (k : ℕ). drop k (b ∷ bs)) size
-
-trim-blank : (white line : List ℕ) → is_blank white ≡ true → trim_start (white ++ line) ≡ trim_start line
-trim-blank [] line h = refl
-trim-blank (b ∷ white) line h = let parts = and_parts (is_white b) (is_blank white) h in trim-one b (white ++ line) parts.0 ∙ trim-blank white line parts.1
 
 trim-onto : (white : List ℕ) (own : List (List ℕ)) → is_blank white ≡ true → trim_each (onto_line white own) ≡ trim_each own
 trim-onto white [] blank = refl

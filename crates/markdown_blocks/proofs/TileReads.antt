@@ -1,7 +1,7 @@
 -- The events of a text are its block list, with what the plain layer reads in the place of each chunk.
 use Rattle.std.proofs.Common.{◌≡◌, ◌≢◌, ℕ, suc, ◌+◌, Bool, true, false, cond, ◌&&◌, ◌==◌, List, [], ◌∷◌, ◌++◌, length, take, drop, refl, ap, sym, ◌∙◌, subst, append_assoc, append-nil}
 use Rattle.std.specs.Prelude.{IsTrue, Option, Some, None}
-use Rattle.std.proofs.lemmas.Bool.{and_from, and_parts}
+use Rattle.std.proofs.lemmas.Bool.{and_from}
 use Rattle.md_engine.specs.declared.configuration.ParseOptions.{ParseOptions}
 use Rattle.md_engine.specs.declared.event.Event.{Event}
 use Rattle.md_engine.specs.declared.event.Link.{Link}
@@ -28,6 +28,7 @@ use Rattle.md_seam.specs.Tiles.{EachRead, chunks, filled, filled_from, first_lis
 use Rattle.md_seam.proofs.InlineLemmas.{plain-fills, before-text}
 use Rattle.md_seam.proofs.NestedLemmas.{at_or_before-refl, at_or_before-trans}
 use Rattle.md_seam.proofs.NestsLemmas.{part-none, together-append}
+use Rattle.md_seam.proofs.PartsLemmas.{order-from}
 use Rattle.markdown_blocks.specs.Change.{ends_of}
 use Rattle.markdown_blocks.specs.Document.{body_point, mark_end, mark_events}
 use Rattle.markdown_blocks.specs.FlowReads.{text_cells, text_rows}
@@ -232,16 +233,6 @@ fill-single options bytes row is h TextRow e = absurd (is.other e)
 -- a line ends no earlier than it begins
 line-order : (options : ParseOptions) (bytes line : List ℕ) (row : Row) → IsRow options bytes line row → IsTrue (at_or_before row.first row.end)
 line-order options bytes line row is = subst (λ (q : Point). IsTrue (at_or_before row.first q)) (sym is.end) (before-text line row.first)
-
--- chunks behind a point stand behind an earlier one
-order-from : (p q : Point) (list : List Chunk) → IsTrue (at_or_before p q) → in_order q list ≡ true → in_order p list ≡ true
-order-from p q [] h k = refl
-order-from p q (chunk ∷ list) h k =
-    let apart : ((at_or_before q chunk.first && at_or_before chunk.first chunk.after) ≡ true) × (in_order chunk.after list ≡ true) =
-    and_parts (at_or_before q chunk.first && at_or_before chunk.first chunk.after) (in_order chunk.after list) k in
-    let first : (at_or_before q chunk.first ≡ true) × (at_or_before chunk.first chunk.after ≡ true) = and_parts (at_or_before q chunk.first) (at_or_before chunk.first chunk.after) apart.0 in
-    and_from (at_or_before p chunk.first && at_or_before chunk.first chunk.after) (in_order chunk.after list)
-    (and_from (at_or_before p chunk.first) (at_or_before chunk.first chunk.after) (at_or_before-trans p q chunk.first h first.0) first.1) apart.1
 
 -- the chunks of a paragraph stand one behind the other
 paragraph-order : (options : ParseOptions) (bytes : List ℕ) (row : Row) (rows : List Row) → IsParagraph options bytes row rows → in_order row.first (chunks_of row rows) ≡ true

@@ -13,7 +13,8 @@ use Rattle.md_seam.specs.Ahead.{begins_white, white_end, white_rest}
 use Rattle.md_seam.specs.Nested.{enter, exit, pair}
 use Rattle.md_seam.specs.Rest.{is_white}
 use Rattle.md_seam.specs.Spaces.{IsRest, small_indent}
-use Rattle.md_seam.proofs.RestCells.{white-end, white-length, white-rest}
+use Rattle.md_seam.proofs.AheadLemmas.{none-end, none-rest}
+use Rattle.md_seam.proofs.RestCells.{white-length}
 use Rattle.md_seam.proofs.SpacesGoods.{rest-calm}
 
 -- What is left is shorter.
@@ -70,8 +71,8 @@ prefix-marker options cells h is = go (begins_white cells) refl
     go : (t : Bool) → begins_white cells ≡ t → prefix_at options cells h ≡ at_marker (white_rest room cells) (record h { events = h.events ++ indent_events options cells h.point; point = white_end room cells h.point })
     go true e = rw e (ap (λ (s : Scratch). at_marker (white_rest room cells) (record h { events = h.events ++ pair SpaceOrTab h.point (white_end room cells h.point); point = white_end room cells h.point; scratch = s })) (rest-calm h.scratch is ∙ sym is))
     go false e =
-        rw e (ap (λ (l : List Cell). at_marker l h) (sym (white-rest room cells e))
-        ∙ ap (λ (q : Point). at_marker (white_rest room cells) (record h { point = q })) (sym (white-end room cells h.point e))
+        rw e (ap (λ (l : List Cell). at_marker l h) (sym (none-rest room cells e))
+        ∙ ap (λ (q : Point). at_marker (white_rest room cells) (record h { point = q })) (sym (none-end room cells h.point e))
         ∙ ap (λ (es : List Event). at_marker (white_rest room cells) (record h { events = es; point = white_end room cells h.point })) (sym (append-nil h.events)))
 
 -- the prefix is taken where it stands, and refused elsewhere

@@ -21,11 +21,12 @@ use Rattle.md_seam.specs.Places.{at_or_before, past_byte, past_text, same_place}
 use Rattle.md_seam.specs.Rest.{Rest, behind, behind_indent, has_small_indent, indent, is_blank, is_white, lose, white_columns}
 use Rattle.md_seam.specs.Spaces.{any_size, small_indent}
 use Rattle.md_seam.specs.State.{InQuote}
+use Rattle.md_seam.proofs.AheadLemmas.{none-end}
 use Rattle.md_seam.proofs.FeedLines.{Stops, behind_last, byte-one, cell, columns_more, next_column, past-next, slice-front, slice-split, spread, tab_cells}
 use Rattle.md_seam.proofs.InlineLemmas.{same-refl}
 use Rattle.md_seam.proofs.NestedLemmas.{at_or_before-refl, at_or_before-trans}
 use Rattle.md_seam.proofs.PlainSteps.{range-none}
-use Rattle.md_seam.proofs.RestCells.{Bare, HasColumn, RestAt, bare, bare-cells, bare-same, behind-no_ending, cells_by, column-end, column-first, indent-length, indent-over, indent-taken, lose-no_ending, past_cut, past_rest, rest_cells, white-end, white-length, without_first}
+use Rattle.md_seam.proofs.RestCells.{Bare, HasColumn, RestAt, bare, bare-cells, bare-same, behind-no_ending, cells_by, column-end, column-first, indent-length, indent-over, indent-taken, lose-no_ending, past_cut, past_rest, rest_cells, white-length, without_first}
 use Rattle.md_seam.proofs.TextsLemmas.{NoEnding}
 
 -- The prefix of a quote, from a point to a point: whitespace, `>`, and at most one column of whitespace.
@@ -153,7 +154,7 @@ white-walk : (line : Line) (text behind : List ℕ) (n room : ℕ) (r : Rest) (p
     HasWhite text (rest_cells line r p ++ stop) p (white_end room (rest_cells line r p ++ stop) p)
 white-walk line text behind zero room r p stop is k e le =
     let white = bare-cells line r p stop e k in
-    subst (HasWhite text (rest_cells line r p ++ stop) p) (sym (white-end room (rest_cells line r p ++ stop) p white)) (white-same text (rest_cells line r p ++ stop) p white)
+    subst (HasWhite text (rest_cells line r p ++ stop) p) (sym (none-end room (rest_cells line r p ++ stop) p white)) (white-same text (rest_cells line r p ++ stop) p white)
 white-walk line text behind (suc n) zero r p stop is k e le = absurd (omega (arith, le))
 white-walk line text behind (suc n) (suc room) r p stop is k e le =
     let first = column-first line text behind r p is (omega (arith, e)) in

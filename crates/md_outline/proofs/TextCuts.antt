@@ -19,7 +19,7 @@ use Rattle.md_seam.specs.Places.{last_line}
 use Rattle.md_seam.specs.Rest.{is_blank, is_white, trim_start}
 use Rattle.md_seam.specs.Spelled.{without_last}
 use Rattle.md_seam.specs.Texts.{split_lines, trim_each}
-use Rattle.md_seam.proofs.PlacesLemmas.{Some_line, some-split}
+use Rattle.md_seam.proofs.PlacesLemmas.{Some_line, last-next, some-split}
 use Rattle.md_seam.proofs.PlainSteps.{range-none}
 use Rattle.md_seam.proofs.PreambleLemmas.{mark-bytes}
 use Rattle.md_seam.proofs.TextsLemmas.{split-byte}
@@ -78,14 +78,18 @@ utf8-part bytes i j u a b = go (cases_lt i j) (cases_lt i (length bytes)) (cases
 ending-ascii : (b : ℕ) → not (is_ending b) ≡ false → b < 128
 ending-ascii b h = grind (arith, nat_tests)
 
+-- a text may be cut where its first line ends
+line-boundary : (text : List ℕ) → line_len text < length text → IsCharBoundary text (line_len text)
+line-boundary text lt =
+    let stops : not (is_ending (get_or text (line_len text) 0)) ≡ false = prefix_len_stops (λ b. not (is_ending b)) text 0 lt in
+    IsCharBoundary-before_ascii text (line_len text) lt (ending-ascii _ stops)
+
 -- a line that a text begins with
 pub utf8-line : (text : List ℕ) → IsUtf8 text → IsUtf8 (take (line_len text) text)
 utf8-line text u = go (cases_lt (line_len text) (length text))
   where
     go : (line_len text < length text) ⊎ (length text ≤ line_len text) → IsUtf8 (take (line_len text) text)
-    go (inl lt) =
-        let stops : not (is_ending (get_or text (line_len text) 0)) ≡ false = prefix_len_stops (λ b. not (is_ending b)) text 0 lt in
-        IsUtf8-take text (line_len text) u (IsCharBoundary-before_ascii text (line_len text) lt (ending-ascii _ stops))
+    go (inl lt) = IsUtf8-take text (line_len text) u (line-boundary text lt)
     go (inr le) = subst IsUtf8 (sym (take_all (line_len text) text le)) u
 
 -- what stands behind a byte of ASCII
@@ -97,9 +101,7 @@ utf8-ending : (text : List ℕ) → IsUtf8 text → IsUtf8 (drop (line_len text)
 utf8-ending text u = go (cases_lt (line_len text) (length text))
   where
     go : (line_len text < length text) ⊎ (length text ≤ line_len text) → IsUtf8 (drop (line_len text) text)
-    go (inl lt) =
-        let stops : not (is_ending (get_or text (line_len text) 0)) ≡ false = prefix_len_stops (λ b. not (is_ending b)) text 0 lt in
-        IsUtf8-drop text (line_len text) u (IsCharBoundary-before_ascii text (line_len text) lt (ending-ascii _ stops))
+    go (inl lt) = IsUtf8-drop text (line_len text) u (line-boundary text lt)
     go (inr le) = subst IsUtf8 (sym (drop_all (line_len text) text le)) IsUtf8-nil
 
 -- what follows a line ending
@@ -203,10 +205,6 @@ entries-append depth (x ∷ xs) ys = ap (λ es. entry_with depth word.Line (trim
 shown-parted : (depth : ℕ) (lines : List (List ℕ)) (line : List ℕ) → entries depth word.Line (trim_each (lines ++ line ∷ [])) ≡ entries depth word.Line (trim_each lines) ++ entry_with depth word.Line (trim_start line) ∷ []
 shown-parted depth lines line = entries-append depth lines (line ∷ [])
 
-last-line : (line : List ℕ) (lines : List (List ℕ)) → Some_line lines → last_line (line ∷ lines) ≡ last_line lines
-last-line line [] h = absurd h
-last-line line (next ∷ lines) h = refl
-
 full-line : (line : List ℕ) (lines : List (List ℕ)) → Some_line lines → without_last (line ∷ lines) ≡ line ∷ without_last lines
 full-line line [] h = absurd h
 full-line line (next ∷ lines) h = refl
@@ -234,7 +232,7 @@ lines-next depth done next left line ending left' text k ek eline eending some e
             ∙ append_assoc done (entry_with depth word.Line text ∷ []) (full_entries depth left')
             ∙ ap (λ t. done ++ entry_with depth word.Line t ∷ full_entries depth left') first
             ∙ sym (ap (λ ls. done ++ entries depth word.Line (trim_each ls)) full),
-        sym (ap last_line all ∙ last-line (take (line_len left) left) (split_lines left') (some-split left')),
+        sym (ap last_line all ∙ last-next (take (line_len left) left) (split_lines left') (some-split left')),
       ),
     )
 
@@ -301,11 +299,12 @@ split-piece (b ∷ bs) rest h =
     go true y lines all some e =
         ap (λ ls. [] ∷ ls) e
         ∙ sym (ap (λ ls. ls ++ onto_line (last_line lines) (split_lines rest)) (full-line [] lines some))
-        ∙ sym (ap (λ l. without_last ([] ∷ lines) ++ onto_line l (split_lines rest)) (last-line [] lines some))
+        ∙ sym (ap (λ l. without_last ([] ∷ lines) ++ onto_line l (split_lines rest)) (last-next [] lines some))
     go false true lines all some e = e
     go false false lines all some e = ap (onto_first b) e ∙ onto-byte b lines (split_lines rest) some
 
-trim-blank : (front line : List ℕ) → is_blank front ≡ true → trim_start (front ++ line) ≡ trim_start line
+-- whitespace in front of a line is trimmed
+pub trim-blank : (front line : List ℕ) → is_blank front ≡ true → trim_start (front ++ line) ≡ trim_start line
 trim-blank [] line h = refl
 trim-blank (b ∷ front) line h =
     let parts = and_parts (is_white b) (is_blank front) h in

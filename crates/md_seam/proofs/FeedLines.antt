@@ -19,17 +19,10 @@ use Rattle.md_seam.specs.Ahead.{begins_white, from_ending, line_cells, point_aft
 use Rattle.md_seam.specs.Lines.{is_ending, begins_with}
 use Rattle.md_seam.specs.Places.{at_or_before, past_byte, past_text}
 use Rattle.md_seam.specs.Rest.{is_white}
-use Rattle.md_seam.specs.Texts.{first_byte}
-use Rattle.md_seam.proofs.PlacesLemmas.{drop-next}
+use Rattle.md_seam.proofs.PlacesLemmas.{at-next, drop-next}
 use Rattle.md_seam.proofs.TextsLemmas.{Both, Ending, EndsBefore, LineFeed, NoEnding, Return, ending_bytes}
 
 -- What stands in a text.
-
-pub at-next : (index : ℕ) (bytes : List ℕ) (b : ℕ) (rest : List ℕ) → drop index bytes ≡ b ∷ rest → slice_index bytes index ≡ b
-at-next zero [] b rest e = cc
-at-next zero (c ∷ bytes) b rest e = ap first_byte e
-at-next (suc index) [] b rest e = cc
-at-next (suc index) (c ∷ bytes) b rest e = at-next index bytes b rest e
 
 pub past-next : (index : ℕ) (bytes : List ℕ) (b : ℕ) (rest : List ℕ) → drop index bytes ≡ b ∷ rest → drop (index + 1) bytes ≡ rest
 past-next index bytes b rest e = ap (λ (i : ℕ). drop i bytes) (add-one index) ∙ drop-next index bytes b rest e

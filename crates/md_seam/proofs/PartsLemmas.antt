@@ -20,7 +20,8 @@ use Rattle.md_seam.proofs.FilledLemmas.{EachInline, inline-role, spelled-filled}
 
 -- Parts of a block list may be read.
 
-order-from : (p q : Point) (list : List Chunk) → IsTrue (at_or_before p q) → in_order q list ≡ true → in_order p list ≡ true
+-- chunks behind a point stand behind an earlier one
+pub order-from : (p q : Point) (list : List Chunk) → IsTrue (at_or_before p q) → in_order q list ≡ true → in_order p list ≡ true
 order-from p q [] h k = refl
 order-from p q (chunk ∷ list) h k =
     let outer : (at_or_before q chunk.first && at_or_before chunk.first chunk.after ≡ true) × (in_order chunk.after list ≡ true) = and_parts (at_or_before q chunk.first && at_or_before chunk.first chunk.after) (in_order chunk.after list) k in

@@ -10,7 +10,7 @@ use Rattle.md_engine.specs.Place.{is_pair}
 use Rattle.md_seam.specs.Lines.{is_ending, begins_with, ends_line}
 use Rattle.md_seam.specs.Rest.{tab_columns}
 use Rattle.md_seam.specs.Texts.{split_lines, first_byte}
-use Rattle.md_seam.specs.Places.{column_past, columns_from, last_line, columns_before, within_tab, is_placed, past_byte, past_text, splits_pair}
+use Rattle.md_seam.specs.Places.{column_past, columns_from, last_line, columns_before, within_tab, is_placed, past_byte, past_text, same_place, splits_pair}
 use Rattle.md_seam.proofs.TextsLemmas.{NoEnding, split-line}
 
 -- The last line grows by a byte that is no ending.
@@ -86,7 +86,8 @@ length-onto_last b [] s = absurd s
 length-onto_last b (line ∷ []) s = refl
 length-onto_last b (line ∷ next ∷ lines) s = ap suc (length-onto_last b (next ∷ lines) tt)
 
-last-next : (line : List ℕ) (lines : List (List ℕ)) → Some_line lines → last_line (line ∷ lines) ≡ last_line lines
+-- the last line is that of those behind the first, where there are some
+pub last-next : (line : List ℕ) (lines : List (List ℕ)) → Some_line lines → last_line (line ∷ lines) ≡ last_line lines
 last-next line [] s = absurd s
 last-next line (next ∷ lines) s = refl
 
@@ -129,11 +130,15 @@ same_stop : (column vs : ℕ) → vs < 4 - column % 4 → (column + vs) + (4 - (
 same_stop column vs h = omega arith
 
 -- the first byte that is left
-slice-next : (index : ℕ) (bytes : List ℕ) (b : ℕ) (rest : List ℕ) → drop index bytes ≡ b ∷ rest → slice_index bytes index ≡ b
-slice-next zero [] b rest e = cc
-slice-next zero (c ∷ bytes) b rest e = ap first_byte e
-slice-next (suc index) [] b rest e = cc
-slice-next (suc index) (c ∷ bytes) b rest e = slice-next index bytes b rest e
+pub at-next : (index : ℕ) (bytes : List ℕ) (b : ℕ) (rest : List ℕ) → drop index bytes ≡ b ∷ rest → slice_index bytes index ≡ b
+at-next zero [] b rest e = cc
+at-next zero (c ∷ bytes) b rest e = ap first_byte e
+at-next (suc index) [] b rest e = cc
+at-next (suc index) (c ∷ bytes) b rest e = at-next index bytes b rest e
+
+-- later bytes stand elsewhere
+pub apart-later : (p q : Point) → p.index < q.index → same_place p q ≡ false
+apart-later p q h = grind (arith, nat_tests)
 
 -- behind a byte that is no CR, no ending goes on
 pub apart-behind : (bytes : List ℕ) (i : ℕ) → (slice_index bytes i == 13) ≡ false → splits_pair bytes (i + 1) ≡ false
@@ -212,7 +217,7 @@ placed-byte bytes p b rest placed next line =
       within = refl;
       line = placed.line ∙ sym (length-onto_last b (split_lines (take p.index bytes)) (some-split (take p.index bytes))) ∙ sym (ap length lines);
       column = omega arith;
-      apart = apart-behind bytes p.index (ap (λ (x : ℕ). x == 13) (slice-next p.index bytes b rest next) ∙ no_return b line);
+      apart = apart-behind bytes p.index (ap (λ (x : ℕ). x == 13) (at-next p.index bytes b rest next) ∙ no_return b line);
     }
 
 -- So is the point behind a piece of a line.

@@ -24,7 +24,7 @@ use Rattle.md_seam.specs.declared.inline.PartKind.{PartKind}
 use Rattle.md_seam.specs.Inline.{PlainReads, are_lines, chunk_text, ends_whole, is_line, is_none, is_one_line, line_end, pair_unless_empty, plain_chunk, plain_chunks, together}
 use Rattle.md_seam.specs.Went.{entered, exited}
 use Rattle.md_seam.proofs.InlineLemmas.{line-length, line-no_ending, past-index, past-vs, same-refl}
-use Rattle.md_seam.proofs.PlacesLemmas.{Some_line, some-split}
+use Rattle.md_seam.proofs.PlacesLemmas.{Some_line, apart-later, some-split}
 use Rattle.md_engine.proofs.Sound.{placed-next}
 use Rattle.md_seam.proofs.TextsLemmas.{NoEnding, Ending, LineFeed, Return, Both, ending_bytes, EndsBefore, split-next}
 
@@ -207,9 +207,6 @@ line-consumed w v end is placed h k plain =
 pub line-moved : (w v u : World) (p : Point) → v ≡ record w { point = v.point } → u ≡ record v { point = p } → u ≡ record w { point = u.point }
 line-moved w v u p h k = k ∙ ap (λ (x : World). record x { point = p }) h ∙ ap (λ (q : Point). record w { point = q }) (sym (ap (λ (x : World). x.point) k))
 
-same-not : (p q : Point) → p.index < q.index → same_place p q ≡ false
-same-not p q h = grind (arith, nat_tests)
-
 -- a line has been read
 pub line-read : (w e l x : World) (end : ℕ) → e ≡ entered w n.Data → l ≡ record e { point = l.point } → x ≡ exited l n.Data →
     past_text (line_left l.setting.bytes l.point end) l.point ≡ past_text (line_left e.setting.bytes e.point end) e.point → line_left l.setting.bytes l.point end ≡ [] →
@@ -220,7 +217,7 @@ line-read w e l x end enters moves exits same none h k plain =
     let at : l.point ≡ to = sym (ap (λ (t : List ℕ). past_text t l.point) none) ∙ same ∙ ap (λ (u : World). past_text (line_left u.setting.bytes u.point end) u.point) enters in
     let more : line_left w.setting.bytes w.point end ≡ slice_index w.setting.bytes w.point.index ∷ without_ending (slice_range w.setting.bytes (w.point.index + 1) end) = line-more w.setting.bytes w.point end h k plain in
     let long : to.index ≡ w.point.index + length (line_left w.setting.bytes w.point end) = past-index (line_left w.setting.bytes w.point end) w.point in
-    let apart : same_place w.point to ≡ false = same-not w.point to (let size : length (line_left w.setting.bytes w.point end) ≡ suc (length (without_ending (slice_range w.setting.bytes (w.point.index + 1) end))) = ap length more in omega arith) in
+    let apart : same_place w.point to ≡ false = apart-later w.point to (let size : length (line_left w.setting.bytes w.point end) ≡ suc (length (without_ending (slice_range w.setting.bytes (w.point.index + 1) end))) = ap length more in omega arith) in
     exits
     ∙ ap (λ (u : World). exited u n.Data) (moves ∙ ap (λ (q : Point). record e { point = q }) at)
     ∙ ap (λ (u : World). exited (record u { point = to }) n.Data) enters
@@ -479,7 +476,7 @@ chunk-ending w r e k x chunk skips is one whole read placed lt enters takes exit
     ap (λ (x : Bool). cond x (line_begun w.setting (next_point bytes to)) (next_point bytes to)) next.0
     ∙ ap (λ (skips : List Point). begun_at (slice_get skips ((next_point bytes to).line - w.setting.first_line)) (next_point bytes to)) skips
     ∙ next.1 in
-    let apart : same_place to chunk.after ≡ false = same-not to chunk.after lt_to in
+    let apart : same_place to chunk.after ≡ false = apart-later to chunk.after lt_to in
     let done : x ≡ exited (record (entered (record w { point = to; events = w.events ++ content }) n.LineEnding) { point = after w.setting to }) n.LineEnding =
     exits ∙ ap (λ (u : World). exited u n.LineEnding) (takes ∙ ap (λ (u : World). record u { point = after u.setting u.point }) (enters ∙ ap (λ (u : World). entered u n.LineEnding) read)) in
     ap (λ (u : World). u.events) done

@@ -208,15 +208,7 @@ bare-same r e = go r.spaces r.bytes (bare r e)
 
 -- The indent.
 
--- where no whitespace comes first, none is taken
-pub white-rest : (room : ℕ) (cells : List Cell) → begins_white cells ≡ false → white_rest room cells ≡ cells
-white-rest room [] e = refl
-white-rest room (c ∷ cs) e = none-rest room (c ∷ cs) e
-
-pub white-end : (room : ℕ) (cells : List Cell) (p : Point) → begins_white cells ≡ false → white_end room cells p ≡ p
-white-end room [] p e = refl
-white-end room (c ∷ cs) p e = none-end room (c ∷ cs) p e
-
+-- whitespace leaves no more than there was
 pub white-length : (room : ℕ) (cells : List Cell) → length (white_rest room cells) ≤ length cells
 white-length room [] = omega arith
 white-length zero (c ∷ cs) = omega arith
@@ -237,9 +229,9 @@ pub record HasIndent (line : Line) (text behind : List ℕ) (room : ℕ) (r : Re
 indent-walk : (line : Line) (text behind : List ℕ) (n room : ℕ) (r : Rest) (p : Point) (stop : List Cell) → RestAt text behind r p → Stops stop → indent r ≡ n → n ≤ room → HasIndent line text behind room r p stop (lose n r)
 indent-walk line text behind zero room r p stop is k e le =
     let white = bare-cells line r p stop e k in
-    let end : white_end room (rest_cells line r p ++ stop) p ≡ p = white-end room (rest_cells line r p ++ stop) p white in
+    let end : white_end room (rest_cells line r p ++ stop) p ≡ p = none-end room (rest_cells line r p ++ stop) p white in
     record {
-      cells = white-rest room (rest_cells line r p ++ stop) white ∙ ap (λ (q : Point). rest_cells line r q ++ stop) (sym end);
+      cells = none-rest room (rest_cells line r p ++ stop) white ∙ ap (λ (q : Point). rest_cells line r q ++ stop) (sym end);
       none = e;
       stands = subst (RestAt text behind r) (sym end) is;
       ends = ap (past_rest r) end;
