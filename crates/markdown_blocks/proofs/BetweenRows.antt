@@ -19,13 +19,13 @@ use Rattle.md_leaves.specs.HeadingRule.{Apart, Hashes, Run, Text, White, begun, 
 use Rattle.md_leaves.specs.HeadingTitle.{Title, chunk_unless_empty, front_len, line_runs, text_of, title_of}
 use Rattle.md_leaves.proofs.TitleLemmas.{behind-marks, front-marks, is_mark}
 use Rattle.md_leaves.proofs.TitleRuns.{pass-first, pass-rest}
-use Rattle.md_seam.specs.Inline.{line_end, pair_unless_empty, plain_chunk}
-use Rattle.md_seam.specs.Leaves.{is_rule, is_rule_marker}
-use Rattle.md_seam.specs.Lines.{without_ending}
-use Rattle.md_seam.specs.Nested.{Forward, around, enter, enter_link, exit, last_point, pair}
-use Rattle.md_seam.specs.Places.{at_or_before, past_byte, past_text, same_place}
-use Rattle.md_seam.specs.Rest.{is_blank, is_white, trim_start}
-use Rattle.md_seam.specs.State.{Container, InQuote}
+use Rattle.md_seam.specs.Events.Inline.{line_end, pair_unless_empty, plain_chunk}
+use Rattle.md_seam.specs.Standard.Leaves.{is_rule, is_rule_marker}
+use Rattle.md_seam.specs.Standard.Lines.{without_ending}
+use Rattle.md_seam.specs.Events.Nested.{Forward, around, enter, enter_link, exit, last_point, pair}
+use Rattle.md_seam.specs.Events.Places.{at_or_before, past_byte, past_text, same_place}
+use Rattle.md_seam.specs.Standard.Rest.{is_blank, is_white, trim_start}
+use Rattle.md_seam.specs.Standard.State.{Container, InQuote}
 use Rattle.md_seam.proofs.InlineLemmas.{past-index}
 use Rattle.md_seam.proofs.NestedLemmas.{at_or_before-trans, forward-last}
 use Rattle.md_seam.proofs.PlacesLemmas.{all-append, at-next}
@@ -36,7 +36,7 @@ use Rattle.markdown_blocks.specs.Fronted.{contained, rest_from, rest_line}
 use Rattle.markdown_blocks.specs.Rows.{BlankRow, BreakRow, Group, HeadingRow, Lines, Row, RowKind, Single, TextRow, behind_row, ending_events, groups, groups_events, is_text, last_row, line_kind, read_lines, read_text, read_title, row_title, single_events_by, tail_events}
 use Rattle.md_seam.proofs.FeedLines.{drop-past, past-next, slice-front}
 use Rattle.markdown_blocks.proofs.EachRow.{EachGroup, EachRow, groups-each, last-each}
-use Rattle.markdown_blocks.proofs.FrontFacts.{Begins, Behind, Fronts, Goes, IsFurther, IsOpening, IsPrefix}
+use Rattle.markdown_blocks.proofs.FrontFacts.{Begins, Behind, LinePrefix, Goes, IsContinuationPrefix, IsOpeningPrefix, IsPrefix}
 use Rattle.markdown_blocks.proofs.FrontPlaces.{order-grows}
 use Rattle.markdown_blocks.proofs.GroupLemmas.{line_end-alone, line_end-ended, without-none}
 use Rattle.markdown_blocks.proofs.JoinedLemmas.{behind-is, behind-none}
@@ -247,7 +247,7 @@ tail-between bytes name row end behind = between-append bytes (ends_of row.leave
 around-between : (bytes : List ℕ) (name : Name) (p q : Point) (inside : List Event) → is_between bytes p.index ≡ true → is_between bytes q.index ≡ true → AreBetween bytes inside → AreBetween bytes (around name p q inside)
 around-between bytes name p q inside h k i = between-more bytes (enter name p) (inside ++ exit name q ∷ []) h (between-append bytes inside (exit name q ∷ []) i (between-more bytes (exit name q) [] k refl))
 
--- Fronts.
+-- LinePrefix.
 
 -- a byte of whitespace in a part of the text, or behind its end
 pub white-at : (bytes : List ℕ) (a e i : ℕ) → is_blank (slice_range bytes a e) ≡ true → a ≤ i → i < e → is_low (slice_index bytes i) ≡ true
@@ -302,17 +302,17 @@ prefix-between bytes p q es from is =
     )
 
 -- and so does what stands in front of the content of a container, of one that goes on,
-pub further-between : (bytes : List ℕ) (c : Container) (p q : Point) (es : List Event) → is_between bytes p.index ≡ true → IsFurther bytes c p q es → AreBetween bytes es × (is_between bytes q.index ≡ true)
+pub further-between : (bytes : List ℕ) (c : Container) (p q : Point) (es : List Event) → is_between bytes p.index ≡ true → IsContinuationPrefix bytes c p q es → AreBetween bytes es × (is_between bytes q.index ≡ true)
 further-between bytes InQuote p q es from is = prefix-between bytes p q es from is
 further-between bytes c p q es from is = absurd is
 
 -- of one that opens,
-opening-between : (bytes : List ℕ) (c : Container) (p q : Point) (es : List Event) → is_between bytes p.index ≡ true → IsOpening bytes c p q es → AreBetween bytes es × (is_between bytes q.index ≡ true)
+opening-between : (bytes : List ℕ) (c : Container) (p q : Point) (es : List Event) → is_between bytes p.index ≡ true → IsOpeningPrefix bytes c p q es → AreBetween bytes es × (is_between bytes q.index ≡ true)
 opening-between bytes InQuote p q es from is = prefix-between bytes p q es from is
 opening-between bytes c p q es from is = absurd is
 
 -- and what stands in front of a line
-pub fronts-between : (bytes : List ℕ) (opens : List Container) (p q : Point) (front : List Event) → is_between bytes p.index ≡ true → Fronts bytes opens p q front → AreBetween bytes front × (is_between bytes q.index ≡ true)
+pub fronts-between : (bytes : List ℕ) (opens : List Container) (p q : Point) (front : List Event) → is_between bytes p.index ≡ true → LinePrefix bytes opens p q front → AreBetween bytes front × (is_between bytes q.index ≡ true)
 fronts-between bytes _ p _ _ from (Behind _) = (refl, from)
 fronts-between bytes opens p r _ from (Goes c _ _ q _ es fs is more) =
     let here = further-between bytes c p q es from is in

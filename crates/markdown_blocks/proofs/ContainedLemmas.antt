@@ -4,11 +4,11 @@ use Rattle.std.specs.Prelude.{Option, Some, None}
 use Rattle.std.proofs.lemmas.List.{length-append, length-map}
 use Rattle.std.specs.Option.{option_or}
 use Rattle.md_engine.specs.declared.configuration.ParseOptions.{ParseOptions}
-use Rattle.md_seam.specs.Containers.{Taken, continues, footnote_continues, item_continues, opens, opens_footnote, opens_item, opens_quote, quote_taken}
-use Rattle.md_seam.specs.Lines.{begins_with}
-use Rattle.md_seam.specs.Rest.{Rest, behind, behind_indent, has_small_indent, lose}
-use Rattle.md_seam.specs.Spelled.{Shape}
-use Rattle.md_seam.specs.State.{Container, InFootnote, InItem, InQuote}
+use Rattle.md_seam.specs.Standard.Containers.{Taken, continues, footnote_continues, item_continues, opens, opens_footnote, opens_item, opens_quote, quote_taken}
+use Rattle.md_seam.specs.Standard.Lines.{begins_with}
+use Rattle.md_seam.specs.Standard.Rest.{Rest, behind, behind_indent, has_small_indent, lose}
+use Rattle.md_seam.specs.Events.Spelled.{Shape}
+use Rattle.md_seam.specs.Standard.State.{Container, InFootnote, InItem, InQuote}
 use Rattle.markdown_blocks.specs.Change.{change_by, interrupts, is_none, others_of}
 use Rattle.markdown_blocks.specs.Fronted.{Prefixed, contained, no_prefix, one_more, prefixes_new, prefixes_on, rest_line}
 use Rattle.markdown_blocks.specs.Parsed.{IsBuilt}

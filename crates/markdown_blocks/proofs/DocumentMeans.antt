@@ -16,7 +16,7 @@ use Rattle.md_engine.proofs.StepOf.{Sees, begins_only, passes, sees, steps-as}
 use Rattle.md_leaves.specs.BomRule.{HasBom, bom_at}
 use Rattle.md_leaves.proofs.BomSteps.{bom_inside_steps, bom_start_steps}
 use Rattle.md_seam.proofs.SpacesGoods.{does-stands}
-use Rattle.markdown_blocks.specs.Document.{DocumentStep, document_table_scheme, document_went, start_went}
+use Rattle.markdown_blocks.specs.Document.{DocumentStep, document_table_scheme, document_transition, start_transition}
 use Rattle.markdown_blocks.specs.DocumentRule.{document_behaves}
 use Rattle.markdown_blocks.specs.FlowRule.{tried}
 use Rattle.markdown_blocks.proofs.DocumentStates.{document_does}
@@ -36,10 +36,10 @@ resumed feed w (Refuses s g) =
     sym (ap (λ (x : List Event). Accepts (record { events = x; point = w.point; scratch = s; flags = g }) (feed w.point)) back)
 resumed feed w Fails = refl
 
-start_steps : (feed : Feed) (w : World) → Steps document_behaves feed (Next n.DocumentStart) w (start_went w).to (start_went w).world
-start_steps feed w = begins_only document_behaves feed _ _ w (start_went w).world (frame_here w) refl refl (resumed feed w (bom_at (feed w.point) (here w)))
+start_steps : (feed : Feed) (w : World) → Steps document_behaves feed (Next n.DocumentStart) w (start_transition w).to (start_transition w).world
+start_steps feed w = begins_only document_behaves feed _ _ w (start_transition w).world (frame_here w) refl refl (resumed feed w (bom_at (feed w.point) (here w)))
 
-document_steps : (feed : Feed) (name : StateName) (w : World) → Sees feed w → stands document_table_scheme w (Next name) → Steps document_behaves feed (Next name) w (document_went name w).to (document_went name w).world
+document_steps : (feed : Feed) (name : StateName) (w : World) → Sees feed w → stands document_table_scheme w (Next name) → Steps document_behaves feed (Next name) w (document_transition name w).to (document_transition name w).world
 document_steps feed n.BomStart w s at = bom_start_steps document_behaves feed w _ has_bom s at.0 refl
 document_steps feed n.BomInside w s at = bom_inside_steps document_behaves feed w _ _ has_bom s at.0.size refl refl
 document_steps feed n.DocumentStart w s at = start_steps feed w
@@ -54,4 +54,4 @@ document_means options is_end feed name w to new f called step =
 -- and comes to where the table stands
 pub document_stands : StandsOn DocumentStep document_table_scheme
 document_stands name w to new at step =
-    does-stands document_table_scheme name (reading w) (document_went name (reading w)) to new step.to_is step.new_is (document_does name (reading w) refl at)
+    does-stands document_table_scheme name (reading w) (document_transition name (reading w)) to new step.to_is step.new_is (document_does name (reading w) refl at)

@@ -29,10 +29,10 @@ use Rattle.md_leaves.specs.Bom as bom
 use Rattle.md_leaves.specs.Bom.{mark, mark_at}
 use Rattle.md_leaves.specs.BomRule.{are_next, bom_at}
 use Rattle.md_seam.specs.Ahead.{point_after}
-use Rattle.md_seam.specs.Nested.{pair}
-use Rattle.md_seam.specs.Preamble.{has_mark}
+use Rattle.md_seam.specs.Events.Nested.{pair}
+use Rattle.md_seam.specs.Standard.Preamble.{has_mark}
 use Rattle.md_seam.specs.Spaces.{is_current}
-use Rattle.markdown_blocks.specs.Document.{DocumentStep, ReadsMark, body_point, document_table_scheme, document_went, mark_end, mark_events}
+use Rattle.markdown_blocks.specs.Document.{DocumentStep, ReadsMark, body_point, document_table_scheme, document_transition, mark_end, mark_events}
 use Rattle.markdown_blocks.specs.DocumentRule.{document_at, document_behaves}
 use Rattle.markdown_blocks.specs.FlowReads.{text_cells, text_setting}
 use Rattle.markdown_blocks.specs.FlowRule.{tried}
@@ -166,7 +166,7 @@ bom-inside w true true = refl
 bom-inside w true false = refl
 bom-inside w false b = refl
 
-went-resolvers : (name : StateName) (w : World) → (document_went name w).world.resolvers ≡ w.resolvers
+went-resolvers : (name : StateName) (w : World) → (document_transition name w).world.resolvers ≡ w.resolvers
 went-resolvers s.BomStart w = bom-start w (is_current 239 w.current)
 went-resolvers s.BomInside w = bom-inside w (is_current (mark_at w.scratch.size) w.current) (nat_lt w.scratch.size 2)
 went-resolvers s.DocumentStart w = refl

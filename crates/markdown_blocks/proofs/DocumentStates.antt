@@ -12,13 +12,13 @@ use Rattle.md_leaves.specs.Bom.{bom_scheme, mark_at}
 use Rattle.md_leaves.proofs.HeadingGoods.{BomFits, good_bom_inside, good_bom_start}
 use Rattle.md_seam.specs.Spaces.{IsRest, is_current, rest_ready}
 use Rattle.md_seam.proofs.SpacesGoods.{Does}
-use Rattle.markdown_blocks.specs.Document.{document_owner, document_scheme, document_table_scheme, document_went, start_went}
+use Rattle.markdown_blocks.specs.Document.{document_owner, document_scheme, document_table_scheme, document_transition, start_transition}
 
 bom_fits : BomFits document_table_scheme
 bom_fits = record { start = fits document_owner n.BomStart; inside = fits document_owner n.BomInside }
 
 -- the mark is tried, and what follows is at rest whether it was there or not
-good_start : (w : World) → rest_ready (spot w) (after_all document_table_scheme w.frames) → Does document_table_scheme n.DocumentStart w (start_went w)
+good_start : (w : World) → rest_ready (spot w) (after_all document_table_scheme w.frames) → Does document_table_scheme n.DocumentStart w (start_transition w)
 good_start w r =
     let behind = fits document_owner n.DocumentBeforeFrontmatter in (
       begins_try document_table_scheme document_scheme bom_scheme n.DocumentStart n.BomStart w IsRest IsRest w.events w.scratch
@@ -35,7 +35,7 @@ good_start w r =
       refl,
     )
 
-pub document_does : (name : StateName) (w : World) → w.current ≡ looks w → stands document_table_scheme w (Next name) → Does document_table_scheme name w (document_went name w)
+pub document_does : (name : StateName) (w : World) → w.current ≡ looks w → stands document_table_scheme w (Next name) → Does document_table_scheme name w (document_transition name w)
 document_does n.BomStart w c r = good_bom_start document_table_scheme w _ bom_fits r
 document_does n.BomInside w c r = good_bom_inside document_table_scheme w _ _ bom_fits r (ap (is_current (mark_at w.scratch.size)) (sym c)) refl
 document_does n.DocumentStart w c r = good_start w r

@@ -6,7 +6,7 @@ use Rattle.md_engine.specs.declared.event.Point.{Point}
 use Rattle.md_engine.specs.Meaning.{Cell}
 use Rattle.md_leaves.specs.BreakRule as break
 use Rattle.md_seam.specs.Ahead.{begins_white, line_cells, line_end, white_end, white_rest}
-use Rattle.md_seam.specs.Nested.{pair}
+use Rattle.md_seam.specs.Events.Nested.{pair}
 use Rattle.md_seam.specs.Spaces.{small_indent}
 use Rattle.md_seam.proofs.EndingsLemmas.{AreOthers, others-append}
 use Rattle.markdown_blocks.specs.Rows.{BlankRow, BreakRow, HeadingRow, RowKind, TextRow, first_cell, inside_of}

@@ -13,20 +13,20 @@ use Rattle.md_leaves.specs.HeadingText.{linked_text}
 use Rattle.md_leaves.specs.HeadingTitle.{Title, front_len, line_runs, text_of, title_of, unread_title}
 use Rattle.md_leaves.proofs.TitleLemmas.{title-text}
 use Rattle.md_seam.specs.declared.inline.Chunk.{Chunk}
-use Rattle.md_seam.specs.Endings.{IsLeaf, Spot, endings_stand, endings_stand_from, is_filled, line_start, on_line}
-use Rattle.md_seam.specs.Inline.{line_end, pair_unless_empty, plain_chunk}
-use Rattle.md_seam.specs.Lines.{without_ending}
-use Rattle.md_seam.specs.Nested.{around, enter, exit, pair}
-use Rattle.md_seam.specs.Places.{first_point, past_byte, past_text, same_place}
-use Rattle.md_seam.specs.Preamble.{has_mark}
-use Rattle.md_seam.specs.State.{Container, InFootnote, InItem, InQuote}
+use Rattle.md_seam.specs.Events.Endings.{IsLeaf, Spot, endings_stand, endings_stand_from, is_filled, line_start, on_line}
+use Rattle.md_seam.specs.Events.Inline.{line_end, pair_unless_empty, plain_chunk}
+use Rattle.md_seam.specs.Standard.Lines.{without_ending}
+use Rattle.md_seam.specs.Events.Nested.{around, enter, exit, pair}
+use Rattle.md_seam.specs.Events.Places.{first_point, past_byte, past_text, same_place}
+use Rattle.md_seam.specs.Standard.Preamble.{has_mark}
+use Rattle.md_seam.specs.Standard.State.{Container, InFootnote, InItem, InQuote}
 use Rattle.md_seam.proofs.EndingsLemmas.{AreOthers, Filling, Leads, Stays, behind_leaf, filling-append, in_leaf, leads-append, leaf-leads, others-append, others-lead, stays-append, stays-others}
 use Rattle.md_seam.proofs.InlineLemmas.{same-refl}
 use Rattle.markdown_blocks.specs.Change.{container_name, ends_of}
 use Rattle.markdown_blocks.specs.Document.{body_point, mark_end, mark_events}
 use Rattle.markdown_blocks.specs.Rows.{BlankRow, BreakRow, Group, HeadingRow, Lines, Row, RowKind, Single, TextRow, behind_row, ending_events, goes_on, group_events, groups, groups_events, last_row, onto_groups, read_lines, read_text, read_title, row_events_by, row_line, row_title, single_events_by, tail_events}
 use Rattle.markdown_blocks.specs.Unread.{linked_lines, titled_group, titled_groups, titled_row_by}
-use Rattle.markdown_blocks.proofs.FrontFacts.{Behind, Begins, Fronts, Goes, IsFurther, IsOpening, IsPrefix}
+use Rattle.markdown_blocks.proofs.FrontFacts.{Behind, Begins, LinePrefix, Goes, IsContinuationPrefix, IsOpeningPrefix, IsPrefix}
 use Rattle.markdown_blocks.proofs.GroupLemmas.{AreGroups, EndsBeforeGroups, HasFront, IsParagraph, IsSingle, IsTitle, groups-are, line_end-alone, rows-end, text-some, title-is, without-none}
 use Rattle.markdown_blocks.proofs.JoinedLemmas.{EachEnds, EachNoContent, ending-is}
 use Rattle.markdown_blocks.proofs.RowFacts.{AreRows, IsRow}
@@ -45,16 +45,16 @@ prefix-others bytes p q es is = subst AreOthers (sym is.events) (go (same_place 
     go false true = refl
     go false false = refl
 
-further-others : (bytes : List ℕ) (c : Container) (p q : Point) (es : List Event) → IsFurther bytes c p q es → AreOthers es
+further-others : (bytes : List ℕ) (c : Container) (p q : Point) (es : List Event) → IsContinuationPrefix bytes c p q es → AreOthers es
 further-others bytes InQuote p q es is = prefix-others bytes p q es is
 further-others bytes c p q es is = absurd is
 
-opening-others : (bytes : List ℕ) (c : Container) (p q : Point) (es : List Event) → IsOpening bytes c p q es → AreOthers (enter (container_name c) p ∷ es)
+opening-others : (bytes : List ℕ) (c : Container) (p q : Point) (es : List Event) → IsOpeningPrefix bytes c p q es → AreOthers (enter (container_name c) p ∷ es)
 opening-others bytes InQuote p q es is = prefix-others bytes p q es is
 opening-others bytes c p q es is = absurd is
 
 -- all of it
-fronts-others : (bytes : List ℕ) (opens : List Container) (p q : Point) (es : List Event) → Fronts bytes opens p q es → AreOthers es
+fronts-others : (bytes : List ℕ) (opens : List Container) (p q : Point) (es : List Event) → LinePrefix bytes opens p q es → AreOthers es
 fronts-others bytes opens p q es (Behind at) = refl
 fronts-others bytes opens first last es (Goes c same p q r xs ys is more) = others-append xs ys (further-others bytes c p q xs is) (fronts-others bytes same q r ys more)
 fronts-others bytes opens first last es (Begins c below p q r xs ys is more) = others-append (enter (container_name c) p ∷ xs) ys (opening-others bytes c p q xs is) (fronts-others bytes below q r ys more)
@@ -109,7 +109,7 @@ chunk-stays bytes chunk = go (line_end bytes chunk) (same_place chunk.first (lin
     go end false false = λ from. (false, λ ys. refl)
 
 -- a line of a text part with what stands in front of the next, and the next
-filling-next : (bytes : List ℕ) (q r : Point) (chunk front rest : List Event) → Stays chunk → Fronts bytes [] q r front → Filling rest → Filling (chunk ++ front ++ rest)
+filling-next : (bytes : List ℕ) (q r : Point) (chunk front rest : List Event) → Stays chunk → LinePrefix bytes [] q r front → Filling rest → Filling (chunk ++ front ++ rest)
 filling-next bytes q r chunk front rest h is k = filling-append (chunk ++ front) rest (stays-append chunk front h (stays-others front (fronts-others bytes [] q r front is))) k
 
 -- the lines of a paragraph, before they are read

@@ -15,8 +15,8 @@ use Rattle.md_leaves.specs.BlankRule.{blank_at}
 use Rattle.md_leaves.specs.BreakRule.{before_marker, break_at}
 use Rattle.md_leaves.specs.HeadingRule.{before_opening, heading_at, in_heading, is_heading}
 use Rattle.md_seam.specs.Ahead.{begins_white, from_ending, line_bytes}
-use Rattle.md_seam.specs.Leaves.{is_rule}
-use Rattle.md_seam.specs.Rest.{is_blank}
+use Rattle.md_seam.specs.Standard.Leaves.{is_rule}
+use Rattle.md_seam.specs.Standard.Rest.{is_blank}
 use Rattle.md_seam.specs.Spaces.{small_indent}
 use Rattle.md_seam.proofs.RestCells.{white-length}
 use Rattle.markdown_blocks.specs.FlowRule.{Rule, behind_containers, blank_ended, continues_at, ended, ended_to, existing_by, existing_from, flow_at, flow_lines, leaf_of, line_ended, line_then, new_from, new_of, quote_opened, tried}

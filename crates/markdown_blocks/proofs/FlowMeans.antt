@@ -31,16 +31,16 @@ use Rattle.md_leaves.proofs.BlankSteps.{blank_after_steps, blank_start_steps}
 use Rattle.md_leaves.proofs.BreakSteps as break
 use Rattle.md_leaves.proofs.HeadingSteps as heading
 use Rattle.md_seam.specs.Ahead.{HasWhite}
-use Rattle.md_seam.specs.Nested.{enter, exit, pair}
-use Rattle.md_seam.specs.Went.{Went, entered, exited, taken}
+use Rattle.md_seam.specs.Events.Nested.{enter, exit, pair}
+use Rattle.md_seam.specs.Transition.{Transition, entered, exited, taken}
 use Rattle.md_seam.proofs.SpacesGoods.{does-stands}
 use Rattle.md_seam.proofs.WhiteSteps.{white_after_steps, white_inside_steps, white_start_steps}
 use Rattle.markdown_blocks.specs.Fed.{feeds}
-use Rattle.markdown_blocks.specs.Flow.{after_went, before_content_went, before_heading_atx_went, before_thematic_break_went, blank_line_after_went, blank_line_before_went, containers_after_went, existing_after_went, existing_before_code, flow_end_code, flow_end_went, goes_on_with, new_after_went, new_before_went, start_went}
+use Rattle.markdown_blocks.specs.Flow.{after_transition, before_content_transition, before_heading_atx_transition, before_thematic_break_transition, blank_line_after_transition, blank_line_before_transition, containers_after_transition, existing_after_transition, existing_before_code, flow_end_code, flow_end_transition, goes_on_with, new_after_transition, new_before_transition, start_transition}
 use Rattle.markdown_blocks.specs.FlowRule.{HasFlow, Rule, behind_containers, blank_ended, continues_at, ended, ended_to, existing_by, flow_at, flow_behaves, flow_behaves_by, line_ended, line_then, new_of, quote_opened, tried}
 use Rattle.markdown_blocks.specs.LineFlags as flags
 use Rattle.markdown_blocks.specs.LineFlags.{ending_name, next_container, next_line, went_on}
-use Rattle.markdown_blocks.specs.States.{FlowStep, flow_table_scheme, flow_went}
+use Rattle.markdown_blocks.specs.States.{FlowStep, flow_table_scheme, flow_transition}
 use Rattle.markdown_blocks.proofs.FlowLemmas.{flow_by_line, line_by_container, new_by_container}
 use Rattle.markdown_blocks.proofs.States.{flow_does}
 
@@ -79,69 +79,69 @@ existing_before_steps B feed w options next (Some c) has e =
     (λ rest k. line_then options next rest (record k { flags = went_on k.flags })) (λ s g. new_of options next (feed w.point) (record (here w) { scratch = s; flags = g })) has.existing_after (λ s g. has.new_before _ _)
     ∙ ap (resume B feed w.events f) (asked B options next has c.kind _ _))
 
-existing_after_steps : (B : Behaviour) (feed : Feed) (w : World) (options : ParseOptions) (next : Rule) → HasFlow B options next → Steps B feed (Next n.DocumentContainerExistingAfter) w (existing_after_went w).to (existing_after_went w).world
-existing_after_steps B feed w options next has = passes B feed _ _ w (existing_after_went w).world refl refl (has.existing_after _ _ ∙ sym (has.existing_before _ _))
+existing_after_steps : (B : Behaviour) (feed : Feed) (w : World) (options : ParseOptions) (next : Rule) → HasFlow B options next → Steps B feed (Next n.DocumentContainerExistingAfter) w (existing_after_transition w).to (existing_after_transition w).world
+existing_after_steps B feed w options next has = passes B feed _ _ w (existing_after_transition w).world refl refl (has.existing_after _ _ ∙ sym (has.existing_before _ _))
 
-new_before_steps : (B : Behaviour) (feed : Feed) (w : World) (options : ParseOptions) (next : Rule) → HasFlow B options next → Steps B feed (Next n.DocumentContainerNewBefore) w (new_before_went w).to (new_before_went w).world
+new_before_steps : (B : Behaviour) (feed : Feed) (w : World) (options : ParseOptions) (next : Rule) → HasFlow B options next → Steps B feed (Next n.DocumentContainerNewBefore) w (new_before_transition w).to (new_before_transition w).world
 new_before_steps B feed w options next has =
     let f : Frame = frame_here (Next n.DocumentContainerNewAfter) (Next n.DocumentContainersAfter) w in
-    begins_only B feed _ _ w (new_before_went w).world f refl refl
+    begins_only B feed _ _ w (new_before_transition w).world f refl refl
     (has.new_before _ _ ∙ new_by_container options next (feed w.point) (here w)
     ∙ resumed B feed w (Next n.DocumentContainerNewAfter) (Next n.DocumentContainersAfter) (quote_at options (feed w.point) (here w))
     (λ rest k. new_of options next rest (quote_opened k)) (λ s g. behind_containers options next (feed w.point) (record (here w) { scratch = s; flags = g })) has.new_after (λ s g. has.containers_after _ _)
     ∙ ap (resume B feed w.events f) (sym (has.quote.start _ _)))
 
 -- where containers end no attempt is around, so none goes back to events before these ends
-new_after_steps : (B : Behaviour) (feed : Feed) (w : World) (options : ParseOptions) (next : Rule) → HasFlow B options next → w.frames ≡ [] → Steps B feed (Next n.DocumentContainerNewAfter) w (new_after_went w).to (new_after_went w).world
-new_after_steps B feed w options next has none = changes B feed _ _ w (new_after_went w).world none none (has.new_after _ _ ∙ sym (has.new_before _ _))
+new_after_steps : (B : Behaviour) (feed : Feed) (w : World) (options : ParseOptions) (next : Rule) → HasFlow B options next → w.frames ≡ [] → Steps B feed (Next n.DocumentContainerNewAfter) w (new_after_transition w).to (new_after_transition w).world
+new_after_steps B feed w options next has none = changes B feed _ _ w (new_after_transition w).world none none (has.new_after _ _ ∙ sym (has.new_before _ _))
 
-containers_after_steps : (B : Behaviour) (feed : Feed) (w : World) (options : ParseOptions) (next : Rule) → HasFlow B options next → Steps B feed (Next n.DocumentContainersAfter) w (containers_after_went w).to (containers_after_went w).world
-containers_after_steps B feed w options next has = passes B feed _ _ w (containers_after_went w).world refl refl (has.containers_after _ _ ∙ sym (has.start _ _))
+containers_after_steps : (B : Behaviour) (feed : Feed) (w : World) (options : ParseOptions) (next : Rule) → HasFlow B options next → Steps B feed (Next n.DocumentContainersAfter) w (containers_after_transition w).to (containers_after_transition w).world
+containers_after_steps B feed w options next has = passes B feed _ _ w (containers_after_transition w).world refl refl (has.containers_after _ _ ∙ sym (has.start _ _))
 
 -- The leaf of a line.
 
-start_steps : (B : Behaviour) (feed : Feed) (w : World) (options : ParseOptions) (next : Rule) → HasFlow B options next → Steps B feed (Next n.FlowStart) w (start_went w).to (start_went w).world
+start_steps : (B : Behaviour) (feed : Feed) (w : World) (options : ParseOptions) (next : Rule) → HasFlow B options next → Steps B feed (Next n.FlowStart) w (start_transition w).to (start_transition w).world
 start_steps B feed w options next has = passes B feed _ _ w w refl refl (has.start _ _ ∙ sym (has.blank_line_before _ _))
 
 blank_line_before_steps : (B : Behaviour) (feed : Feed) (w : World) (options : ParseOptions) (next : Rule) → HasFlow B options next →
-    Steps B feed (Next n.FlowBlankLineBefore) w (blank_line_before_went w).to (blank_line_before_went w).world
+    Steps B feed (Next n.FlowBlankLineBefore) w (blank_line_before_transition w).to (blank_line_before_transition w).world
 blank_line_before_steps B feed w options next has =
     let f : Frame = frame_here (Next n.FlowBlankLineAfter) (Next n.FlowBeforeHeadingAtx) w in
-    begins_only B feed _ _ w (blank_line_before_went w).world f refl refl
+    begins_only B feed _ _ w (blank_line_before_transition w).world f refl refl
     (has.blank_line_before _ _
     ∙ resumed B feed w (Next n.FlowBlankLineAfter) (Next n.FlowBeforeHeadingAtx) (blank_at (feed w.point) (here w)) (blank_ended next) _ has.blank_line_after (λ s g. has.before_heading_atx _ _)
     ∙ ap (resume B feed w.events f) (sym (has.blank.start _ _)))
 
 before_heading_atx_steps : (B : Behaviour) (feed : Feed) (w : World) (options : ParseOptions) (next : Rule) → HasFlow B options next →
-    Steps B feed (Next n.FlowBeforeHeadingAtx) w (before_heading_atx_went w).to (before_heading_atx_went w).world
+    Steps B feed (Next n.FlowBeforeHeadingAtx) w (before_heading_atx_transition w).to (before_heading_atx_transition w).world
 before_heading_atx_steps B feed w options next has =
     let f : Frame = frame_here (Next n.FlowAfter) (Next n.FlowBeforeThematicBreak) w in
-    begins_only B feed _ _ w (before_heading_atx_went w).world f refl refl
+    begins_only B feed _ _ w (before_heading_atx_transition w).world f refl refl
     (has.before_heading_atx _ _
     ∙ resumed B feed w (Next n.FlowAfter) (Next n.FlowBeforeThematicBreak) (heading_at options (feed w.point) (here w)) (line_ended next) _ has.behind (λ s g. has.before_thematic_break _ _)
     ∙ ap (resume B feed w.events f) (sym (has.heading.start _ _)))
 
 before_thematic_break_steps : (B : Behaviour) (feed : Feed) (w : World) (options : ParseOptions) (next : Rule) → HasFlow B options next →
-    Steps B feed (Next n.FlowBeforeThematicBreak) w (before_thematic_break_went w).to (before_thematic_break_went w).world
+    Steps B feed (Next n.FlowBeforeThematicBreak) w (before_thematic_break_transition w).to (before_thematic_break_transition w).world
 before_thematic_break_steps B feed w options next has =
     let f : Frame = frame_here (Next n.FlowAfter) (Next n.FlowBeforeContent) w in
-    begins_only B feed _ _ w (before_thematic_break_went w).world f refl refl
+    begins_only B feed _ _ w (before_thematic_break_transition w).world f refl refl
     (has.before_thematic_break _ _
     ∙ resumed B feed w (Next n.FlowAfter) (Next n.FlowBeforeContent) (break_at options (feed w.point) (here w)) (line_ended next) _ has.behind (λ s g. has.before_content _ _)
     ∙ ap (resume B feed w.events f) (sym (has.break.start _ _)))
 
-before_content_steps : (B : Behaviour) (feed : Feed) (w : World) (options : ParseOptions) (next : Rule) → HasFlow B options next → Steps B feed (Next n.FlowBeforeContent) w (before_content_went w).to (before_content_went w).world
+before_content_steps : (B : Behaviour) (feed : Feed) (w : World) (options : ParseOptions) (next : Rule) → HasFlow B options next → Steps B feed (Next n.FlowBeforeContent) w (before_content_transition w).to (before_content_transition w).world
 before_content_steps B feed w options next has =
     let f : Frame = frame_here (Next n.FlowAfter) Nok w in
-    begins_only B feed _ _ w (before_content_went w).world f refl refl
+    begins_only B feed _ _ w (before_content_transition w).world f refl refl
     (has.before_content _ _
     ∙ resumed B feed w (Next n.FlowAfter) Nok (chunk_at (feed w.point) (here w)) (line_ended next) Refuses has.behind (λ s g. refl)
     ∙ ap (resume B feed w.events f) (sym (has.chunk.start _ _)))
 
-blank_line_after_steps : (B : Behaviour) (feed : Feed) (w : World) (options : ParseOptions) (next : Rule) → HasFlow B options next → Steps B feed (Next n.FlowBlankLineAfter) w (blank_line_after_went w).to (blank_line_after_went w).world
-blank_line_after_steps B feed w options next has = passes B feed _ _ w (blank_line_after_went w).world refl refl (has.blank_line_after _ _ ∙ sym (has.flow_end _ _))
+blank_line_after_steps : (B : Behaviour) (feed : Feed) (w : World) (options : ParseOptions) (next : Rule) → HasFlow B options next → Steps B feed (Next n.FlowBlankLineAfter) w (blank_line_after_transition w).to (blank_line_after_transition w).world
+blank_line_after_steps B feed w options next has = passes B feed _ _ w (blank_line_after_transition w).world refl refl (has.blank_line_after _ _ ∙ sym (has.flow_end _ _))
 
-after_steps : (B : Behaviour) (feed : Feed) (w : World) (options : ParseOptions) (next : Rule) → HasFlow B options next → Steps B feed (Next n.FlowAfter) w (after_went w).to (after_went w).world
+after_steps : (B : Behaviour) (feed : Feed) (w : World) (options : ParseOptions) (next : Rule) → HasFlow B options next → Steps B feed (Next n.FlowAfter) w (after_transition w).to (after_transition w).world
 after_steps B feed w options next has = passes B feed _ _ w w refl refl (has.behind _ _ ∙ sym (has.flow_end _ _))
 
 -- The end of a line.
@@ -177,7 +177,7 @@ flow_end_code_steps B feed w v options next (Some b) has none also sees on is = 
     go false e on = rw e (changes B feed _ Nok w v none also (is ∙ rw e refl))
 
 flow_end_steps : (B : Behaviour) (feed : Feed) (w : World) (options : ParseOptions) (next : Rule) → HasFlow B options next → Sees feed w → w.frames ≡ [] → GoesOn B next (feeds n.DocumentFlowEnd w.current) →
-    Steps B feed (Next n.DocumentFlowEnd) w (flow_end_went w).to (flow_end_went w).world
+    Steps B feed (Next n.DocumentFlowEnd) w (flow_end_transition w).to (flow_end_transition w).world
 flow_end_steps B feed w options next has s none on =
     flow_end_code_steps B feed w (closed w (flags.stays w.flags) w.flags.line_end) options next w.current has none none s.next on (has.flow_end _ _ ∙ ap (λ (x : List Cell). line_ended next x (here w)) s.next)
 
@@ -209,7 +209,7 @@ flow_has options next = record {
 -- each state takes one step of what it means
 each_steps : (is_name : ResolveName → ResolveName → Bool) (feed : Feed) (next : Rule) (name : StateName) (w : World) → Sees feed w → stands flow_table_scheme w (Next name) →
     GoesOn (flow_behaves_by w.setting.options next) next (feeds name w.current) →
-    Steps (flow_behaves_by w.setting.options next) feed (Next name) w (flow_went is_name name w).to (flow_went is_name name w).world
+    Steps (flow_behaves_by w.setting.options next) feed (Next name) w (flow_transition is_name name w).to (flow_transition is_name name w).world
 each_steps is_name feed next name w s at on = go name at on
   where
     B : Behaviour
@@ -218,7 +218,7 @@ each_steps is_name feed next name w s at on = go name at on
     has : HasFlow B w.setting.options next
     has = flow_has w.setting.options next
 
-    go : (name : StateName) → stands flow_table_scheme w (Next name) → GoesOn B next (feeds name w.current) → Steps B feed (Next name) w (flow_went is_name name w).to (flow_went is_name name w).world
+    go : (name : StateName) → stands flow_table_scheme w (Next name) → GoesOn B next (feeds name w.current) → Steps B feed (Next name) w (flow_transition is_name name w).to (flow_transition is_name name w).world
     go n.BlankLineStart at on = blank_start_steps B feed w _ has.blank s at.0 refl
     go n.BlankLineAfter at on = blank_after_steps B feed w _ has.blank s refl
     go n.BlockQuoteStart at on = quote_start_steps B feed w _ has.quote refl
@@ -257,7 +257,7 @@ each_steps is_name feed next name w s at on = go name at on
 
 -- whatever follows behind the line, a call that takes no ending is one step of what flow means
 pub flow-steps-by : (is_name : ResolveName → ResolveName → Bool) (feed : Feed) (next : Rule) (name : StateName) (w : World) → Sees feed w → stands flow_table_scheme w (Next name) → feeds name w.current ≡ 0 →
-    Steps (flow_behaves_by w.setting.options next) feed (Next name) w (flow_went is_name name w).to (flow_went is_name name w).world
+    Steps (flow_behaves_by w.setting.options next) feed (Next name) w (flow_transition is_name name w).to (flow_transition is_name name w).world
 flow-steps-by is_name feed next name w s at none = each_steps is_name feed next name w s at (inl none)
 
 -- an ending is taken with no attempt around, and then the rule goes on
@@ -268,13 +268,13 @@ pub record Takes (next : Rule) (feed : Feed) (w : World) (to : State) (new : Wor
   pub goes_on : goes (flow_behaves_by w.setting.options next) (Next n.DocumentFlowEnd) (feed w.point) (here w) ≡ next (feed new.point) (here new)
 
 pub ending-taken : (is_name : ResolveName → ResolveName → Bool) (feed : Feed) (next : Rule) (w : World) → Sees feed w → stands flow_table_scheme w (Next n.DocumentFlowEnd) → w.current ≡ Some 10 →
-    Takes next feed w (flow_went is_name n.DocumentFlowEnd w).to (flow_went is_name n.DocumentFlowEnd w).world
+    Takes next feed w (flow_transition is_name n.DocumentFlowEnd w).to (flow_transition is_name n.DocumentFlowEnd w).world
 ending-taken is_name feed next w s at is = subst P (sym (ap (flow_end_code v) is)) taken_here
   where
     v : World
     v = closed w (flags.stays w.flags) w.flags.line_end
 
-    P : Went → Type 0
+    P : Transition → Type 0
     P x = Takes next feed w x.to x.world
 
     none : w.frames ≡ []
@@ -297,4 +297,4 @@ flow_means is_name options is_end feed name w to new f called step =
 -- and comes to where the table stands
 pub flow_stands : (is_name : ResolveName → ResolveName → Bool) → StandsOn (FlowStep is_name) flow_table_scheme
 flow_stands is_name name w to new at step =
-    does-stands flow_table_scheme name (reading w) (flow_went is_name name (reading w)) to new step.to_is step.new_is (flow_does is_name name (reading w) refl at)
+    does-stands flow_table_scheme name (reading w) (flow_transition is_name name (reading w)) to new step.to_is step.new_is (flow_does is_name name (reading w) refl at)

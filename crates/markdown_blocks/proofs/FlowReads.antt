@@ -34,7 +34,7 @@ use Rattle.md_content.specs.Chunks.{chunk_inside_code, content_link}
 use Rattle.md_content.specs.ContentReads.{content_readings, wants_content}
 use Rattle.md_content.specs.Joined.{joined}
 use Rattle.md_content.specs.Resolves.{Resolves, found_in_content}
-use Rattle.md_seam.specs.Nested.{around, enter_link, exit}
+use Rattle.md_seam.specs.Events.Nested.{around, enter_link, exit}
 use Rattle.md_leaves.specs.Blank as blank
 use Rattle.md_leaves.specs.Break as break
 use Rattle.md_leaves.specs.Heading as heading
@@ -43,7 +43,7 @@ use Rattle.md_leaves.specs.HeadingText.{headings_resolved}
 use Rattle.md_seam.specs.Spaces as spaces
 use Rattle.md_seam.specs.Spaces.{ends_line, is_current, sees_white}
 use Rattle.md_seam.specs.Substituted.{Substituted}
-use Rattle.md_seam.specs.Went.{entered, exited, taken}
+use Rattle.md_seam.specs.Transition.{entered, exited, taken}
 use Rattle.markdown_blocks.specs.Flow as flow
 use Rattle.markdown_blocks.specs.Fed.{FlowRan}
 use Rattle.markdown_blocks.specs.FlowReads.{FlowReads, has_text, text_cells, text_rows, text_setting}
@@ -51,7 +51,7 @@ use Rattle.markdown_blocks.specs.LineFlags.{ending_name, next_container, stays}
 use Rattle.markdown_blocks.specs.Resolved.{resolved_as}
 use Rattle.markdown_blocks.specs.FlowRule.{flow_at, flow_behaves}
 use Rattle.markdown_blocks.specs.Rows.{BlankRow, BreakRow, HeadingRow, Row, RowKind, TextRow, is_text, leaf_events, row_events, row_events_by, rows_events, tail_events}
-use Rattle.markdown_blocks.specs.States.{FlowStep, flow_table_scheme, flow_went}
+use Rattle.markdown_blocks.specs.States.{FlowStep, flow_table_scheme, flow_transition}
 use Rattle.markdown_blocks.proofs.EachEvent.{Each, each-append, each-behind, each-drop, each-front, each-take}
 use Rattle.markdown_blocks.proofs.EachRow.{EachRow}
 use Rattle.markdown_blocks.proofs.FlowLemmas.{flow_by_line}
@@ -283,7 +283,7 @@ break-sequence w false true h = adds w.events _ w.resolvers refl refl h
 break-sequence w false false h = adds w.events _ w.resolvers refl refl h
 
 -- each state of flow keeps it
-went-registers : (name : StateName) (w : World) → Registers w → Registers (flow_went same_name name w).world
+went-registers : (name : StateName) (w : World) → Registers w → Registers (flow_transition same_name name w).world
 went-registers s.BlankLineStart w h = blank-start w (sees_white w.current) h
 went-registers s.BlankLineAfter w h = blank-after w (ends_line w.current) h
 went-registers s.ContentChunkStart w h = adds w.events (enter_link n.Content w.point content_link) w.resolvers refl refl h

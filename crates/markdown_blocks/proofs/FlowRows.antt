@@ -24,16 +24,16 @@ use Rattle.md_leaves.specs.BlankRule.{blank_events}
 use Rattle.md_leaves.specs.HeadingRule.{heading_inside, is_heading_line}
 use Rattle.md_leaves.proofs.HeadingWhole.{heading-refused, heading-taken}
 use Rattle.md_seam.specs.Ahead.{from_ending, line_bytes, line_end}
-use Rattle.md_seam.specs.Nested.{around, enter, enter_link, exit, pair}
-use Rattle.md_seam.specs.Rest.{is_blank}
+use Rattle.md_seam.specs.Events.Nested.{around, enter, enter_link, exit, pair}
+use Rattle.md_seam.specs.Standard.Rest.{is_blank}
 use Rattle.md_seam.specs.Spaces.{IsRest, calmed}
-use Rattle.md_seam.specs.State.{Container, InQuote}
+use Rattle.md_seam.specs.Standard.State.{Container, InQuote}
 use Rattle.md_seam.proofs.SpacesGoods.{rest-calm}
 use Rattle.markdown_blocks.specs.Change.{Change, change_by, container_name, ends_of, interrupts, open_behind, others_of}
 use Rattle.markdown_blocks.specs.FlowRule.{Rule, behind_containers, blank_ended, break_of, content_of, continues_at, ended, ended_to, existing_by, existing_from, flow_at, flow_lines, leaf_of, line_ended, line_then, new_from, new_of, nonblank_of, quote_opened, tried}
 use Rattle.markdown_blocks.specs.LineFlags.{begun_line, ending_name, next_line, stays, went_on}
 use Rattle.markdown_blocks.specs.Rows.{BlankRow, BreakRow, Front, Held, HeadingRow, Passed, Row, RowKind, TextRow, after_ending, break_inside, closes_before, ending_of, goes_at, held_at, held_by, held_of, in_front, inside_of, is_break, is_lazy, is_text, leaf_events, new_front, no_front, opens_at, quote_new, quote_on, row_events, row_kind, row_of, rows_at, rows_events, went_front}
-use Rattle.markdown_blocks.specs.Stands.{AreOpen, Is}
+use Rattle.markdown_blocks.specs.Stands.{AreOpen, MatchesContainer}
 use Rattle.markdown_blocks.proofs.ContainedLemmas.{lazy-some}
 use Rattle.markdown_blocks.proofs.FlowLemmas.{from_ending-shrinks}
 use Rattle.markdown_blocks.proofs.LeafRows.{blank-refused, blank-took, break-refused, break-took, chunk-took}
@@ -109,7 +109,7 @@ leaf-is options next cells h is = go (is_blank (line_bytes cells)) refl
 
 -- The containers that the tokenizer holds.
 
-known-name : (k : Known) (c : Container) → Is k c → name_of k.kind ≡ container_name c
+known-name : (k : Known) (c : Container) → MatchesContainer k c → name_of k.kind ≡ container_name c
 known-name k InQuote is = ap name_of is
 known-name k c is = absurd is
 
@@ -138,7 +138,7 @@ open-all n ks cs e are = let P : List Known → Type 0 = λ l. AreOpen l cs in s
 record IsNext (ks : List Known) (n : ℕ) (c : Container) (cs : List Container) : Type 0 where
   held : Known
   found : slice_get ks n ≡ Some held
-  is : Is held c
+  is : MatchesContainer held c
   more : AreOpen (drop (suc n) ks) cs
   inside : n < length ks
 
@@ -197,7 +197,7 @@ asked : (options : ParseOptions) (k : ContainerKind) (cells : List Cell) (h : He
 asked options kind.BlockQuote cells h = refl
 
 -- an open container goes on where its cells say so;
-further-is : (options : ParseOptions) (k : Known) (c : Container) (cells : List Cell) (h : Here) → IsRest h.scratch → Is k c → continues_at options k.kind cells h ≡ passed_by (goes_at options c cells h.point) h
+further-is : (options : ParseOptions) (k : Known) (c : Container) (cells : List Cell) (h : Here) → IsRest h.scratch → MatchesContainer k c → continues_at options k.kind cells h ≡ passed_by (goes_at options c cells h.point) h
 further-is options k InQuote cells h is same = asked options k.kind cells h ∙ prefix-is options cells h is ∙ go (takes_prefix options cells)
   where
     go : (x : Bool) → cond x (Accepts (passed_here (quote_on options cells h.point) h) (prefix_rest options cells)) (Refuses h.scratch h.flags) ≡ passed_by (cond x (Some (quote_on options cells h.point)) None) h
@@ -206,11 +206,11 @@ further-is options k InQuote cells h is same = asked options k.kind cells h ∙ 
 further-is options k c cells h is same = absurd same
 
 -- then it is still the same container,
-goes-same : (options : ParseOptions) (k : Known) (c : Container) (cells : List Cell) (p : Point) (t : Passed) → Is k c → goes_at options c cells p ≡ Some t → Is k t.container
+goes-same : (options : ParseOptions) (k : Known) (c : Container) (cells : List Cell) (p : Point) (t : Passed) → MatchesContainer k c → goes_at options c cells p ≡ Some t → MatchesContainer k t.container
 goes-same options k InQuote cells p t is e = go (takes_prefix options cells) e
   where
-    go : (x : Bool) → cond x (Some (quote_on options cells p)) None ≡ Some t → Is k t.container
-    go true e = let same : quote_on options cells p ≡ t = cc in let P : Passed → Type 0 = λ x. Is k x.container in subst P same is
+    go : (x : Bool) → cond x (Some (quote_on options cells p)) None ≡ Some t → MatchesContainer k t.container
+    go true e = let same : quote_on options cells p ≡ t = cc in let P : Passed → Type 0 = λ x. MatchesContainer k x.container in subst P same is
     go false e = cc
 goes-same options k c cells p t is e = absurd is
 
@@ -231,11 +231,11 @@ opening-is options interrupting cells h is = quote-is options cells h is ∙ go 
     go true = refl
     go false = refl
 
-opens-same : (options : ParseOptions) (interrupting : Bool) (cells : List Cell) (p : Point) (t : Passed) → opens_at options interrupting cells p ≡ Some t → Is (record { kind = kind.BlockQuote }) t.container
+opens-same : (options : ParseOptions) (interrupting : Bool) (cells : List Cell) (p : Point) (t : Passed) → opens_at options interrupting cells p ≡ Some t → MatchesContainer (record { kind = kind.BlockQuote }) t.container
 opens-same options interrupting cells p t e = go (options.constructs.block_quote && takes_prefix options cells) e
   where
-    go : (x : Bool) → cond x (Some (quote_new options cells p)) None ≡ Some t → Is (record { kind = kind.BlockQuote }) t.container
-    go true e = let same : quote_new options cells p ≡ t = cc in let P : Passed → Type 0 = λ x. Is (record { kind = kind.BlockQuote }) x.container in subst P same refl
+    go : (x : Bool) → cond x (Some (quote_new options cells p)) None ≡ Some t → MatchesContainer (record { kind = kind.BlockQuote }) t.container
+    go true e = let same : quote_new options cells p ≡ t = cc in let P : Passed → Type 0 = λ x. MatchesContainer (record { kind = kind.BlockQuote }) x.container in subst P same refl
     go false e = cc
 
 opens-shorter : (options : ParseOptions) (interrupting : Bool) (cells : List Cell) (p : Point) (t : Passed) → opens_at options interrupting cells p ≡ Some t → length t.cells < length cells

@@ -20,10 +20,10 @@ use Rattle.md_leaves.specs.BreakRule.{Apart, runs}
 use Rattle.md_leaves.specs.HeadingText.{begins, headings_resolved, is_heading}
 use Rattle.md_seam.specs.declared.inline.Chunk.{Chunk}
 use Rattle.md_seam.specs.Ahead.{begins_white, from_ending, line_cells, line_end, point_after, white_end, white_rest}
-use Rattle.md_seam.specs.Nested.{enter_link, exit, pair, is_exit}
-use Rattle.md_seam.specs.Rest.{is_white}
+use Rattle.md_seam.specs.Events.Nested.{enter_link, exit, pair, is_exit}
+use Rattle.md_seam.specs.Standard.Rest.{is_white}
 use Rattle.md_seam.specs.Spaces.{small_indent}
-use Rattle.md_seam.specs.State.{Container, InFootnote, InItem, InQuote}
+use Rattle.md_seam.specs.Standard.State.{Container, InFootnote, InItem, InQuote}
 use Rattle.md_seam.specs.Substituted.{Readings, Substituted}
 use Rattle.md_seam.proofs.SpelledLemmas.{Quiet, Roles, roles-append}
 use Rattle.markdown_blocks.specs.Change.{interrupts, open_behind, others_of}

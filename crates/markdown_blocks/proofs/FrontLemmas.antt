@@ -6,17 +6,17 @@ use Rattle.md_engine.specs.declared.event.Event.{Event}
 use Rattle.md_engine.specs.declared.event.Name.{Name}
 use Rattle.md_engine.specs.declared.event.Name.TheVariants as n
 use Rattle.md_engine.specs.declared.event.Point.{Point}
-use Rattle.md_seam.specs.Inline.{pair_unless_empty}
-use Rattle.md_seam.specs.Nested.{Balanced, Matches, enter, exit, last_point, open_after, pair}
-use Rattle.md_seam.specs.Places.{at_or_before, same_place}
-use Rattle.md_seam.specs.Spelled.{FootnoteShape, IsQuiet, ItemShape, OrderedShape, QuoteShape, Role, Shape, UnorderedShape, role}
-use Rattle.md_seam.specs.Spelled as spelled
-use Rattle.md_seam.specs.State.{Container, InFootnote, InItem, InQuote}
+use Rattle.md_seam.specs.Events.Inline.{pair_unless_empty}
+use Rattle.md_seam.specs.Events.Nested.{Balanced, Matches, enter, exit, last_point, open_after, pair}
+use Rattle.md_seam.specs.Events.Places.{at_or_before, same_place}
+use Rattle.md_seam.specs.Events.Spelled.{FootnoteShape, IsQuiet, ItemShape, OrderedShape, QuoteShape, Role, Shape, UnorderedShape, role}
+use Rattle.md_seam.specs.Events.Spelled as spelled
+use Rattle.md_seam.specs.Standard.State.{Container, InFootnote, InItem, InQuote}
 use Rattle.md_seam.proofs.NestedLemmas.{at_or_before-refl, at_or_before-trans, balanced-append, balanced-matches, balanced-none, balanced-open, forward-last, matches-append, open_after-append}
 use Rattle.md_seam.proofs.SpelledLemmas.{Roles, roles-append}
 use Rattle.markdown_blocks.specs.Change.{container_name, ends_of}
 use Rattle.markdown_blocks.specs.Stands.{shape_of}
-use Rattle.markdown_blocks.proofs.FrontFacts.{Begins, Behind, Fronts, Goes, IsFurther, IsOpening, IsPrefix}
+use Rattle.markdown_blocks.proofs.FrontFacts.{Begins, Behind, LinePrefix, Goes, IsContinuationPrefix, IsOpeningPrefix, IsPrefix}
 use Rattle.markdown_blocks.proofs.TitleNests.{Spans, spans-append}
 
 -- Prefixes.
@@ -60,40 +60,40 @@ prefix-spans bytes p q es is = subst (Spans p q) (sym is.events) (list-spans p i
 -- What stands in front of the content of a container.
 
 -- of one that goes on,
-further-balanced : (bytes : List ℕ) (c : Container) (p q : Point) (es : List Event) → IsFurther bytes c p q es → Balanced es
+further-balanced : (bytes : List ℕ) (c : Container) (p q : Point) (es : List Event) → IsContinuationPrefix bytes c p q es → Balanced es
 further-balanced bytes InQuote p q es is = prefix-balanced bytes p q es is
 further-balanced bytes c p q es is = absurd is
 
-further-spans : (bytes : List ℕ) (c : Container) (p q : Point) (es : List Event) → IsFurther bytes c p q es → Spans p q es
+further-spans : (bytes : List ℕ) (c : Container) (p q : Point) (es : List Event) → IsContinuationPrefix bytes c p q es → Spans p q es
 further-spans bytes InQuote p q es is = prefix-spans bytes p q es is
 further-spans bytes c p q es is = absurd is
 
 -- and of one that opens
-opening-balanced : (bytes : List ℕ) (c : Container) (p q : Point) (es : List Event) → IsOpening bytes c p q es → Balanced es
+opening-balanced : (bytes : List ℕ) (c : Container) (p q : Point) (es : List Event) → IsOpeningPrefix bytes c p q es → Balanced es
 opening-balanced bytes InQuote p q es is = prefix-balanced bytes p q es is
 opening-balanced bytes c p q es is = absurd is
 
-opening-spans : (bytes : List ℕ) (c : Container) (p q : Point) (es : List Event) → IsOpening bytes c p q es → Spans p q es
+opening-spans : (bytes : List ℕ) (c : Container) (p q : Point) (es : List Event) → IsOpeningPrefix bytes c p q es → Spans p q es
 opening-spans bytes InQuote p q es is = prefix-spans bytes p q es is
 opening-spans bytes c p q es is = absurd is
 
--- Fronts.
+-- LinePrefix.
 
 -- they go forward, from the begin of the line to its rest
-pub fronts-spans : (bytes : List ℕ) (opens : List Container) (p q : Point) (front : List Event) → Fronts bytes opens p q front → Spans p q front
+pub fronts-spans : (bytes : List ℕ) (opens : List Container) (p q : Point) (front : List Event) → LinePrefix bytes opens p q front → Spans p q front
 fronts-spans bytes _ p _ _ (Behind _) = (tt, at_or_before-refl p)
 fronts-spans bytes opens p r _ (Goes c _ _ q _ es fs is more) = spans-append p q r es fs (further-spans bytes c p q es is) (fronts-spans bytes opens q r fs more)
 fronts-spans bytes _ p r _ (Begins c opens _ q _ es fs is more) =
     let spans : Spans p r (es ++ fs) = spans-append p q r es fs (opening-spans bytes c p q es is) (fronts-spans bytes opens q r fs more) in
     ((at_or_before-refl p, spans.0), spans.1)
 
-pub fronts-order : (bytes : List ℕ) (opens : List Container) (p q : Point) (front : List Event) → Fronts bytes opens p q front → IsTrue (at_or_before p q)
+pub fronts-order : (bytes : List ℕ) (opens : List Container) (p q : Point) (front : List Event) → LinePrefix bytes opens p q front → IsTrue (at_or_before p q)
 fronts-order bytes opens p q front is =
     let spans : Spans p q front = fronts-spans bytes opens p q front is in
     at_or_before-trans p (last_point p front) q (forward-last p front spans.0) spans.1
 
 -- where no container begins, they nest
-pub fronts-balanced : (bytes : List ℕ) (opens : List Container) (p q : Point) (front : List Event) → Fronts bytes opens p q front → opens ≡ [] → Balanced front
+pub fronts-balanced : (bytes : List ℕ) (opens : List Container) (p q : Point) (front : List Event) → LinePrefix bytes opens p q front → opens ≡ [] → Balanced front
 fronts-balanced bytes _ p _ _ (Behind _) e = balanced-none
 fronts-balanced bytes opens p r _ (Goes c _ _ q _ es fs is more) e = balanced-append es fs (further-balanced bytes c p q es is) (fronts-balanced bytes opens q r fs more e)
 fronts-balanced bytes _ p r _ (Begins c opens _ q _ es fs is more) e = cc
@@ -112,15 +112,15 @@ list-roles P p marker behind q quiet prefix = go (same_place p marker) (same_pla
 prefix-roles : (P : Role → Type 0) (bytes : List ℕ) (p q : Point) (es : List Event) → P IsQuiet → P spelled.IsPrefix → IsPrefix bytes p q es → Roles P es
 prefix-roles P bytes p q es quiet prefix is = subst (Roles P) (sym is.events) (list-roles P p is.marker is.behind q quiet prefix)
 
-further-roles : (P : Role → Type 0) (bytes : List ℕ) (c : Container) (p q : Point) (es : List Event) → P IsQuiet → P spelled.IsPrefix → IsFurther bytes c p q es → Roles P es
+further-roles : (P : Role → Type 0) (bytes : List ℕ) (c : Container) (p q : Point) (es : List Event) → P IsQuiet → P spelled.IsPrefix → IsContinuationPrefix bytes c p q es → Roles P es
 further-roles P bytes InQuote p q es quiet prefix is = prefix-roles P bytes p q es quiet prefix is
 further-roles P bytes c p q es quiet prefix is = absurd is
 
-opening-roles : (P : Role → Type 0) (bytes : List ℕ) (c : Container) (p q : Point) (es : List Event) → P IsQuiet → P spelled.IsPrefix → IsOpening bytes c p q es → Roles P es
+opening-roles : (P : Role → Type 0) (bytes : List ℕ) (c : Container) (p q : Point) (es : List Event) → P IsQuiet → P spelled.IsPrefix → IsOpeningPrefix bytes c p q es → Roles P es
 opening-roles P bytes InQuote p q es quiet prefix is = prefix-roles P bytes p q es quiet prefix is
 opening-roles P bytes c p q es quiet prefix is = absurd is
 
-pub fronts-roles : (P : Role → Type 0) (bytes : List ℕ) (opens : List Container) (p q : Point) (front : List Event) → P IsQuiet → P spelled.IsPrefix → ((c : Container) → P (role (container_name c))) → Fronts bytes opens p q front → Roles P front
+pub fronts-roles : (P : Role → Type 0) (bytes : List ℕ) (opens : List Container) (p q : Point) (front : List Event) → P IsQuiet → P spelled.IsPrefix → ((c : Container) → P (role (container_name c))) → LinePrefix bytes opens p q front → Roles P front
 fronts-roles P bytes _ p _ _ quiet prefix holds (Behind _) = tt
 fronts-roles P bytes opens p r _ quiet prefix holds (Goes c _ _ q _ es fs is more) =
     roles-append P es fs (further-roles P bytes c p q es quiet prefix is) (fronts-roles P bytes opens q r fs quiet prefix holds more)
@@ -182,7 +182,7 @@ turns-append a b c xs ys h k = record {
 }
 
 -- what stands in front of a line opens the containers that begin in it
-pub fronts-turn : (bytes : List ℕ) (opens : List Container) (names : List Name) (p q : Point) (front : List Event) → Fronts bytes opens p q front → Turns names (open_names opens ++ names) front
+pub fronts-turn : (bytes : List ℕ) (opens : List Container) (names : List Name) (p q : Point) (front : List Event) → LinePrefix bytes opens p q front → Turns names (open_names opens ++ names) front
 fronts-turn bytes _ names p _ _ (Behind _) = turns-balanced names [] balanced-none
 fronts-turn bytes opens names p r _ (Goes c _ _ q _ es fs is more) =
     turns-append names names (open_names opens ++ names) es fs (turns-balanced names es (further-balanced bytes c p q es is)) (fronts-turn bytes opens names q r fs more)

@@ -8,19 +8,19 @@ use Rattle.md_engine.specs.declared.event.Name.TheVariants as n
 use Rattle.md_engine.specs.declared.event.Point.{Point}
 use Rattle.md_content.specs.Joined.{content_behind, is_content}
 use Rattle.md_leaves.specs.HeadingText.{is_heading}
-use Rattle.md_seam.specs.Inline.{pair_unless_empty}
-use Rattle.md_seam.specs.Nested.{enter, exit, pair, is_enter}
-use Rattle.md_seam.specs.Places.{same_place}
-use Rattle.md_seam.specs.State.{Container, InFootnote, InItem, InQuote}
+use Rattle.md_seam.specs.Events.Inline.{pair_unless_empty}
+use Rattle.md_seam.specs.Events.Nested.{enter, exit, pair, is_enter}
+use Rattle.md_seam.specs.Events.Places.{same_place}
+use Rattle.md_seam.specs.Standard.State.{Container, InFootnote, InItem, InQuote}
 use Rattle.md_seam.specs.Substituted.{is_prefix}
 use Rattle.markdown_blocks.specs.Change.{container_name, ends_of, is_none}
 use Rattle.markdown_blocks.specs.Rows.{Row}
-use Rattle.markdown_blocks.proofs.FrontFacts.{Fronts, IsFurther, IsOpening, IsPrefix}
-use Rattle.markdown_blocks.proofs.FrontFacts.Fronts.{Begins, Behind, Goes}
+use Rattle.markdown_blocks.proofs.FrontFacts.{LinePrefix, IsContinuationPrefix, IsOpeningPrefix, IsPrefix}
+use Rattle.markdown_blocks.proofs.FrontFacts.LinePrefix.{Begins, Behind, Goes}
 
 -- what stands in front of a line are prefixes and begins of containers
 abbrev pub HasFront : List ℕ → Row → Type 0
-HasFront bytes row = (p : Point) × Fronts bytes row.change.opens p row.first row.front
+HasFront bytes row = (p : Point) × LinePrefix bytes row.change.opens p row.first row.front
 
 -- What they are.
 
@@ -49,12 +49,12 @@ prefix-are bytes p q es is =
     (prefixes-append (indent ++ marker) (exit n.BlockQuotePrefix q ∷ [])
     (prefixes-append indent marker (pair-prefixes p is.marker) (refl, refl, (refl, refl, (refl, refl, pair-prefixes is.behind q)))) (refl, refl, tt))
 
-pub further-are : (bytes : List ℕ) (c : Container) (p q : Point) (es : List Event) → IsFurther bytes c p q es → ArePrefixes es
+pub further-are : (bytes : List ℕ) (c : Container) (p q : Point) (es : List Event) → IsContinuationPrefix bytes c p q es → ArePrefixes es
 further-are bytes InQuote p q es is = prefix-are bytes p q es is
 further-are bytes c p q es is = absurd is
 
 -- where no container begins there are prefixes alone
-pub fronts-prefixes : (bytes : List ℕ) (opens : List Container) (p q : Point) (es : List Event) → opens ≡ [] → Fronts bytes opens p q es → ArePrefixes es
+pub fronts-prefixes : (bytes : List ℕ) (opens : List Container) (p q : Point) (es : List Event) → opens ≡ [] → LinePrefix bytes opens p q es → ArePrefixes es
 fronts-prefixes bytes opens p q es none (Behind r) = tt
 fronts-prefixes bytes opens p q es none (Goes c same first mid last xs ys is more) = prefixes-append xs ys (further-are bytes c first mid xs is) (fronts-prefixes bytes same mid last ys none more)
 fronts-prefixes bytes opens p q es none (Begins c below first mid last xs ys is more) = cc
@@ -84,7 +84,7 @@ pub prefixes-front : (es : List Event) → ArePrefixes es → AreFront es
 prefixes-front [] h = tt
 prefixes-front (e ∷ es) h = (front-name e.name h.0, h.1, prefixes-front es h.2)
 
-pub opening-are : (bytes : List ℕ) (c : Container) (p q : Point) (es : List Event) → IsOpening bytes c p q es → AreFront es
+pub opening-are : (bytes : List ℕ) (c : Container) (p q : Point) (es : List Event) → IsOpeningPrefix bytes c p q es → AreFront es
 opening-are bytes InQuote p q es is = prefixes-front es (prefix-are bytes p q es is)
 opening-are bytes c p q es is = absurd is
 
@@ -93,7 +93,7 @@ container-front InQuote = refl
 container-front (InItem digits marker width starts_blank) = refl
 container-front (InFootnote label) = refl
 
-pub fronts-are : (bytes : List ℕ) (opens : List Container) (p q : Point) (es : List Event) → Fronts bytes opens p q es → AreFront es
+pub fronts-are : (bytes : List ℕ) (opens : List Container) (p q : Point) (es : List Event) → LinePrefix bytes opens p q es → AreFront es
 fronts-are bytes opens p q es (Behind r) = tt
 fronts-are bytes opens p q es (Goes c same first mid last xs ys is more) = front-append xs ys (prefixes-front xs (further-are bytes c first mid xs is)) (fronts-are bytes same mid last ys more)
 fronts-are bytes opens p q es (Begins c below first mid last xs ys is more) = (container-front c, refl, front-append xs ys (opening-are bytes c first mid xs is) (fronts-are bytes below mid last ys more))
@@ -139,7 +139,7 @@ begin-stops (InFootnote label) p ys = refl
 pub end-stops : (c : Container) (p : Point) (ys : List Event) → content_behind (exit (container_name c) p ∷ ys) ≡ false
 end-stops c p ys = ap (λ (x : Bool). cond x (content_behind ys) false) (container-prefix c)
 
-pub fronts-stop : (bytes : List ℕ) (opens : List Container) (p q : Point) (es : List Event) → (ys : List Event) → is_none opens ≡ false → Fronts bytes opens p q es → content_behind (es ++ ys) ≡ false
+pub fronts-stop : (bytes : List ℕ) (opens : List Container) (p q : Point) (es : List Event) → (ys : List Event) → is_none opens ≡ false → LinePrefix bytes opens p q es → content_behind (es ++ ys) ≡ false
 fronts-stop bytes opens p q es ys some (Behind r) = cc
 fronts-stop bytes opens p q es ys some (Goes c same first mid last xs fs is more) =
     ap content_behind (append_assoc xs fs ys) ∙ prefixes-content xs (fs ++ ys) (further-are bytes c first mid xs is) ∙ fronts-stop bytes same mid last fs ys some more

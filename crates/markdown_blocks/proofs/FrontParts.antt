@@ -5,13 +5,13 @@ use Rattle.md_engine.specs.declared.event.Event.{Event}
 use Rattle.md_engine.specs.declared.event.Name.{Name}
 use Rattle.md_engine.specs.declared.event.Name.TheVariants as n
 use Rattle.md_engine.specs.declared.event.Point.{Point}
-use Rattle.md_seam.specs.Inline.{pair_unless_empty}
-use Rattle.md_seam.specs.Nested.{enter, exit, pair}
-use Rattle.md_seam.specs.Places.{same_place}
-use Rattle.md_seam.specs.State.{Container, InFootnote, InItem, InQuote}
-use Rattle.md_seam.specs.Tiles.{part_kind}
+use Rattle.md_seam.specs.Events.Inline.{pair_unless_empty}
+use Rattle.md_seam.specs.Events.Nested.{enter, exit, pair}
+use Rattle.md_seam.specs.Events.Places.{same_place}
+use Rattle.md_seam.specs.Standard.State.{Container, InFootnote, InItem, InQuote}
+use Rattle.md_seam.specs.Events.Tiles.{part_kind}
 use Rattle.markdown_blocks.specs.Change.{container_name, ends_of}
-use Rattle.markdown_blocks.proofs.FrontFacts.{Behind, Begins, Fronts, Goes, IsFurther, IsOpening, IsPrefix}
+use Rattle.markdown_blocks.proofs.FrontFacts.{Behind, Begins, LinePrefix, Goes, IsContinuationPrefix, IsOpeningPrefix, IsPrefix}
 use Rattle.markdown_blocks.proofs.PartFacts.{NoParts, no_links-append, no_parts-append}
 use Rattle.markdown_blocks.proofs.TitleFacts.{NoLinks}
 
@@ -32,15 +32,15 @@ prefix-unlinked bytes p q es is =
     (no_links-append (indent ++ marker) (exit n.BlockQuotePrefix q ∷ [])
     (no_links-append indent marker (unless_empty-unlinked n.SpaceOrTab p is.marker) (refl, (refl, (refl, unless_empty-unlinked n.SpaceOrTab is.behind q)))) (refl, tt))
 
-further-unlinked : (bytes : List ℕ) (c : Container) (p q : Point) (es : List Event) → IsFurther bytes c p q es → NoLinks es
+further-unlinked : (bytes : List ℕ) (c : Container) (p q : Point) (es : List Event) → IsContinuationPrefix bytes c p q es → NoLinks es
 further-unlinked bytes InQuote p q es is = prefix-unlinked bytes p q es is
 further-unlinked bytes c p q es is = absurd is
 
-opening-unlinked : (bytes : List ℕ) (c : Container) (p q : Point) (es : List Event) → IsOpening bytes c p q es → NoLinks es
+opening-unlinked : (bytes : List ℕ) (c : Container) (p q : Point) (es : List Event) → IsOpeningPrefix bytes c p q es → NoLinks es
 opening-unlinked bytes InQuote p q es is = prefix-unlinked bytes p q es is
 opening-unlinked bytes c p q es is = absurd is
 
-pub fronts-unlinked : (bytes : List ℕ) (opens : List Container) (p q : Point) (es : List Event) → Fronts bytes opens p q es → NoLinks es
+pub fronts-unlinked : (bytes : List ℕ) (opens : List Container) (p q : Point) (es : List Event) → LinePrefix bytes opens p q es → NoLinks es
 fronts-unlinked bytes opens p q es (Behind at) = tt
 fronts-unlinked bytes opens first last es (Goes c same p q r xs ys is more) = no_links-append xs ys (further-unlinked bytes c p q xs is) (fronts-unlinked bytes same q r ys more)
 fronts-unlinked bytes opens first last es (Begins c below p q r xs ys is more) = (refl, no_links-append xs ys (opening-unlinked bytes c p q xs is) (fronts-unlinked bytes below q r ys more))
@@ -66,11 +66,11 @@ prefix-no_parts bytes p q es is =
     (no_parts-append (indent ++ marker) (exit n.BlockQuotePrefix q ∷ [])
     (no_parts-append indent marker (unless_empty-no_parts p is.marker) (refl, (refl, (refl, unless_empty-no_parts is.behind q)))) (refl, tt))
 
-further-no_parts : (bytes : List ℕ) (c : Container) (p q : Point) (es : List Event) → IsFurther bytes c p q es → NoParts es
+further-no_parts : (bytes : List ℕ) (c : Container) (p q : Point) (es : List Event) → IsContinuationPrefix bytes c p q es → NoParts es
 further-no_parts bytes InQuote p q es is = prefix-no_parts bytes p q es is
 further-no_parts bytes c p q es is = absurd is
 
-opening-no_parts : (bytes : List ℕ) (c : Container) (p q : Point) (es : List Event) → IsOpening bytes c p q es → NoParts es
+opening-no_parts : (bytes : List ℕ) (c : Container) (p q : Point) (es : List Event) → IsOpeningPrefix bytes c p q es → NoParts es
 opening-no_parts bytes InQuote p q es is = prefix-no_parts bytes p q es is
 opening-no_parts bytes c p q es is = absurd is
 
@@ -80,7 +80,7 @@ container-no_part InQuote = refl
 container-no_part (InItem digits marker width starts_blank) = refl
 container-no_part (InFootnote label) = refl
 
-pub fronts-no_parts : (bytes : List ℕ) (opens : List Container) (p q : Point) (es : List Event) → Fronts bytes opens p q es → NoParts es
+pub fronts-no_parts : (bytes : List ℕ) (opens : List Container) (p q : Point) (es : List Event) → LinePrefix bytes opens p q es → NoParts es
 fronts-no_parts bytes opens p q es (Behind at) = tt
 fronts-no_parts bytes opens first last es (Goes c same p q r xs ys is more) = no_parts-append xs ys (further-no_parts bytes c p q xs is) (fronts-no_parts bytes same q r ys more)
 fronts-no_parts bytes opens first last es (Begins c below p q r xs ys is more) =

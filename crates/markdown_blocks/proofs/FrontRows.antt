@@ -9,10 +9,10 @@ use Rattle.md_engine.specs.declared.tokenizer.Line.{Line}
 use Rattle.md_engine.specs.Meaning.{Cell}
 use Rattle.md_containers.specs.QuoteRule.{prefix_end, prefix_events, prefix_rest, takes_prefix}
 use Rattle.md_containers.proofs.QuoteLines.{HasPrefix, PrefixIs, prefix-agrees, quote-container, quote-no_ending}
-use Rattle.md_seam.specs.Containers.{Taken, continues, opens, opens_quote, quote_taken}
-use Rattle.md_seam.specs.Nested.{enter}
-use Rattle.md_seam.specs.Rest.{Rest}
-use Rattle.md_seam.specs.State.{Container, InQuote}
+use Rattle.md_seam.specs.Standard.Containers.{Taken, continues, opens, opens_quote, quote_taken}
+use Rattle.md_seam.specs.Events.Nested.{enter}
+use Rattle.md_seam.specs.Standard.Rest.{Rest}
+use Rattle.md_seam.specs.Standard.State.{Container, InQuote}
 use Rattle.md_seam.proofs.ContainerLemmas.{opens-leaves}
 use Rattle.md_seam.proofs.FeedLines.{Stops}
 use Rattle.md_seam.proofs.RestCells.{RestAt, past_rest, rest_cells}
@@ -22,7 +22,7 @@ use Rattle.markdown_blocks.specs.Fronted.{Contained, Prefixed, contained, contai
 use Rattle.markdown_blocks.specs.Parsed.{IsBuilt}
 use Rattle.markdown_blocks.specs.Rows.{Front, Held, Passed, goes_at, held_at, held_behind, held_by, in_front, is_lazy, line_kind, new_front, no_front, opens_at, quote_new, quote_on, row_kind, went_front}
 use Rattle.markdown_blocks.proofs.ContainedLemmas.{change-opens, quote-alone}
-use Rattle.markdown_blocks.proofs.FrontFacts.{Behind, Begins, Fronts, Goes, IsFurther, IsOpening}
+use Rattle.markdown_blocks.proofs.FrontFacts.{Behind, Begins, LinePrefix, Goes, IsContinuationPrefix, IsOpeningPrefix}
 use Rattle.markdown_blocks.proofs.RestRows.{kind-rest}
 
 -- The containers that flow reads; there are only quotes yet.
@@ -59,14 +59,14 @@ record HasPassed (line : Line) (text past : List ℕ) (end : Point) (stop cells 
 -- of one that goes on: this stands in front of its content
 record HasFurther (line : Line) (text past : List ℕ) (p end : Point) (stop cells : List Cell) (passed : Passed) (taken : Taken) : Type 0 where
   passes : HasPassed line text past end stop cells passed taken
-  further : IsFurther text passed.container p passed.point passed.events
+  further : IsContinuationPrefix text passed.container p passed.point passed.events
 
 -- of one that opens: this stands behind its begin; it takes a cell
 record HasOpening (line : Line) (text past : List ℕ) (p end : Point) (stop cells : List Cell) (passed : Passed) (taken : Taken) : Type 0 where
   passes : HasPassed line text past end stop cells passed taken
   inside : List Event
   events : passed.events ≡ enter (container_name passed.container) p ∷ inside
-  opening : IsOpening text passed.container p passed.point inside
+  opening : IsOpeningPrefix text passed.container p passed.point inside
   fewer : length passed.cells < length cells
 
 -- a container goes on, or opens, by the cells of a line where it does by its bytes
@@ -181,7 +181,7 @@ front-more line text past end stop cells a t f q one is = record {
 -- those that go on: more may stand behind them
 record HasWent (line : Line) (text past : List ℕ) (p end : Point) (stop cells : List Cell) (f : Front) (q : Prefixed) : Type 0 where
   front : HasFront line text past end stop cells f q
-  fronts : (opens : List Container) (r : Point) (es : List Event) → Fronts text opens f.point r es → Fronts text opens p r (f.events ++ es)
+  fronts : (opens : List Container) (r : Point) (es : List Event) → LinePrefix text opens f.point r es → LinePrefix text opens p r (f.events ++ es)
 
 went-none : (line : Line) (text past : List ℕ) (r : Rest) (stop : List Cell) (p : Point) → RestAt text past r p → NoEnding r.bytes → HasWent line text past p (past_rest r p) stop (rest_cells line r p ++ stop) (no_front (rest_cells line r p ++ stop) p) (no_prefix r)
 went-none line text past r stop p is h = record { front = front-none line text past r stop p is h; fronts = λ opens q es fs. fs }
@@ -190,7 +190,7 @@ went-more : (line : Line) (text past : List ℕ) (p end : Point) (stop cells : L
     HasWent line text past a.point (past_rest t.rest a.point) stop a.cells f q → HasWent line text past p end stop cells (in_front a f) (one_more t.container q)
 went-more line text past p end stop cells a t f q one is = record {
   front = front-more line text past end stop cells a t f q one.passes is.front;
-  fronts = λ opens r es fs. subst (Fronts text opens p r) (sym (append_assoc a.events f.events es)) (Goes a.container opens p a.point r a.events (f.events ++ es) one.further (is.fronts opens r es fs));
+  fronts = λ opens r es fs. subst (LinePrefix text opens p r) (sym (append_assoc a.events f.events es)) (Goes a.container opens p a.point r a.events (f.events ++ es) one.further (is.fronts opens r es fs));
 }
 
 went-is : (options : ParseOptions) (line : Line) (text past : List ℕ) (cs : List Container) (r : Rest) (stop : List Cell) (p : Point) → AreRead cs → RestAt text past r p → NoEnding r.bytes → Stops stop → length (rest_cells line r p ++ stop) < 2 ^ 63 →
@@ -222,7 +222,7 @@ went-is options line text past (c ∷ cs) r stop p read is h k short = go (goes_
 -- those that open
 record HasNew (line : Line) (text past : List ℕ) (p end : Point) (stop cells : List Cell) (f : Front) (q : Prefixed) : Type 0 where
   front : HasFront line text past end stop cells f q
-  fronts : Fronts text f.containers p f.point f.events
+  fronts : LinePrefix text f.containers p f.point f.events
 
 new-none : (line : Line) (text past : List ℕ) (r : Rest) (stop : List Cell) (p : Point) → RestAt text past r p → NoEnding r.bytes → HasNew line text past p (past_rest r p) stop (rest_cells line r p ++ stop) (no_front (rest_cells line r p ++ stop) p) (no_prefix r)
 new-none line text past r stop p is h = record { front = front-none line text past r stop p is h; fronts = Behind p }
@@ -231,7 +231,7 @@ new-more : (line : Line) (text past : List ℕ) (p end : Point) (stop cells : Li
     HasNew line text past a.point (past_rest t.rest a.point) stop a.cells f q → HasNew line text past p end stop cells (in_front a f) (one_more t.container q)
 new-more line text past p end stop cells a t f q one is = record {
   front = front-more line text past end stop cells a t f q one.passes is.front;
-  fronts = subst (λ (es : List Event). Fronts text (a.container ∷ f.containers) p f.point (es ++ f.events)) (sym one.events) (Begins a.container f.containers p a.point f.point one.inside f.events one.opening is.fronts);
+  fronts = subst (λ (es : List Event). LinePrefix text (a.container ∷ f.containers) p f.point (es ++ f.events)) (sym one.events) (Begins a.container f.containers p a.point f.point one.inside f.events one.opening is.fronts);
 }
 
 -- one more, if one opens
@@ -305,7 +305,7 @@ pub record HasHeld (line : Line) (text past : List ℕ) (p end : Point) (stop ce
   pub stands : RestAt text past c.rest h.point
   pub ends : past_rest c.rest h.point ≡ end
   pub no_ending : NoEnding c.rest.bytes
-  pub front : Fronts text h.change.opens p h.point h.front
+  pub front : LinePrefix text h.change.opens p h.point h.front
   pub shorter : length h.cells ≤ length cells
 
 read-behind : (lazy : Bool) (went others opens : List Container) → AreRead went → AreRead others → AreRead opens → AreRead (open_behind (change_by lazy went others opens))
@@ -321,7 +321,7 @@ held-by line text past p end stop cells cs lazy went new on more read a b = reco
   stands = b.front.stands;
   ends = b.front.ends ∙ a.front.ends;
   no_ending = b.front.no_ending;
-  front = subst (λ (opens : List Container). Fronts text opens p new.point (went.events ++ new.events)) (sym (change-opens lazy went.containers (others_of cs went.containers) new.containers)) (a.fronts new.containers new.point new.events b.fronts);
+  front = subst (λ (opens : List Container). LinePrefix text opens p new.point (went.events ++ new.events)) (sym (change-opens lazy went.containers (others_of cs went.containers) new.containers)) (a.fronts new.containers new.point new.events b.fronts);
   shorter = let le = a.front.shorter in let ge = b.front.shorter in omega arith;
 }
 

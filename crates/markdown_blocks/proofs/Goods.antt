@@ -17,9 +17,9 @@ use Rattle.md_leaves.specs.Blank.{blank_scheme}
 use Rattle.md_leaves.specs.Break.{break_scheme}
 use Rattle.md_leaves.specs.Heading.{heading_scheme}
 use Rattle.md_seam.specs.Spaces.{IsRest}
-use Rattle.md_seam.specs.Went.{tried}
+use Rattle.md_seam.specs.Transition.{tried}
 use Rattle.md_seam.proofs.SpacesGoods.{Does, seen-some}
-use Rattle.markdown_blocks.specs.Flow.{after_went, before_content_went, before_heading_atx_went, before_thematic_break_went, blank_line_after_went, blank_line_before_went, containers_after_went, existing_after_went, existing_before_code, flow_end_code, flow_ready, flow_scheme, goes_on_with, new_after_went, new_before_went, start_went}
+use Rattle.markdown_blocks.specs.Flow.{after_transition, before_content_transition, before_heading_atx_transition, before_thematic_break_transition, blank_line_after_transition, blank_line_before_transition, containers_after_transition, existing_after_transition, existing_before_code, flow_end_code, flow_ready, flow_scheme, goes_on_with, new_after_transition, new_before_transition, start_transition}
 use Rattle.markdown_blocks.specs.LineFlags as flags
 
 pub record FlowFits (T : Scheme) : Type 1 where
@@ -62,25 +62,25 @@ good_existing_before T w (Some c) has inner r = go c.kind
       refl,
     )
 
-pub good_existing_after : (T : Scheme) (w : World) → FlowFits T → flow_ready (spot w) (after_all T w.frames) → Does T n.DocumentContainerExistingAfter w (existing_after_went w)
+pub good_existing_after : (T : Scheme) (w : World) → FlowFits T → flow_ready (spot w) (after_all T w.frames) → Does T n.DocumentContainerExistingAfter w (existing_after_transition w)
 good_existing_after T w has r = (turns T flow_scheme _ _ w w.events w.scratch has.existing_after has.existing_before r (omega arith) (omega arith), refl)
 
-pub good_new_before : (T : Scheme) (w : World) → FlowFits T → Fits T quote_scheme n.BlockQuoteStart → flow_ready (spot w) (after_all T w.frames) → Does T n.DocumentContainerNewBefore w (new_before_went w)
+pub good_new_before : (T : Scheme) (w : World) → FlowFits T → Fits T quote_scheme n.BlockQuoteStart → flow_ready (spot w) (after_all T w.frames) → Does T n.DocumentContainerNewBefore w (new_before_transition w)
 good_new_before T w has inner r = (
   begins_later T flow_scheme quote_scheme n.DocumentContainerNewBefore n.BlockQuoteStart w IsRest IsRest w.events w.scratch _ has.new_before inner has.new_after has.containers_after refl
       (prefix_tries n.DocumentContainerNewAfter n.DocumentContainersAfter w (after_all T w.frames) r (omega arith) (λ x. refl)) (λ K e. (r.0.0, e)) (omega arith) (omega arith) (omega arith),
   refl,
 )
 
-pub good_new_after : (T : Scheme) (w : World) → FlowFits T → flow_ready (spot w) (after_all T w.frames) → Does T n.DocumentContainerNewAfter w (new_after_went w)
+pub good_new_after : (T : Scheme) (w : World) → FlowFits T → flow_ready (spot w) (after_all T w.frames) → Does T n.DocumentContainerNewAfter w (new_after_transition w)
 good_new_after T w has r = (turns T flow_scheme _ _ w (closed w w.flags.continued w.flags.line_end).events w.scratch has.new_after has.new_before r (omega arith) (omega arith), refl)
 
-pub good_containers_after : (T : Scheme) (w : World) → FlowFits T → flow_ready (spot w) (after_all T w.frames) → Does T n.DocumentContainersAfter w (containers_after_went w)
+pub good_containers_after : (T : Scheme) (w : World) → FlowFits T → flow_ready (spot w) (after_all T w.frames) → Does T n.DocumentContainersAfter w (containers_after_transition w)
 good_containers_after T w has r = (turns T flow_scheme _ _ w w.events w.scratch has.containers_after has.start r (omega arith) (omega arith), refl)
 
 -- The leaf of a line.
 
-pub good_start : (T : Scheme) (w : World) → FlowFits T → flow_ready (spot w) (after_all T w.frames) → Does T n.FlowStart w (start_went w)
+pub good_start : (T : Scheme) (w : World) → FlowFits T → flow_ready (spot w) (after_all T w.frames) → Does T n.FlowStart w (start_transition w)
 good_start T w has r = (turns T flow_scheme _ _ w w.events w.scratch has.start has.blank_line_before r (omega arith) (omega arith), refl)
 
 -- what flow goes on with, after a construct that ends at rest
@@ -96,28 +96,28 @@ flow_tries ok nok w K r low_ok low_nok same_ok same_nok = record {
   nok_rank = λ s t is up. rw (same_nok (spot_at t w.point s)) (omega (arith, low_nok));
 }
 
-pub good_blank_line_before : (T : Scheme) (w : World) → FlowFits T → Fits T blank_scheme n.BlankLineStart → flow_ready (spot w) (after_all T w.frames) → Does T n.FlowBlankLineBefore w (blank_line_before_went w)
+pub good_blank_line_before : (T : Scheme) (w : World) → FlowFits T → Fits T blank_scheme n.BlankLineStart → flow_ready (spot w) (after_all T w.frames) → Does T n.FlowBlankLineBefore w (blank_line_before_transition w)
 good_blank_line_before T w has inner r = (
   begins_try T flow_scheme blank_scheme n.FlowBlankLineBefore n.BlankLineStart w IsRest IsRest w.events w.scratch _ has.blank_line_before inner has.blank_line_after has.before_heading_atx refl
       (flow_tries n.FlowBlankLineAfter n.FlowBeforeHeadingAtx w (after_all T w.frames) r (omega arith) (omega arith) (λ x. refl) (λ x. refl)) (λ K e. (r.0.0, e)) (omega arith) (omega arith) (omega arith),
   refl,
 )
 
-pub good_before_heading_atx : (T : Scheme) (w : World) → FlowFits T → Fits T heading_scheme n.HeadingAtxStart → flow_ready (spot w) (after_all T w.frames) → Does T n.FlowBeforeHeadingAtx w (before_heading_atx_went w)
+pub good_before_heading_atx : (T : Scheme) (w : World) → FlowFits T → Fits T heading_scheme n.HeadingAtxStart → flow_ready (spot w) (after_all T w.frames) → Does T n.FlowBeforeHeadingAtx w (before_heading_atx_transition w)
 good_before_heading_atx T w has inner r = (
   begins_try T flow_scheme heading_scheme n.FlowBeforeHeadingAtx n.HeadingAtxStart w IsRest IsRest w.events w.scratch _ has.before_heading_atx inner has.behind has.before_thematic_break refl
       (flow_tries n.FlowAfter n.FlowBeforeThematicBreak w (after_all T w.frames) r (omega arith) (omega arith) (λ x. refl) (λ x. refl)) (λ K e. (r.0.0, e)) (omega arith) (omega arith) (omega arith),
   refl,
 )
 
-pub good_before_thematic_break : (T : Scheme) (w : World) → FlowFits T → Fits T break_scheme n.ThematicBreakStart → flow_ready (spot w) (after_all T w.frames) → Does T n.FlowBeforeThematicBreak w (before_thematic_break_went w)
+pub good_before_thematic_break : (T : Scheme) (w : World) → FlowFits T → Fits T break_scheme n.ThematicBreakStart → flow_ready (spot w) (after_all T w.frames) → Does T n.FlowBeforeThematicBreak w (before_thematic_break_transition w)
 good_before_thematic_break T w has inner r = (
   begins_try T flow_scheme break_scheme n.FlowBeforeThematicBreak n.ThematicBreakStart w IsRest IsRest w.events w.scratch _ has.before_thematic_break inner has.behind has.before_content refl
       (flow_tries n.FlowAfter n.FlowBeforeContent w (after_all T w.frames) r (omega arith) (omega arith) (λ x. refl) (λ x. refl)) (λ K e. (r.0.0, e)) (omega arith) (omega arith) (omega arith),
   refl,
 )
 
-pub good_before_content : (T : Scheme) (w : World) → FlowFits T → Fits T chunk_scheme n.ContentChunkStart → flow_ready (spot w) (after_all T w.frames) → Does T n.FlowBeforeContent w (before_content_went w)
+pub good_before_content : (T : Scheme) (w : World) → FlowFits T → Fits T chunk_scheme n.ContentChunkStart → flow_ready (spot w) (after_all T w.frames) → Does T n.FlowBeforeContent w (before_content_transition w)
 good_before_content T w has inner r = (
   begins_try T flow_scheme chunk_scheme n.FlowBeforeContent n.ContentChunkStart w IsRest IsRest w.events w.scratch (record { ok = Next n.FlowAfter; nok = Nok; is_check = false; events_len = length w.events; point = w.point }) has.before_content inner has.behind tt refl
       (record {
@@ -131,10 +131,10 @@ good_before_content T w has inner r = (
   refl,
 )
 
-pub good_blank_line_after : (T : Scheme) (w : World) → FlowFits T → flow_ready (spot w) (after_all T w.frames) → Does T n.FlowBlankLineAfter w (blank_line_after_went w)
+pub good_blank_line_after : (T : Scheme) (w : World) → FlowFits T → flow_ready (spot w) (after_all T w.frames) → Does T n.FlowBlankLineAfter w (blank_line_after_transition w)
 good_blank_line_after T w has r = (turns T flow_scheme _ _ w w.events w.scratch has.blank_line_after has.flow_end r (omega arith) (omega arith), refl)
 
-pub good_after : (T : Scheme) (w : World) → FlowFits T → flow_ready (spot w) (after_all T w.frames) → Does T n.FlowAfter w (after_went w)
+pub good_after : (T : Scheme) (w : World) → FlowFits T → flow_ready (spot w) (after_all T w.frames) → Does T n.FlowAfter w (after_transition w)
 good_after T w has r = (turns T flow_scheme _ _ w w.events w.scratch has.behind has.flow_end r (omega arith) (omega arith), refl)
 
 -- The end of a line.

@@ -4,13 +4,13 @@ use Rattle.md_engine.specs.declared.event.Event.{Event}
 use Rattle.md_engine.specs.declared.event.Name.{Name}
 use Rattle.md_engine.specs.declared.event.Name.TheVariants as n
 use Rattle.md_engine.specs.declared.event.Point.{Point}
-use Rattle.md_seam.specs.Grammar.{Expression, behind, behind_block, blocks, inside, left_of, may_end}
-use Rattle.md_seam.specs.Nested.{enter, exit, pair}
-use Rattle.md_seam.specs.State.{Container, InQuote}
+use Rattle.md_seam.specs.Events.Grammar.{Expression, behind, behind_block, blocks, inside, left_of, may_end}
+use Rattle.md_seam.specs.Events.Nested.{enter, exit, pair}
+use Rattle.md_seam.specs.Standard.State.{Container, InQuote}
 use Rattle.md_seam.proofs.GrammarLemmas.{Leads, leads-append, leads-prefix, leads-rest}
 use Rattle.markdown_blocks.specs.Change.{container_name, ends_of}
 use Rattle.markdown_blocks.specs.Rows.{BlankRow, BreakRow, HeadingRow, RowKind, TextRow, ending_of}
-use Rattle.markdown_blocks.proofs.FrontFacts.{Begins, Behind, Fronts, Goes, IsFurther, IsOpening, IsPrefix}
+use Rattle.markdown_blocks.proofs.FrontFacts.{Begins, Behind, LinePrefix, Goes, IsContinuationPrefix, IsOpeningPrefix, IsPrefix}
 use Rattle.markdown_blocks.proofs.FrontLemmas.{open_names}
 
 -- Open containers.
@@ -29,7 +29,7 @@ behinds-append (name ∷ xs) ys = ap (λ (l : List Expression). behind_block ∷
 behinds-around : (xs : List Name) (name : Name) (outer : List Expression) → behinds (xs ++ name ∷ []) ++ outer ≡ behinds xs ++ (behind_block ∷ outer)
 behinds-around xs name outer = ap (λ (l : List Expression). l ++ outer) (behinds-append xs (name ∷ [])) ∙ append_assoc (behinds xs) (behind_block ∷ []) outer
 
--- Fronts.
+-- LinePrefix.
 
 -- a prefix of a quote
 prefix-leads : (text x y : Expression) (bytes : List ℕ) (p q : Point) (es : List Event) → behind n.BlockQuotePrefix x ≡ y →
@@ -38,18 +38,18 @@ prefix-leads text x y bytes p q es h k is = subst (Leads text (x ∷ []) (y ∷ 
 
 -- what stands in front of the content of a container that goes on
 further-leads : (text x : Expression) (bytes : List ℕ) (c : Container) (p q : Point) (es : List Event) → behind n.BlockQuotePrefix x ≡ x →
-    behind n.BlockQuotePrefix (behind n.SpaceOrTab x) ≡ x → IsFurther bytes c p q es → Leads text (x ∷ []) (x ∷ []) es
+    behind n.BlockQuotePrefix (behind n.SpaceOrTab x) ≡ x → IsContinuationPrefix bytes c p q es → Leads text (x ∷ []) (x ∷ []) es
 further-leads text x bytes InQuote p q es h k is = prefix-leads text x x bytes p q es h k is
 further-leads text x bytes c p q es h k is = absurd is
 
 -- and of one that opens, with its begin
-opening-leads : (text : Expression) (bytes : List ℕ) (c : Container) (p q : Point) (es : List Event) → IsOpening bytes c p q es →
+opening-leads : (text : Expression) (bytes : List ℕ) (c : Container) (p q : Point) (es : List Event) → IsOpeningPrefix bytes c p q es →
     Leads text (blocks ∷ []) (blocks ∷ behind_block ∷ []) (enter (container_name c) p ∷ es)
 opening-leads text bytes InQuote p q es is = λ outer. prefix-leads text (inside text n.BlockQuote) blocks bytes p q es refl refl is (behind_block ∷ outer)
 opening-leads text bytes c p q es is = absurd is
 
 -- in front of blocks, what stands there opens the containers that begin in it
-pub front-leads : (text : Expression) (bytes : List ℕ) (opens : List Container) (p q : Point) (front : List Event) → Fronts bytes opens p q front →
+pub front-leads : (text : Expression) (bytes : List ℕ) (opens : List Container) (p q : Point) (front : List Event) → LinePrefix bytes opens p q front →
     Leads text (blocks ∷ []) (blocks ∷ behinds (open_names opens)) front
 front-leads text bytes _ p _ _ (Behind _) = λ outer. refl
 front-leads text bytes opens p r _ (Goes c _ _ q _ es fs is more) =
@@ -61,7 +61,7 @@ front-leads text bytes _ p r _ (Begins c opens _ q _ es fs is more) =
 
 -- in front of a further line of a leaf, where prefixes may stand
 pub front-stays : (text x : Expression) (bytes : List ℕ) (opens : List Container) (p q : Point) (front : List Event) →
-    behind n.BlockQuotePrefix x ≡ x → behind n.BlockQuotePrefix (behind n.SpaceOrTab x) ≡ x → Fronts bytes opens p q front → opens ≡ [] →
+    behind n.BlockQuotePrefix x ≡ x → behind n.BlockQuotePrefix (behind n.SpaceOrTab x) ≡ x → LinePrefix bytes opens p q front → opens ≡ [] →
     Leads text (x ∷ []) (x ∷ []) front
 front-stays text x bytes _ p _ _ h k (Behind _) none = λ outer. refl
 front-stays text x bytes opens p r _ h k (Goes c _ _ q _ es fs is more) none =

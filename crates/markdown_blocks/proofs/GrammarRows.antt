@@ -13,13 +13,13 @@ use Rattle.md_leaves.specs.HeadingRule.{is_heading}
 use Rattle.md_leaves.specs.HeadingText.{linked_text}
 use Rattle.md_leaves.proofs.GrammarLeaves.{title-word}
 use Rattle.md_seam.specs.declared.inline.Chunk.{Chunk}
-use Rattle.md_seam.specs.Grammar.{Expression, behind, behind_block, blocks, inside, is_whole, keeps_grammar, left_of, may_end, plain_text, unread_text}
-use Rattle.md_seam.specs.Inline.{line_end, pair_unless_empty, plain_chunk}
-use Rattle.md_seam.specs.Nested.{around, enter_link, exit, pair}
-use Rattle.md_seam.specs.Places.{same_place}
-use Rattle.md_seam.specs.Preamble.{has_mark}
-use Rattle.md_seam.specs.Rest.{trim_start}
-use Rattle.md_seam.specs.State.{Container}
+use Rattle.md_seam.specs.Events.Grammar.{Expression, behind, behind_block, blocks, inside, is_whole, keeps_grammar, left_of, may_end, plain_text, unread_text}
+use Rattle.md_seam.specs.Events.Inline.{line_end, pair_unless_empty, plain_chunk}
+use Rattle.md_seam.specs.Events.Nested.{around, enter_link, exit, pair}
+use Rattle.md_seam.specs.Events.Places.{same_place}
+use Rattle.md_seam.specs.Standard.Preamble.{has_mark}
+use Rattle.md_seam.specs.Standard.Rest.{trim_start}
+use Rattle.md_seam.specs.Standard.State.{Container}
 use Rattle.md_seam.proofs.FeedLines.{ending-some}
 use Rattle.md_seam.proofs.GrammarLemmas.{IsWord, Leads, keeps-blocks, keeps-marked, leads-append, leads-around, leads-pair, leads-rest, leads-unless, maybe, word-behind}
 use Rattle.markdown_blocks.specs.Change.{ends_of}

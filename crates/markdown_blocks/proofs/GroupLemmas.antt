@@ -23,14 +23,14 @@ use Rattle.md_leaves.specs.HeadingTitle.{Title, front_len, text_of, title_of, un
 use Rattle.md_leaves.proofs.TitleLemmas.{title-fits, title-text}
 use Rattle.md_seam.specs.declared.inline.Chunk.{Chunk}
 use Rattle.md_seam.specs.declared.inline.PartKind.TheVariants.{Text}
-use Rattle.md_seam.specs.Inline.{are_lines, is_none, is_one_line, line_end, pair_unless_empty, plain_chunk, plain_events}
-use Rattle.md_seam.specs.Lines.{is_ending, without_ending}
-use Rattle.md_seam.specs.Nested.{around, enter, enter_link, exit, pair, is_enter}
-use Rattle.md_seam.specs.Places.{past_byte, past_text, same_place}
-use Rattle.md_seam.specs.Spelled.{role}
-use Rattle.md_seam.specs.State.{Container}
+use Rattle.md_seam.specs.Events.Inline.{are_lines, is_none, is_one_line, line_end, pair_unless_empty, plain_chunk, plain_events}
+use Rattle.md_seam.specs.Standard.Lines.{is_ending, without_ending}
+use Rattle.md_seam.specs.Events.Nested.{around, enter, enter_link, exit, pair, is_enter}
+use Rattle.md_seam.specs.Events.Places.{past_byte, past_text, same_place}
+use Rattle.md_seam.specs.Events.Spelled.{role}
+use Rattle.md_seam.specs.Standard.State.{Container}
 use Rattle.md_seam.specs.Substituted.{Readings, Substituted, belongs, chunks_behind}
-use Rattle.md_seam.specs.Texts.{split_lines}
+use Rattle.md_seam.specs.Standard.Texts.{split_lines}
 use Rattle.md_seam.proofs.InlineLemmas.{past-index}
 use Rattle.md_seam.proofs.SpelledLemmas.{Quiet, Roles}
 use Rattle.md_seam.proofs.TextsLemmas.{Ending, EndsBefore, LineFeed, NoEnding, Return, Both, ending_bytes, split-line, split-next, no_ending-drop}
@@ -46,7 +46,7 @@ use Rattle.markdown_blocks.proofs.FrontNames.{AreFront, ArePrefixes, container-p
 use Rattle.markdown_blocks.proofs.FrontPlaces.{fronts-grow}
 use Rattle.markdown_blocks.proofs.JoinedLemmas.{EachEnds, EachFront, EachNoContent, HasNoContent, behind-is, ending-is, events-no_content, has_front-no_content, joined-rows, no_content-unwanted, tail-no_content}
 use Rattle.markdown_blocks.proofs.LineKinds.{heading-kind, no_ending-parts}
-use Rattle.markdown_blocks.proofs.FrontFacts.{Fronts}
+use Rattle.markdown_blocks.proofs.FrontFacts.{LinePrefix}
 use Rattle.markdown_blocks.proofs.RowFacts.{AreRows, IsEnding, IsLine, IsRow, behind_line, line-text}
 use Rattle.markdown_blocks.proofs.SubstitutedLemmas.{AllBelong, Becomes, CutAt, EachPrefixed, NextBelongs, Rest, Unwanted, becomes-append, becomes-around, becomes-same, behind-exit, line_after, lines-becomes, no_links-unwanted, part-becomes, passes, places}
 use Rattle.markdown_blocks.proofs.TitleFacts.{back-unlinked, front-unlinked, heading-resolved}
@@ -58,7 +58,7 @@ abbrev pub IsParagraph : ParseOptions → List ℕ → Row → List Row → Type
 IsParagraph options bytes row [] = (line : List ℕ) × (is : IsRow options bytes line row) × (row.kind ≡ TextRow)
 IsParagraph options bytes row (next ∷ rows) =
     (line : List ℕ) × (is : IsRow options bytes line row) × (text : row.kind ≡ TextRow)
-    × (q : Point) × (after : row.after ≡ Some q) × (ending : IsEnding bytes row.end q) × (front : Fronts bytes [] q next.first next.front) × IsParagraph options bytes next rows
+    × (q : Point) × (after : row.after ≡ Some q) × (ending : IsEnding bytes row.end q) × (front : LinePrefix bytes [] q next.first next.front) × IsParagraph options bytes next rows
 
 -- a line has an ending if more follows
 abbrev pub EndsBeforeGroups : Row → List Group → Type 0
@@ -82,10 +82,10 @@ AreGroups options bytes (Lines row rows ∷ gs) = IsParagraph options bytes row 
 -- the first line of groups stands behind this point
 abbrev FrontAt : List ℕ → Point → List Group → Type 0
 FrontAt bytes p [] = Unit {0}
-FrontAt bytes p (Single row ∷ gs) = Fronts bytes row.change.opens p row.first row.front
-FrontAt bytes p (Lines row rows ∷ gs) = Fronts bytes row.change.opens p row.first row.front
+FrontAt bytes p (Single row ∷ gs) = LinePrefix bytes row.change.opens p row.first row.front
+FrontAt bytes p (Lines row rows ∷ gs) = LinePrefix bytes row.change.opens p row.first row.front
 
-onto-front : (bytes : List ℕ) (p : Point) (row : Row) (kind : RowKind) (gs : List Group) → Fronts bytes row.change.opens p row.first row.front → FrontAt bytes p (onto_groups row kind gs)
+onto-front : (bytes : List ℕ) (p : Point) (row : Row) (kind : RowKind) (gs : List Group) → LinePrefix bytes row.change.opens p row.first row.front → FrontAt bytes p (onto_groups row kind gs)
 onto-front bytes p row BlankRow gs h = h
 onto-front bytes p row HeadingRow gs h = h
 onto-front bytes p row BreakRow gs h = h
@@ -100,7 +100,7 @@ onto-front bytes p row TextRow (Lines first rows ∷ gs) h = go (goes_on row fir
 -- a line, with what stands in front of it
 record IsBegun (options : ParseOptions) (bytes line : List ℕ) (p : Point) (row : Row) : Type 0 where
   is : IsRow options bytes line row
-  front : Fronts bytes row.change.opens p row.first row.front
+  front : LinePrefix bytes row.change.opens p row.first row.front
   quiet : HasNoContent row
 
 alone-is : (options : ParseOptions) (bytes line : List ℕ) (p : Point) (row : Row) → IsBegun options bytes line p row → row.kind ≢ TextRow → IsSingle options bytes row
@@ -117,7 +117,7 @@ onto-are options bytes line p row q (Single below ∷ gs) is after ending first 
 onto-are options bytes line p row q (Lines below rows ∷ gs) is after ending first are TextRow e = go (change.is_none row.leaves) below.change.opens refl
   where
     go : (x : Bool) (opens : List Container) → below.change.opens ≡ opens → AreGroups options bytes (cond (x && change.is_none opens) (Lines row (below ∷ rows) ∷ gs) (Lines row [] ∷ Lines below rows ∷ gs))
-    go true [] none = ((line, is.is, e, q, after, ending, subst (λ (l : List Container). Fronts bytes l q below.first below.front) none first, are.0), are.1, (p, is.front), are.3)
+    go true [] none = ((line, is.is, e, q, after, ending, subst (λ (l : List Container). LinePrefix bytes l q below.first below.front) none first, are.0), are.1, (p, is.front), are.3)
     go true (c ∷ opens) k = ((line, is.is, e), (q, after), (p, is.front), are)
     go false opens k = ((line, is.is, e), (q, after), (p, is.front), are)
 
@@ -131,7 +131,7 @@ line-begun : (options : ParseOptions) (bytes : List ℕ) (open_before : List Con
 line-begun options bytes open_before going p line row is quiet = record { is = is.is; front = is.front; quiet = quiet }
 
 -- what stands in front of the first line
-pub first-front : (options : ParseOptions) (bytes : List ℕ) (open_before : List Container) (going : Bool) (p : Point) (lines : List (List ℕ)) (row : Row) (rows : List Row) → AreRows options bytes open_before going p lines (row ∷ rows) → Fronts bytes row.change.opens p row.first row.front
+pub first-front : (options : ParseOptions) (bytes : List ℕ) (open_before : List Container) (going : Bool) (p : Point) (lines : List (List ℕ)) (row : Row) (rows : List Row) → AreRows options bytes open_before going p lines (row ∷ rows) → LinePrefix bytes row.change.opens p row.first row.front
 first-front options bytes open_before going p [] row rows h = absurd h
 first-front options bytes open_before going p (line ∷ []) row [] h = h.0.front
 first-front options bytes open_before going p (line ∷ []) row (below ∷ rows) h = absurd h

@@ -11,9 +11,9 @@ use Rattle.md_engine.specs.Meaning.{Cell}
 use Rattle.md_leaves.specs.HeadingRule.{Apart, Hashes, Run, Text, White, begun, closes, goes_on, heading_inside, opens, runs}
 use Rattle.md_leaves.specs.HeadingTitle.{line_runs}
 use Rattle.md_seam.specs.Ahead.{begins_white, line_cells, white_end, white_rest}
-use Rattle.md_seam.specs.Nested.{enter, pair}
-use Rattle.md_seam.specs.Places.{past_byte}
-use Rattle.md_seam.specs.Rest.{is_white}
+use Rattle.md_seam.specs.Events.Nested.{enter, pair}
+use Rattle.md_seam.specs.Events.Places.{past_byte}
+use Rattle.md_seam.specs.Standard.Rest.{is_white}
 use Rattle.md_seam.specs.Spaces.{small_indent}
 use Rattle.md_seam.proofs.FeedLines.{Stops, byte_cells, cell, columns_more, next_column, spread, tab_cells, tab_end, tab_end-last, tab_end-next, tab_end-stop}
 use Rattle.md_seam.proofs.TextsLemmas.{NoEnding}

@@ -7,8 +7,8 @@ use Rattle.md_engine.specs.declared.event.Point.{Point}
 use Rattle.md_engine.specs.declared.tokenizer.Line.{Line}
 use Rattle.md_engine.specs.Meaning.{Cell}
 use Rattle.md_leaves.specs.HeadingRule.{is_heading, is_opening}
-use Rattle.md_seam.specs.Places.{past_byte}
-use Rattle.md_seam.specs.Rest.{is_white, run_len}
+use Rattle.md_seam.specs.Events.Places.{past_byte}
+use Rattle.md_seam.specs.Standard.Rest.{is_white, run_len}
 use Rattle.md_seam.proofs.FeedLines.{bytes_of, cell, columns_more, spread, tab_cells}
 
 -- `#` at the front.

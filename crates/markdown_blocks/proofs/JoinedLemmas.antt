@@ -15,10 +15,10 @@ use Rattle.md_content.specs.Joined.{content_behind, goes_on, is_content, joined}
 use Rattle.md_leaves.specs.BreakRule.{Apart, Marks, Run, White, runs}
 use Rattle.md_leaves.specs.HeadingRule as heading
 use Rattle.md_seam.specs.Ahead.{begins_white, from_ending, line_cells, line_end, white_end, white_rest}
-use Rattle.md_seam.specs.Inline.{is_line_ending}
-use Rattle.md_seam.specs.Nested.{around, enter, enter_link, exit, pair, is_enter, is_exit}
+use Rattle.md_seam.specs.Events.Inline.{is_line_ending}
+use Rattle.md_seam.specs.Events.Nested.{around, enter, enter_link, exit, pair, is_enter, is_exit}
 use Rattle.md_seam.specs.Spaces.{small_indent}
-use Rattle.md_seam.specs.State.{Container, InFootnote, InItem, InQuote}
+use Rattle.md_seam.specs.Standard.State.{Container, InFootnote, InItem, InQuote}
 use Rattle.md_seam.specs.Substituted.{is_prefix, wanted}
 use Rattle.markdown_blocks.specs.Change.{container_name, ends_of, is_none, open_behind}
 use Rattle.markdown_blocks.specs.Rows.{BlankRow, BreakRow, Group, HeadingRow, Held, Lines, Row, RowKind, Single, TextRow, behind_row, ending_events, ending_of, first_cell, groups, held_at, inside_of, is_text, last_row, leaf_events, onto_groups, onto_lines, row_events, row_events_by, row_kind, rows_at, rows_by, rows_events, tail_events}

@@ -14,9 +14,9 @@ use Rattle.md_leaves.specs.BlankRule.{blank_at, blank_events}
 use Rattle.md_leaves.specs.BreakRule.{Apart, before_marker, break_at, broken, runs}
 use Rattle.md_leaves.proofs.BreakSteps.{at-none, at-off, at-white, entered_here}
 use Rattle.md_seam.specs.Ahead.{begins_white, from_ending, line_bytes, line_cells, line_end, white_end, white_rest}
-use Rattle.md_seam.specs.Leaves.{is_rule}
-use Rattle.md_seam.specs.Nested.{around, enter, enter_link, exit, pair}
-use Rattle.md_seam.specs.Rest.{is_blank}
+use Rattle.md_seam.specs.Standard.Leaves.{is_rule}
+use Rattle.md_seam.specs.Events.Nested.{around, enter, enter_link, exit, pair}
+use Rattle.md_seam.specs.Standard.Rest.{is_blank}
 use Rattle.md_seam.specs.Spaces.{IsRest, calmed, small_indent}
 use Rattle.md_seam.proofs.AheadLemmas.{none-end, none-rest, white-ending, white-line_end}
 use Rattle.md_seam.proofs.WhiteSteps.{behind_white}

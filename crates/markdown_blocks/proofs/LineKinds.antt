@@ -10,9 +10,9 @@ use Rattle.md_engine.specs.declared.tokenizer.Line.{Line}
 use Rattle.md_engine.specs.Meaning.{Cell}
 use Rattle.md_leaves.specs.HeadingRule.{is_heading, is_heading_line}
 use Rattle.md_seam.specs.Ahead.{begins_white, from_ending, line_bytes, line_cells, line_end, point_after, white_end, white_rest}
-use Rattle.md_seam.specs.Leaves.{is_rule, is_rule_marker}
-use Rattle.md_seam.specs.Places.{past_byte, past_text}
-use Rattle.md_seam.specs.Rest.{is_blank, is_white, trim_start}
+use Rattle.md_seam.specs.Standard.Leaves.{is_rule, is_rule_marker}
+use Rattle.md_seam.specs.Events.Places.{past_byte, past_text}
+use Rattle.md_seam.specs.Standard.Rest.{is_blank, is_white, trim_start}
 use Rattle.md_seam.specs.Spaces.{any_size, small_indent}
 use Rattle.md_seam.proofs.FeedLines.{Stops, all-spread, byte-end, byte-one, byte_cells, bytes_of, cell, columns_more, count-spread, from_ending-append, line_cells-append, next_column, no_feed-spread, spread, spread-end, stops-white, tab_cells}
 use Rattle.md_seam.proofs.TextsLemmas.{NoEnding, no_ending-drop}

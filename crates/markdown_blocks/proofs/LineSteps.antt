@@ -6,12 +6,12 @@ use Rattle.std.specs.Option.{is_some, option_or}
 use Rattle.std.proofs.lemmas.Bool.{and_parts}
 use Rattle.md_engine.specs.declared.configuration.ParseOptions.{ParseOptions}
 use Rattle.md_leaves.specs.HeadingRule.{is_heading}
-use Rattle.md_seam.specs.Containers.{Taken, continues, opens}
-use Rattle.md_seam.specs.Leaves.{Against, Came, Finished, LazyText, NoText, Text, break_at, code_at, fence_at, fence_from, heading_at, html_at, is_fence_marker, is_rule, starts, table_at, underline_depth, with_line}
-use Rattle.md_seam.specs.Rest.{Rest, has_small_indent, indent, is_blank, is_parted, is_white, run_len, trim_start}
-use Rattle.md_seam.specs.State.{At, Container, Kept, Leaf, NoLeaf, OpenParagraph, Path, Spot, Within, at_spot, closed, container_block, kept, shut, shut_paragraph, spot, texts, then_block, then_paragraph}
-use Rattle.md_seam.specs.Step.{all_continued, all_continued_by, entered, fresh_by, fresh_line, is_concrete, is_open_text, lazy_by, leaf_line, opened, spot_of, step, stopped, stopped_by, text_by, text_line, with_lazy}
-use Rattle.md_seam.specs.Tree.{Blocks, Break, End}
+use Rattle.md_seam.specs.Standard.Containers.{Taken, continues, opens}
+use Rattle.md_seam.specs.Standard.Leaves.{ParagraphContext, Came, Finished, LazyText, NoText, Text, break_at, code_at, fence_at, fence_from, heading_at, html_at, is_fence_marker, is_rule, starts, table_at, underline_depth, with_line}
+use Rattle.md_seam.specs.Standard.Rest.{Rest, has_small_indent, indent, is_blank, is_parted, is_white, run_len, trim_start}
+use Rattle.md_seam.specs.Standard.State.{At, Container, Kept, Leaf, NoLeaf, OpenParagraph, Path, Spot, Within, at_spot, closed, container_block, kept, shut, shut_paragraph, spot, texts, then_block, then_paragraph}
+use Rattle.md_seam.specs.Standard.Step.{all_continued, all_continued_by, entered, fresh_by, fresh_line, is_concrete, is_open_text, lazy_by, leaf_line, opened, spot_of, step, stopped, stopped_by, text_by, text_line, with_lazy}
+use Rattle.md_seam.specs.Standard.Tree.{Blocks, Break, End}
 use Rattle.md_seam.proofs.ColumnLemmas.{opened_by, step_by}
 use Rattle.md_seam.proofs.ContainerLemmas.{LeavesFewer, opens-leaves}
 use Rattle.markdown_blocks.specs.Change.{Change, change_by, interrupts, is_none, open_behind, others_of}
@@ -22,7 +22,7 @@ use Rattle.markdown_blocks.specs.Sections.{heading_block}
 use Rattle.markdown_blocks.specs.Stands.{IsPlain, IsPlainLeaf, containers_of, is_going}
 use Rattle.markdown_blocks.proofs.ContainedLemmas.{change-opens, contained-size, lazy-opens, lazy-some}
 
-code-off : (options : ParseOptions) (against : Against) (r : Rest) → options.constructs.code_indented ≡ false → code_at options against r ≡ None
+code-off : (options : ParseOptions) (against : ParagraphContext) (r : Rest) → options.constructs.code_indented ≡ false → code_at options against r ≡ None
 unfolding code_at
 code-off options against r off = rw off refl
 
@@ -45,7 +45,7 @@ fence-off options r off none = go (has_small_indent options r)
     go true = no_fence-from options (indent r) (trim_start r.bytes) off none
     go false = refl
 
-html-off : (options : ParseOptions) (against : Against) (r : Rest) → options.constructs.html_flow ≡ false → html_at options against r ≡ None
+html-off : (options : ParseOptions) (against : ParagraphContext) (r : Rest) → options.constructs.html_flow ≡ false → html_at options against r ≡ None
 unfolding html_at
 html-off options against r off = rw off refl
 
@@ -94,7 +94,7 @@ break-found options r off = rw off (go options.constructs.thematic_break)
     go false = refl
 
 -- nothing else starts
-starts-found : (options : ParseOptions) (against : Against) (r : Rest) → IsBuilt options → starts options against r ≡ block_if (heads options r.bytes) (breaks options r.bytes) r.bytes
+starts-found : (options : ParseOptions) (against : ParagraphContext) (r : Rest) → IsBuilt options → starts options against r ≡ block_if (heads options r.bytes) (breaks options r.bytes) r.bytes
 unfolding starts
 starts-found options against r built =
     rw (code-off options against r built.code_indented, fence-off options r built.code_fenced built.math_flow, html-off options against r built.html_flow, heading-found options r built.code_indented, break-found options r built.code_indented)

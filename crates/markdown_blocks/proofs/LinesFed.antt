@@ -24,15 +24,15 @@ use Rattle.md_engine.proofs.Keeps.{leaves-keep, plain-same, runs-setting, steps-
 use Rattle.md_engine.proofs.StepOf.{sees, steps-as}
 use Rattle.md_engine.proofs.TextFeed.{text-follows}
 use Rattle.md_seam.specs.Ahead.{from_ending, line_end}
-use Rattle.md_seam.specs.Nested.{pair}
-use Rattle.md_seam.specs.State.{Container}
+use Rattle.md_seam.specs.Events.Nested.{pair}
+use Rattle.md_seam.specs.Standard.State.{Container}
 use Rattle.markdown_blocks.specs.Change.{ends_of, open_behind}
 use Rattle.markdown_blocks.specs.Fed.{fed, feeds, flow_begins, line_begins, not_left, place_behind}
 use Rattle.markdown_blocks.specs.FlowRule.{Rule, ended, flow_behaves_by, line_then}
 use Rattle.markdown_blocks.specs.LineFlags.{ending_name}
 use Rattle.markdown_blocks.specs.Rows.{Held, Row, after_ending, behind_row, closes_before, held_at, is_text, onto_rows, row_events, row_kind, row_of, rows_at, rows_events}
 use Rattle.markdown_blocks.specs.Stands.{AreOpen}
-use Rattle.markdown_blocks.specs.States.{FlowStep, flow_table_scheme, flow_went}
+use Rattle.markdown_blocks.specs.States.{FlowStep, flow_table_scheme, flow_transition}
 use Rattle.markdown_blocks.specs.TextRows.{text_cells, text_rows, text_setting}
 use Rattle.markdown_blocks.proofs.FlowEnds.{AtEnding, from_ending-at}
 use Rattle.markdown_blocks.proofs.FlowLemmas.{from_ending-shrinks}
@@ -257,7 +257,7 @@ within-calls is_name options feed from all n t v t' v' f o w c none = record {
 
     steps : Steps (flow_behaves_by v.setting.options line_stop) feed (Next c.name) (reading v) t' v'
     steps =
-        steps-as (flow_behaves_by v.setting.options line_stop) feed (Next c.name) (flow_went is_name c.name (reading v)).to t' (reading v) (flow_went is_name c.name (reading v)).world v' c.step.to_is c.step.new_is
+        steps-as (flow_behaves_by v.setting.options line_stop) feed (Next c.name) (flow_transition is_name c.name (reading v)).to t' (reading v) (flow_transition is_name c.name (reading v)).world v' c.step.to_is c.step.new_is
         (flow-steps-by is_name feed line_stop c.name (reading v) (sees feed v true f c.may) stood none)
 
 -- the call that takes an ending
@@ -272,7 +272,7 @@ behind-calls is_name options feed from all n t v t' v' f o w c names step ten = 
     Q : State → Type 0
     Q x = stands flow_table_scheme v x
 
-    taken : Takes line_stop feed (reading v) (flow_went is_name s.DocumentFlowEnd (reading v)).to (flow_went is_name s.DocumentFlowEnd (reading v)).world
+    taken : Takes line_stop feed (reading v) (flow_transition is_name s.DocumentFlowEnd (reading v)).to (flow_transition is_name s.DocumentFlowEnd (reading v)).world
     taken = ending-taken is_name feed line_stop (reading v) (sees feed v true f c.may) (subst Q names w.at) ten
 
     ended : line_then options line_stop w.left w.begin ≡ line_stop (feed v'.point) (here v')

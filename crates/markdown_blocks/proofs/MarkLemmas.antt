@@ -6,9 +6,9 @@ use Rattle.std.proofs.lemmas.Bool.{and_from}
 use Rattle.md_engine.specs.declared.event.Event.{Event}
 use Rattle.md_engine.specs.declared.event.Name.TheVariants.{ByteOrderMark}
 use Rattle.md_engine.specs.Place.{IsPlaced, IsReached, first_point, walked}
-use Rattle.md_seam.specs.Nested.{Balanced, Forward, Nested, pair}
-use Rattle.md_seam.specs.Preamble.{has_mark, without_mark}
-use Rattle.md_seam.specs.Spelled.{Reading, read, spelled, unread}
+use Rattle.md_seam.specs.Events.Nested.{Balanced, Forward, Nested, pair}
+use Rattle.md_seam.specs.Standard.Preamble.{has_mark, without_mark}
+use Rattle.md_seam.specs.Events.Spelled.{Reading, read, spelled, unread}
 use Rattle.md_seam.proofs.NestedLemmas.{balanced-append}
 use Rattle.md_seam.proofs.PlacesLemmas.{all-append}
 use Rattle.md_seam.proofs.PreambleLemmas.{mark-bytes, mark-length}

@@ -10,10 +10,10 @@ use Rattle.md_engine.specs.declared.event.Name.TheVariants as n
 use Rattle.md_engine.specs.declared.event.Point.{Point}
 use Rattle.md_leaves.specs.HeadingTitle.{Title, text_of, title_of}
 use Rattle.md_seam.specs.declared.inline.Chunk.{Chunk}
-use Rattle.md_seam.specs.Inline.{line_end, pair_unless_empty, plain_chunk}
-use Rattle.md_seam.specs.Nested.{Balanced, Forward, Matches, around, enter, exit, last_point, open_after, pair}
-use Rattle.md_seam.specs.Places.{at_or_before, past_text, same_place}
-use Rattle.md_seam.specs.State.{Container}
+use Rattle.md_seam.specs.Events.Inline.{line_end, pair_unless_empty, plain_chunk}
+use Rattle.md_seam.specs.Events.Nested.{Balanced, Forward, Matches, around, enter, exit, last_point, open_after, pair}
+use Rattle.md_seam.specs.Events.Places.{at_or_before, past_text, same_place}
+use Rattle.md_seam.specs.Standard.State.{Container}
 use Rattle.md_seam.proofs.InlineLemmas.{balanced-pair, end-before, end-behind, before-text}
 use Rattle.md_seam.proofs.NestedLemmas.{at_or_before-refl, at_or_before-trans, balanced-append, balanced-around, balanced-none, balanced-open, forward-append, forward-from, forward-front, forward-rest, matches-append, matches-before, matches-rest, open_after-append, open_after-before}
 use Rattle.md_seam.proofs.TextsLemmas.{Both, Ending, LineFeed, Return, ending_bytes}
@@ -21,7 +21,7 @@ use Rattle.markdown_blocks.specs.Change.{Change, ends_of, is_none, open_behind}
 use Rattle.markdown_blocks.specs.Fronted.{contained, rest_from, rest_line}
 use Rattle.markdown_blocks.specs.Rows.{BlankRow, BreakRow, Group, HeadingRow, Lines, Row, RowKind, Single, TextRow, behind_row, closes_before, ending_events, goes_on, groups, groups_events, is_text, last_row, onto_groups, read_lines, read_text, row_line, row_title, single_events_by, tail_events}
 use Rattle.markdown_blocks.proofs.ContainedLemmas.{contained-shapes, none-nil}
-use Rattle.markdown_blocks.proofs.FrontFacts.{Fronts}
+use Rattle.markdown_blocks.proofs.FrontFacts.{LinePrefix}
 use Rattle.markdown_blocks.proofs.FrontLemmas.{Turns, ends-spans, ends-turn, fronts-balanced, fronts-spans, fronts-turn, names-append, open_names, shapes-names, turns-balanced}
 use Rattle.markdown_blocks.proofs.JoinedLemmas.{behind-is, behind-none}
 use Rattle.markdown_blocks.proofs.RowFacts.{AreRows, IsEnding, IsInside, IsLine, IsRow, behind_line}
@@ -89,13 +89,13 @@ title-nested line p text h =
 
 -- What stands on a line that begins at a point, and its ending: the points never go back.
 pub record Ordered (bytes : List ℕ) (p : Point) (row : Row) : Type 0 where
-  pub front : Fronts bytes row.change.opens p row.first row.front
+  pub front : LinePrefix bytes row.change.opens p row.first row.front
   pub inside : row.kind ≢ HeadingRow → IsInside row
   pub end : row.end ≡ past_text (row_line bytes row) row.first
   pub ends : IsTrue (at_or_before row.end (behind_row row))
 
 -- the line of a text that a row tells of
-ordered : (options : ParseOptions) (bytes line : List ℕ) (p : Point) (row : Row) → Fronts bytes row.change.opens p row.first row.front → IsRow options bytes line row → IsTrue (at_or_before row.end (behind_row row)) → Ordered bytes p row
+ordered : (options : ParseOptions) (bytes line : List ℕ) (p : Point) (row : Row) → LinePrefix bytes row.change.opens p row.first row.front → IsRow options bytes line row → IsTrue (at_or_before row.end (behind_row row)) → Ordered bytes p row
 ordered options bytes line p row front is ends = record { front = front; inside = is.inside; end = is.end ∙ ap (λ (l : List ℕ). past_text l row.first) (sym is.text); ends = ends }
 
 -- the ends of a line, and of the line with its ending

@@ -20,8 +20,8 @@ use Rattle.md_content.proofs.ContentReadsLemmas.{skipping-same}
 use Rattle.md_content.proofs.SettledLemmas.{settled-none, settled-other}
 use Rattle.md_seam.specs.declared.inline.Chunk.{Chunk}
 use Rattle.md_seam.specs.Ahead.{point_after}
-use Rattle.md_seam.specs.Places.{past_byte, past_text}
-use Rattle.md_seam.specs.Nested.{around, enter, enter_link, exit}
+use Rattle.md_seam.specs.Events.Places.{past_byte, past_text}
+use Rattle.md_seam.specs.Events.Nested.{around, enter, enter_link, exit}
 use Rattle.md_seam.proofs.FeedLines.{HasEnding, begun-none, cell, columns_more, ending-feed, ending-some, feed-next, feed-none, next_column, past-next, past_ending, point_after-append, tab-end, tab-feed, tab_cells, tab_end, tab_end-last, tab_end-next, tab_end-stop}
 use Rattle.md_seam.proofs.PlacesLemmas.{at-next}
 use Rattle.md_seam.proofs.TextsLemmas.{Ending, EndsBefore, NoEnding, ending_bytes}

@@ -11,17 +11,17 @@ use Rattle.md_engine.specs.Found.{Found}
 use Rattle.md_engine.specs.World.{World}
 use Rattle.md_content.specs.ContentReads.{content_readings, wants_content}
 use Rattle.md_leaves.specs.HeadingText.{headings_resolved}
-use Rattle.md_seam.specs.Endings.{endings_stand}
-use Rattle.md_seam.specs.Grammar.{keeps_grammar, plain_text}
-use Rattle.md_seam.specs.Inline.{pieces}
-use Rattle.md_seam.specs.Meaning.{tree}
-use Rattle.md_seam.specs.Nested.{Nested}
-use Rattle.md_seam.specs.Pieces.{pieces_stand}
-use Rattle.md_seam.specs.Places.{are_placed}
-use Rattle.md_seam.specs.Spelled.{spelled}
+use Rattle.md_seam.specs.Events.Endings.{endings_stand}
+use Rattle.md_seam.specs.Events.Grammar.{keeps_grammar, plain_text}
+use Rattle.md_seam.specs.Events.Inline.{pieces}
+use Rattle.md_seam.specs.Standard.Meaning.{tree}
+use Rattle.md_seam.specs.Events.Nested.{Nested}
+use Rattle.md_seam.specs.Events.Pieces.{pieces_stand}
+use Rattle.md_seam.specs.Events.Places.{are_placed}
+use Rattle.md_seam.specs.Events.Spelled.{spelled}
 use Rattle.md_seam.specs.Substituted.{Readings, Substituted}
-use Rattle.md_seam.specs.Texts.{split_lines}
-use Rattle.md_seam.specs.Tiles.{Tiles, parts, plain_lists, plain_read}
+use Rattle.md_seam.specs.Standard.Texts.{split_lines}
+use Rattle.md_seam.specs.Events.Tiles.{Tiles, parts, plain_lists, plain_read}
 use Rattle.md_outline.specs.Outlined.{IsOutlined, are_shallow}
 use Rattle.markdown_blocks.specs.BlockList.{block_list}
 use Rattle.markdown_blocks.specs.Document.{body_point, mark_events}

@@ -16,13 +16,13 @@ use Rattle.md_leaves.specs.HeadingTitle.{line_runs}
 use Rattle.md_seam.specs.declared.inline.Chunk.{Chunk}
 use Rattle.md_seam.specs.declared.inline.PartKind.{PartKind}
 use Rattle.md_seam.specs.Ahead.{begins_white, from_ending, line_cells, line_end, white_end, white_rest}
-use Rattle.md_seam.specs.Inline.{Piece, piece_of, pieces, pieces_from}
-use Rattle.md_seam.specs.Nested.{exit, is_exit, pair}
-use Rattle.md_seam.specs.Places.{past_byte}
+use Rattle.md_seam.specs.Events.Inline.{Piece, piece_of, pieces, pieces_from}
+use Rattle.md_seam.specs.Events.Nested.{exit, is_exit, pair}
+use Rattle.md_seam.specs.Events.Places.{past_byte}
 use Rattle.md_seam.specs.Spaces.{small_indent}
-use Rattle.md_seam.specs.Spelled.{role}
-use Rattle.md_seam.specs.State.{Container}
-use Rattle.md_seam.specs.Tiles.{chunks, inside_part, is_part, part_end, part_kind}
+use Rattle.md_seam.specs.Events.Spelled.{role}
+use Rattle.md_seam.specs.Standard.State.{Container}
+use Rattle.md_seam.specs.Events.Tiles.{chunks, inside_part, is_part, part_end, part_kind}
 use Rattle.md_seam.proofs.SpelledLemmas.{Quiet, Roles}
 use Rattle.markdown_blocks.specs.Change.{open_behind}
 use Rattle.markdown_blocks.specs.Rows.{BlankRow, BreakRow, Group, HeadingRow, Held, Lines, Row, RowKind, Single, TextRow, first_cell, goes_on, groups, held_at, inside_of, is_text, onto_groups, row_kind, rows_at, rows_by}

@@ -16,15 +16,15 @@ use Rattle.md_engine.specs.declared.event.Point.{Point}
 use Rattle.md_leaves.specs.HeadingRule.{Apart, Hashes, Run, Text as TextRun, White, begun, closes, goes_on as runs_on, is_heading, opens}
 use Rattle.md_leaves.specs.HeadingTitle.{Title, chunk_unless_empty, front_len, line_runs, text_of, title_of}
 use Rattle.md_seam.specs.declared.inline.Chunk.{Chunk}
-use Rattle.md_seam.specs.Inline.{plain_chunk}
-use Rattle.md_seam.specs.Leaves.{is_rule}
-use Rattle.md_seam.specs.Lines.{begins_with, ends_line, is_ending}
-use Rattle.md_seam.specs.Nested.{around, enter, exit, pair}
-use Rattle.md_seam.specs.Places.{at_or_before, last_line, past_byte, same_place}
-use Rattle.md_seam.specs.Rest.{Rest, is_blank, is_white, trim_start}
-use Rattle.md_seam.specs.Spelled.{IsEnding as EndingRole, IsPrefix as PrefixRole, IsQuiet, Role, Tells, byte_at, role}
-use Rattle.md_seam.specs.State.{Container, InFootnote, InItem, InQuote}
-use Rattle.md_seam.specs.Texts.{split_lines}
+use Rattle.md_seam.specs.Events.Inline.{plain_chunk}
+use Rattle.md_seam.specs.Standard.Leaves.{is_rule}
+use Rattle.md_seam.specs.Standard.Lines.{begins_with, ends_line, is_ending}
+use Rattle.md_seam.specs.Events.Nested.{around, enter, exit, pair}
+use Rattle.md_seam.specs.Events.Places.{at_or_before, last_line, past_byte, same_place}
+use Rattle.md_seam.specs.Standard.Rest.{Rest, is_blank, is_white, trim_start}
+use Rattle.md_seam.specs.Events.Spelled.{IsEnding as EndingRole, IsPrefix as PrefixRole, IsQuiet, Role, Tells, byte_at, role}
+use Rattle.md_seam.specs.Standard.State.{Container, InFootnote, InItem, InQuote}
+use Rattle.md_seam.specs.Standard.Texts.{split_lines}
 use Rattle.md_seam.proofs.RestCells.{Cut}
 use Rattle.md_seam.proofs.SpelledLemmas.{Quiet, QuietOrEnding, Roles, roles-append}
 use Rattle.md_seam.proofs.TextsLemmas.{Both, Ending, EndsBefore, LineFeed, NoEnding, Return, ending_bytes, split-line, split-next}
@@ -35,7 +35,7 @@ use Rattle.markdown_blocks.specs.Fronted.{contained, cut_tab, rest_from, rest_li
 use Rattle.markdown_blocks.specs.Rows.{BlankRow, BreakRow, Group, HeadingRow, Lines, Row, RowKind, Single, TextRow, behind_row, ending_events, goes_on, groups, groups_events, is_text, last_row, line_kind, onto_groups, read_lines, read_text, read_title, row_line, row_title, single_events_by, tail_events}
 use Rattle.markdown_blocks.proofs.BetweenRows.{between-behind, ending-behind, further-between, is_low, white-at}
 use Rattle.markdown_blocks.proofs.ContainedLemmas.{none-nil}
-use Rattle.markdown_blocks.proofs.FrontFacts.{Begins, Behind, Fronts, Goes, IsFurther, IsOpening, IsPrefix}
+use Rattle.markdown_blocks.proofs.FrontFacts.{Begins, Behind, LinePrefix, Goes, IsContinuationPrefix, IsOpeningPrefix, IsPrefix}
 use Rattle.markdown_blocks.proofs.FrontLemmas.{ends-roles, fronts-roles}
 use Rattle.markdown_blocks.proofs.FrontPlaces.{byte-order}
 use Rattle.markdown_blocks.proofs.PlainRoles.{chunk-roles}
@@ -80,15 +80,15 @@ prefix-clear bytes p q es is = low-clear bytes p (λ e. white-at bytes p.index i
     before : (m : Point) → IsTrue (at_or_before p m) → m.vs ≡ 0 → (p.vs == 0) ≡ false → p.index < m.index
     before m h w e = grind (arith, nat_tests)
 
-further-clear : (bytes : List ℕ) (c : Container) (p q : Point) (es : List Event) → IsFurther bytes c p q es → clear bytes p ≡ true
+further-clear : (bytes : List ℕ) (c : Container) (p q : Point) (es : List Event) → IsContinuationPrefix bytes c p q es → clear bytes p ≡ true
 further-clear bytes InQuote p q es is = prefix-clear bytes p q es is
 further-clear bytes c p q es is = absurd is
 
-opening-clear : (bytes : List ℕ) (c : Container) (p q : Point) (es : List Event) → IsOpening bytes c p q es → clear bytes p ≡ true
+opening-clear : (bytes : List ℕ) (c : Container) (p q : Point) (es : List Event) → IsOpeningPrefix bytes c p q es → clear bytes p ≡ true
 opening-clear bytes InQuote p q es is = prefix-clear bytes p q es is
 opening-clear bytes c p q es is = absurd is
 
-fronts-clear : (bytes : List ℕ) (opens : List Container) (p q : Point) (front : List Event) → Fronts bytes opens p q front → clear bytes q ≡ true → clear bytes p ≡ true
+fronts-clear : (bytes : List ℕ) (opens : List Container) (p q : Point) (front : List Event) → LinePrefix bytes opens p q front → clear bytes q ≡ true → clear bytes p ≡ true
 fronts-clear bytes _ p _ _ (Behind _) h = h
 fronts-clear bytes opens p r _ (Goes c _ _ q _ es fs is more) h = further-clear bytes c p q es is
 fronts-clear bytes _ p r _ (Begins c opens _ q _ es fs is more) h = opening-clear bytes c p q es is
@@ -224,12 +224,12 @@ prefix-parted bytes p q es span rest is marks between more = subst (λ (l : List
     go false false = step
 
 -- what stands in a text in front of the content of a container that goes on
-further-parted : (bytes : List ℕ) (c : Container) (p q : Point) (es : List Event) (span : Span) (rest : List Event) → IsFurther bytes c p q es → Marks bytes p span → is_between bytes (byte_at q) ≡ true → are_parted bytes (Some (behind_prefix q)) rest ≡ true → are_parted bytes (Some span) (es ++ rest) ≡ true
+further-parted : (bytes : List ℕ) (c : Container) (p q : Point) (es : List Event) (span : Span) (rest : List Event) → IsContinuationPrefix bytes c p q es → Marks bytes p span → is_between bytes (byte_at q) ≡ true → are_parted bytes (Some (behind_prefix q)) rest ≡ true → are_parted bytes (Some span) (es ++ rest) ≡ true
 further-parted bytes InQuote p q es span rest is marks between more = prefix-parted bytes p q es span rest is marks between more
 further-parted bytes c p q es span rest is marks between more = absurd is
 
 -- what stands in front of a further line of a text
-fronts-parted : (bytes : List ℕ) (opens : List Container) (p q : Point) (front : List Event) (span : Span) (rest : List Event) → Fronts bytes opens p q front → opens ≡ [] → is_between bytes p.index ≡ true → clear bytes q ≡ true → Marks bytes p span →
+fronts-parted : (bytes : List ℕ) (opens : List Container) (p q : Point) (front : List Event) (span : Span) (rest : List Event) → LinePrefix bytes opens p q front → opens ≡ [] → is_between bytes p.index ≡ true → clear bytes q ≡ true → Marks bytes p span →
     ((next : Span) → ((next ≡ span) × (p ≡ q)) ⊎ (next ≡ behind_prefix q) → are_parted bytes (Some next) rest ≡ true) → are_parted bytes (Some span) (front ++ rest) ≡ true
 fronts-parted bytes _ p _ _ span rest (Behind _) e between at marks f = f span (inl (refl, refl))
 fronts-parted bytes opens p r _ span rest (Goes c _ _ q _ es fs is more) e between at marks f =
@@ -439,7 +439,7 @@ record Parted (bytes : List ℕ) (p : Point) (gs : List Group) : Type 0 where
   after : After bytes p gs
 
 -- a paragraph, by its text
-text-parted : (bytes : List ℕ) (p : Point) (row : Row) (rows : List Row) (gs : List Group) → Fronts bytes row.change.opens p row.first row.front → clear bytes row.first ≡ true → BeginsText bytes row → Core bytes row (read_lines bytes row rows ++ behind_text bytes (last_row row rows) gs) →
+text-parted : (bytes : List ℕ) (p : Point) (row : Row) (rows : List Row) (gs : List Group) → LinePrefix bytes row.change.opens p row.first row.front → clear bytes row.first ≡ true → BeginsText bytes row → Core bytes row (read_lines bytes row rows ++ behind_text bytes (last_row row rows) gs) →
     Parted bytes p (Lines row rows ∷ gs)
 text-parted bytes p row rows gs front at begins core =
     let last : Row = last_row row rows in

@@ -14,12 +14,12 @@ use Rattle.md_leaves.specs.BreakRule.{Apart, runs}
 use Rattle.md_leaves.specs.HeadingRule.{is_heading}
 use Rattle.md_leaves.proofs.TitleTexts.{front-passes}
 use Rattle.md_seam.specs.Ahead.{begins_white, line_cells, line_end, white_rest}
-use Rattle.md_seam.specs.Inline.{pieces}
-use Rattle.md_seam.specs.Leaves.{is_rule}
-use Rattle.md_seam.specs.Nested.{pair}
-use Rattle.md_seam.specs.Pieces.{pieces_stand}
-use Rattle.md_seam.specs.Places.{past_byte, past_text}
-use Rattle.md_seam.specs.Rest.{is_blank, is_white, trim_start}
+use Rattle.md_seam.specs.Events.Inline.{pieces}
+use Rattle.md_seam.specs.Standard.Leaves.{is_rule}
+use Rattle.md_seam.specs.Events.Nested.{pair}
+use Rattle.md_seam.specs.Events.Pieces.{pieces_stand}
+use Rattle.md_seam.specs.Events.Places.{past_byte, past_text}
+use Rattle.md_seam.specs.Standard.Rest.{is_blank, is_white, trim_start}
 use Rattle.md_seam.specs.Spaces.{small_indent}
 use Rattle.md_seam.proofs.FeedLines.{Stops, byte-one, drop-past, past_text-column, spread, stops-white}
 use Rattle.md_seam.proofs.InlineLemmas.{past-index, past-vs}

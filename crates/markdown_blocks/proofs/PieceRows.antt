@@ -9,12 +9,12 @@ use Rattle.md_engine.specs.declared.event.Name.TheVariants as n
 use Rattle.md_engine.specs.declared.event.Point.{Point}
 use Rattle.md_content.specs.Paragraph.{text_link}
 use Rattle.md_leaves.specs.HeadingTitle.{title_of, unread_title}
-use Rattle.md_seam.specs.Inline.{pieces, plain_chunk}
-use Rattle.md_seam.specs.Nested.{around, enter, enter_link, exit, pair}
-use Rattle.md_seam.specs.Pieces.{piece_stands, pieces_stand, stands_over}
-use Rattle.md_seam.specs.Places.{first_point, same_place}
-use Rattle.md_seam.specs.Preamble.{has_mark}
-use Rattle.md_seam.specs.State.{Container, InQuote}
+use Rattle.md_seam.specs.Events.Inline.{pieces, plain_chunk}
+use Rattle.md_seam.specs.Events.Nested.{around, enter, enter_link, exit, pair}
+use Rattle.md_seam.specs.Events.Pieces.{piece_stands, pieces_stand, stands_over}
+use Rattle.md_seam.specs.Events.Places.{first_point, same_place}
+use Rattle.md_seam.specs.Standard.Preamble.{has_mark}
+use Rattle.md_seam.specs.Standard.State.{Container, InQuote}
 use Rattle.md_seam.proofs.TextsLemmas.{Both, Ending, LineFeed, Return, ending_bytes}
 use Rattle.markdown_blocks.specs.Change.{container_name, ends_of}
 use Rattle.markdown_blocks.specs.Document.{body_point, mark_end, mark_events}
@@ -22,7 +22,7 @@ use Rattle.markdown_blocks.specs.Fronted.{contained, rest_from, rest_line}
 use Rattle.markdown_blocks.specs.Rows.{BlankRow, BreakRow, Group, HeadingRow, Lines, Row, RowKind, Single, TextRow, behind_row, ending_events, goes_on, group_events, groups, groups_events, is_text, last_row, line_kind, onto_groups, read_lines, read_title, row_events_by, row_title, single_events_by, tail_events}
 use Rattle.markdown_blocks.specs.Unread.{linked_lines, titled_group, titled_groups, titled_row_by}
 use Rattle.markdown_blocks.proofs.EachRow.{EachRow, last-each}
-use Rattle.markdown_blocks.proofs.FrontFacts.{Behind, Begins, Fronts, Goes, IsFurther, IsOpening, IsPrefix}
+use Rattle.markdown_blocks.proofs.FrontFacts.{Behind, Begins, LinePrefix, Goes, IsContinuationPrefix, IsOpeningPrefix, IsPrefix}
 use Rattle.markdown_blocks.proofs.GroupLemmas.{text-some}
 use Rattle.md_seam.proofs.PreambleLemmas.{mark-bytes}
 use Rattle.markdown_blocks.proofs.PieceFacts.{Starts, Stood, begins-cut, begins-whole, chunk_span, over-stands, piece-stands, span, starts-append, stood-append, stood-around, stood-exit, stood-none, stood-pair}
@@ -86,12 +86,12 @@ prefix-stands bytes p q es is = subst (FrontStands bytes) (sym is.events) (go (s
     go false e false f = record { stood = record { ends = refl; stand = and_from _ _ (before e) (and_from _ _ marker (and_from _ true (behind f) refl)) }; starts = refl }
 
 -- of a container that goes on
-further-stands : (bytes : List ℕ) (c : Container) (p q : Point) (es : List Event) → IsFurther bytes c p q es → FrontStands bytes es
+further-stands : (bytes : List ℕ) (c : Container) (p q : Point) (es : List Event) → IsContinuationPrefix bytes c p q es → FrontStands bytes es
 further-stands bytes InQuote p q es is = prefix-stands bytes p q es is
 further-stands bytes c p q es is = absurd is
 
 -- of one that opens
-opening-stands : (bytes : List ℕ) (c : Container) (p q : Point) (es : List Event) → IsOpening bytes c p q es → FrontStands bytes es
+opening-stands : (bytes : List ℕ) (c : Container) (p q : Point) (es : List Event) → IsOpeningPrefix bytes c p q es → FrontStands bytes es
 opening-stands bytes InQuote p q es is = prefix-stands bytes p q es is
 opening-stands bytes c p q es is = absurd is
 
@@ -101,7 +101,7 @@ begun-stood bytes name p [] h = absurd h.starts
 begun-stood bytes name p (e ∷ es) h = record { ends = h.stood.ends; stand = ap (pieces_stand bytes) (pieces-before (enter name p) (e ∷ es) h.starts) ∙ h.stood.stand }
 
 -- all of it
-fronts-stood : (bytes : List ℕ) (opens : List Container) (p q : Point) (es : List Event) → Fronts bytes opens p q es → Stood bytes es
+fronts-stood : (bytes : List ℕ) (opens : List Container) (p q : Point) (es : List Event) → LinePrefix bytes opens p q es → Stood bytes es
 fronts-stood bytes opens p q es (Behind at) = stood-none bytes
 fronts-stood bytes opens first last es (Goes c same p q r xs ys is more) = stood-append bytes xs ys (further-stands bytes c p q xs is).stood (fronts-stood bytes same q r ys more)
 fronts-stood bytes opens first last es (Begins c before p q r xs ys is more) =
@@ -152,7 +152,7 @@ break-some options [] h = cc
 break-some options (b ∷ line) h = omega arith
 
 -- a line with its ending, if it has one
-line-stands : (options : ParseOptions) (bytes line : List ℕ) (p : Point) (row : Row) (after : Option Point) → IsRow options bytes line row → Fronts bytes row.change.opens p row.first row.front → row.after ≡ after → Ended bytes row.end after → LineStands bytes row
+line-stands : (options : ParseOptions) (bytes line : List ℕ) (p : Point) (row : Row) (after : Option Point) → IsRow options bytes line row → LinePrefix bytes row.change.opens p row.first row.front → row.after ≡ after → Ended bytes row.end after → LineStands bytes row
 line-stands options bytes line p row after is front same ended = record {
   front = fronts-stood bytes row.change.opens p row.first row.front front;
   tail = tail-stood bytes row after same is.end_whole ended;

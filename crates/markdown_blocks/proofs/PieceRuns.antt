@@ -17,12 +17,12 @@ use Rattle.md_leaves.specs.HeadingRule as heading
 use Rattle.md_leaves.specs.HeadingTitle.{line_runs}
 use Rattle.md_leaves.proofs.TitleLemmas.{is_mark}
 use Rattle.md_leaves.proofs.TitleRuns.{pass-first, pass-rest}
-use Rattle.md_seam.specs.Inline.{pieces, pieces_from}
-use Rattle.md_seam.specs.Leaves.{is_rule, is_rule_marker}
-use Rattle.md_seam.specs.Nested.{enter, exit}
-use Rattle.md_seam.specs.Pieces.{begins_in_tab, is_run, piece_stands, pieces_stand, stands_over}
-use Rattle.md_seam.specs.Places.{past_byte, past_text}
-use Rattle.md_seam.specs.Rest.{is_white}
+use Rattle.md_seam.specs.Events.Inline.{pieces, pieces_from}
+use Rattle.md_seam.specs.Standard.Leaves.{is_rule, is_rule_marker}
+use Rattle.md_seam.specs.Events.Nested.{enter, exit}
+use Rattle.md_seam.specs.Events.Pieces.{begins_in_tab, is_run, piece_stands, pieces_stand, stands_over}
+use Rattle.md_seam.specs.Events.Places.{past_byte, past_text}
+use Rattle.md_seam.specs.Standard.Rest.{is_white}
 use Rattle.md_seam.proofs.FeedLines.{byte-one, byte_cells, cell, columns_more, drop-past, next_column, spread, tab_cells, tab_end, tab_end-last, tab_end-next, tab_end-stop}
 use Rattle.md_seam.proofs.InlineLemmas.{past-index, past_text-append}
 use Rattle.markdown_blocks.specs.Rows.{first_cell}

@@ -15,13 +15,13 @@ use Rattle.md_leaves.specs.HeadingText.{linked_text}
 use Rattle.md_leaves.specs.HeadingTitle.{Title, chunk_unless_empty, front_len, text_of, title_of, unread_title}
 use Rattle.md_leaves.proofs.TitleLemmas.{behind-marks, front-marks, title-fits}
 use Rattle.md_seam.specs.declared.inline.Chunk.{Chunk}
-use Rattle.md_seam.specs.Inline.{is_one_line, line_end, pair_unless_empty, plain_chunk}
-use Rattle.md_seam.specs.Lines.{is_ending, without_ending}
-use Rattle.md_seam.specs.Nested.{enter_link, exit, pair}
-use Rattle.md_seam.specs.Pieces.{is_in_line, is_line_ending, piece_stands, stands_over}
-use Rattle.md_seam.specs.Places.{past_text, same_place}
-use Rattle.md_seam.specs.Rest.{run_len, trim_start}
-use Rattle.md_seam.specs.Texts.{split_lines}
+use Rattle.md_seam.specs.Events.Inline.{is_one_line, line_end, pair_unless_empty, plain_chunk}
+use Rattle.md_seam.specs.Standard.Lines.{is_ending, without_ending}
+use Rattle.md_seam.specs.Events.Nested.{enter_link, exit, pair}
+use Rattle.md_seam.specs.Events.Pieces.{is_in_line, is_line_ending, piece_stands, stands_over}
+use Rattle.md_seam.specs.Events.Places.{past_text, same_place}
+use Rattle.md_seam.specs.Standard.Rest.{run_len, trim_start}
+use Rattle.md_seam.specs.Standard.Texts.{split_lines}
 use Rattle.md_seam.proofs.FeedLines.{drop-past, ending-some, slice-split}
 use Rattle.md_seam.proofs.InlineLemmas.{past-index, past-vs}
 use Rattle.md_seam.proofs.TextsLemmas.{Both, Ending, LineFeed, NoEnding, Return, ending_bytes}

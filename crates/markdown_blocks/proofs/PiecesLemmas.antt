@@ -5,9 +5,9 @@ use Rattle.md_engine.specs.declared.event.Kind.{Kind}
 use Rattle.md_engine.specs.declared.event.Kind.TheVariants.{Enter, Exit}
 use Rattle.md_engine.specs.declared.event.Name.{Name}
 use Rattle.md_engine.specs.declared.event.Point.{Point}
-use Rattle.md_seam.specs.Inline.{Covers, Piece, pair_unless_empty, piece_of, pieces, pieces_from}
-use Rattle.md_seam.specs.Nested.{around, enter, exit, pair}
-use Rattle.md_seam.specs.Places.{same_place}
+use Rattle.md_seam.specs.Events.Inline.{Covers, Piece, pair_unless_empty, piece_of, pieces, pieces_from}
+use Rattle.md_seam.specs.Events.Nested.{around, enter, exit, pair}
+use Rattle.md_seam.specs.Events.Places.{same_place}
 use Rattle.md_seam.proofs.InlineLemmas.{same-refl, same-trans}
 
 -- events that begin with an enter, if there are any

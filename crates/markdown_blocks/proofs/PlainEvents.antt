@@ -13,11 +13,11 @@ use Rattle.md_engine.specs.declared.event.Point.{Point}
 use Rattle.md_leaves.specs.HeadingRule.{Apart, Hashes, Run, Text as TextRun, White, begun, closes, goes_on, opens}
 use Rattle.md_leaves.specs.HeadingTitle.{Title, chunk_unless_empty, front_len, line_runs, text_of, title_of}
 use Rattle.md_seam.specs.declared.inline.Chunk.{Chunk}
-use Rattle.md_seam.specs.Inline.{line_end, plain_chunk}
-use Rattle.md_seam.specs.Nested.{Balanced, around, enter, exit, pair}
-use Rattle.md_seam.specs.Places.{past_byte, past_text, same_place}
-use Rattle.md_seam.specs.Spelled.{Holds, IsQuiet, Role, Shape, byte_at, role, spelled}
-use Rattle.md_seam.specs.State.{Container, InFootnote, InItem, InQuote}
+use Rattle.md_seam.specs.Events.Inline.{line_end, plain_chunk}
+use Rattle.md_seam.specs.Events.Nested.{Balanced, around, enter, exit, pair}
+use Rattle.md_seam.specs.Events.Places.{past_byte, past_text, same_place}
+use Rattle.md_seam.specs.Events.Spelled.{Holds, IsQuiet, Role, Shape, byte_at, role, spelled}
+use Rattle.md_seam.specs.Standard.State.{Container, InFootnote, InItem, InQuote}
 use Rattle.md_seam.proofs.SpelledLemmas.{Quiet, Roles, roles-append}
 use Rattle.md_outline.specs.Between.{is_between}
 use Rattle.md_outline.specs.Outlined.{IsOutlined, are_shallow, has_plain_name, is_plain, is_told, tells_between}
@@ -27,7 +27,7 @@ use Rattle.markdown_blocks.specs.Rows.{BlankRow, BreakRow, Group, HeadingRow, Li
 use Rattle.markdown_blocks.specs.Stands.{shape_of}
 use Rattle.markdown_blocks.proofs.ContainedLemmas.{contained-shapes}
 use Rattle.markdown_blocks.proofs.EachRow.{EachGroup, EachRow, OfGroup, groups-each, last-each}
-use Rattle.markdown_blocks.proofs.FrontFacts.{Begins, Behind, Fronts, Goes, IsFurther, IsOpening, IsPrefix}
+use Rattle.markdown_blocks.proofs.FrontFacts.{Begins, Behind, LinePrefix, Goes, IsContinuationPrefix, IsOpeningPrefix, IsPrefix}
 use Rattle.markdown_blocks.proofs.PartedRows.{clear, clear-between, rest-clear, rows-parted}
 use Rattle.markdown_blocks.proofs.RowFacts.{AreRows, IsInside, IsLine, behind_line}
 use Rattle.markdown_blocks.proofs.TitleNests.{blank-no_heading, break-no_heading, text_begin, text_end}
@@ -141,26 +141,26 @@ plain-prefix bytes p q es is = subst (ArePlain bytes) (sym is.events) (go (same_
     go false true = record { names = refl; texts = refl }
     go false false = record { names = refl; texts = refl }
 
-plain-further : (bytes : List ℕ) (c : Container) (p q : Point) (es : List Event) → IsFurther bytes c p q es → ArePlain bytes es
+plain-further : (bytes : List ℕ) (c : Container) (p q : Point) (es : List Event) → IsContinuationPrefix bytes c p q es → ArePlain bytes es
 plain-further bytes InQuote p q es is = plain-prefix bytes p q es is
 plain-further bytes c p q es is = absurd is
 
-plain-opening : (bytes : List ℕ) (c : Container) (p q : Point) (es : List Event) → IsOpening bytes c p q es → ArePlain bytes es
+plain-opening : (bytes : List ℕ) (c : Container) (p q : Point) (es : List Event) → IsOpeningPrefix bytes c p q es → ArePlain bytes es
 plain-opening bytes InQuote p q es is = plain-prefix bytes p q es is
 plain-opening bytes c p q es is = absurd is
 
 -- where a container opens, an outline shows it: there are only quotes yet
-opening-shown : (bytes : List ℕ) (c : Container) (p q : Point) (es : List Event) → IsOpening bytes c p q es → is_plain (Holds (shape_of c)) ≡ true
+opening-shown : (bytes : List ℕ) (c : Container) (p q : Point) (es : List Event) → IsOpeningPrefix bytes c p q es → is_plain (Holds (shape_of c)) ≡ true
 opening-shown bytes InQuote p q es is = refl
 opening-shown bytes c p q es is = absurd is
 
-fronts-shown : (bytes : List ℕ) (opens : List Container) (p q : Point) (front : List Event) → Fronts bytes opens p q front → AreShown opens
+fronts-shown : (bytes : List ℕ) (opens : List Container) (p q : Point) (front : List Event) → LinePrefix bytes opens p q front → AreShown opens
 fronts-shown bytes _ p _ _ (Behind _) = tt
 fronts-shown bytes opens p r _ (Goes c _ _ q _ es fs is more) = fronts-shown bytes opens q r fs more
 fronts-shown bytes _ p r _ (Begins c opens _ q _ es fs is more) = (opening-shown bytes c p q es is, fronts-shown bytes opens q r fs more)
 
 -- what stands in front of a line
-plain-front : (bytes : List ℕ) (opens : List Container) (p q : Point) (front : List Event) → Fronts bytes opens p q front → ArePlain bytes front
+plain-front : (bytes : List ℕ) (opens : List Container) (p q : Point) (front : List Event) → LinePrefix bytes opens p q front → ArePlain bytes front
 plain-front bytes _ p _ _ (Behind _) = plain-nil bytes
 plain-front bytes opens p r _ (Goes c _ _ q _ es fs is more) = plain-append bytes es fs (plain-further bytes c p q es is) (plain-front bytes opens q r fs more)
 plain-front bytes _ p r _ (Begins c opens _ q _ es fs is more) =

@@ -4,10 +4,10 @@ use Rattle.md_engine.specs.declared.event.Name.{Name}
 use Rattle.md_engine.specs.declared.event.Name.TheVariants as n
 use Rattle.md_engine.specs.declared.event.Point.{Point}
 use Rattle.md_seam.specs.declared.inline.Chunk.{Chunk}
-use Rattle.md_seam.specs.Inline.{line_end, pair_unless_empty, plain_chunk, plain_chunks, together}
-use Rattle.md_seam.specs.Nested.{pair}
-use Rattle.md_seam.specs.Places.{same_place}
-use Rattle.md_seam.specs.Spelled.{IsEnding, IsQuiet, Role, role}
+use Rattle.md_seam.specs.Events.Inline.{line_end, pair_unless_empty, plain_chunk, plain_chunks, together}
+use Rattle.md_seam.specs.Events.Nested.{pair}
+use Rattle.md_seam.specs.Events.Places.{same_place}
+use Rattle.md_seam.specs.Events.Spelled.{IsEnding, IsQuiet, Role, role}
 use Rattle.md_seam.proofs.SpelledLemmas.{Roles, roles-append}
 
 -- what a pair is for

@@ -11,10 +11,10 @@ use Rattle.md_engine.specs.Meaning.{Cell}
 use Rattle.md_leaves.specs.BreakRule as break
 use Rattle.md_leaves.specs.HeadingRule as heading
 use Rattle.md_seam.specs.Ahead.{from_ending, line_bytes, line_cells, line_end, white_end, white_rest}
-use Rattle.md_seam.specs.Leaves.{is_rule}
-use Rattle.md_seam.specs.Nested.{pair}
-use Rattle.md_seam.specs.Places.{past_byte, past_text}
-use Rattle.md_seam.specs.Rest.{Rest, is_blank}
+use Rattle.md_seam.specs.Standard.Leaves.{is_rule}
+use Rattle.md_seam.specs.Events.Nested.{pair}
+use Rattle.md_seam.specs.Events.Places.{past_byte, past_text}
+use Rattle.md_seam.specs.Standard.Rest.{Rest, is_blank}
 use Rattle.md_seam.specs.Spaces.{any_size, small_indent}
 use Rattle.md_seam.proofs.FeedLines.{Stops, behind_last, cell, columns_more, next_column, past_text-whole, spread, tab_cells, tab_end, tab_end-stop}
 use Rattle.md_seam.proofs.RestCells.{Cut, RestAt, cells_by, past_cut, past_rest, rest_cells}

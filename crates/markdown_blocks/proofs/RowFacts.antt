@@ -5,20 +5,20 @@ use Rattle.md_engine.specs.declared.configuration.ParseOptions.{ParseOptions}
 use Rattle.md_engine.specs.declared.event.Point.{Point}
 use Rattle.md_leaves.specs.HeadingRule.{Apart}
 use Rattle.md_leaves.specs.HeadingTitle.{line_runs}
-use Rattle.md_seam.specs.Inline.{pieces}
-use Rattle.md_seam.specs.Nested.{Balanced, Forward, last_point}
-use Rattle.md_seam.specs.Pieces.{pieces_stand}
-use Rattle.md_seam.specs.Places.{at_or_before, past_text}
+use Rattle.md_seam.specs.Events.Inline.{pieces}
+use Rattle.md_seam.specs.Events.Nested.{Balanced, Forward, last_point}
+use Rattle.md_seam.specs.Events.Pieces.{pieces_stand}
+use Rattle.md_seam.specs.Events.Places.{at_or_before, past_text}
 use Rattle.md_seam.proofs.EndingsLemmas.{AreOthers}
 pub use Rattle.md_seam.proofs.FeedLines.{IsEnding, slice-split}
 use Rattle.md_seam.proofs.RestCells.{Cut}
 use Rattle.md_seam.proofs.SpelledLemmas.{Roles, Quiet}
 use Rattle.md_seam.proofs.TextsLemmas.{NoEnding, ending_bytes}
-use Rattle.md_seam.specs.State.{Container}
+use Rattle.md_seam.specs.Standard.State.{Container}
 use Rattle.markdown_blocks.specs.Change.{open_behind}
 use Rattle.markdown_blocks.specs.Fronted.{contained, rest_from, rest_line}
 use Rattle.markdown_blocks.specs.Rows.{HeadingRow, Row, TextRow, is_text, line_kind}
-use Rattle.markdown_blocks.proofs.FrontFacts.{Fronts}
+use Rattle.markdown_blocks.proofs.FrontFacts.{LinePrefix}
 use Rattle.markdown_blocks.proofs.PieceFacts.{CutsFirst}
 use Rattle.markdown_blocks.proofs.PiecesLemmas.{Tiled}
 use Rattle.markdown_blocks.proofs.WordsInside.{Worded}
@@ -58,7 +58,7 @@ pub record IsLine (options : ParseOptions) (bytes : List ℕ) (open_before : Lis
   pub is : IsRow options bytes (rest_line (contained options open_before going (rest_from p line)).rest) row
   -- a tab that is cut at the begin of the rest, if there is one
   pub cut : Cut (contained options open_before going (rest_from p line)).rest.spaces row.first
-  pub front : Fronts bytes row.change.opens p row.first row.front
+  pub front : LinePrefix bytes row.change.opens p row.first row.front
   pub change : row.change ≡ (contained options open_before going (rest_from p line)).change
   -- where the line begins no tab is cut
   pub whole : p.vs ≡ 0

@@ -19,12 +19,12 @@ use Rattle.md_leaves.specs.BlankRule.{blank_events}
 use Rattle.md_leaves.specs.BreakRule.{Apart, Marks, Run, White, runs}
 use Rattle.md_leaves.specs.HeadingRule.{is_heading_line}
 use Rattle.md_seam.specs.Ahead.{begins_white, from_ending, line_bytes, line_cells, line_end, point_after, white_end, white_rest}
-use Rattle.md_seam.specs.Nested.{Balanced, Forward, Matches, enter, exit, last_point, open_after, pair}
-use Rattle.md_seam.specs.Places.{at_or_before, past_byte, past_text, same_place}
-use Rattle.md_seam.specs.Rest.{Rest, is_blank, is_white, trim_start}
+use Rattle.md_seam.specs.Events.Nested.{Balanced, Forward, Matches, enter, exit, last_point, open_after, pair}
+use Rattle.md_seam.specs.Events.Places.{at_or_before, past_byte, past_text, same_place}
+use Rattle.md_seam.specs.Standard.Rest.{Rest, is_blank, is_white, trim_start}
 use Rattle.md_seam.specs.Spaces.{small_indent}
-use Rattle.md_seam.specs.State.{Container}
-use Rattle.md_seam.specs.Texts.{split_lines}
+use Rattle.md_seam.specs.Standard.State.{Container}
+use Rattle.md_seam.specs.Standard.Texts.{split_lines}
 use Rattle.md_seam.proofs.FeedLines.{HasEnding, HasLine, Stops, before-byte, before-column, behind_last, begun-none, byte-end, byte_cells, cell, columns_more, drop-past, ending-feed, ending-some, feed-none, front-within, is-ending, line-feed, next_column, past_ending, past_text-column, slice-front, spread, spread-end, tab_cells}
 use Rattle.md_seam.proofs.AheadLemmas.{none-end, white-line_end}
 use Rattle.md_seam.proofs.InlineLemmas.{past-index, same-refl, before-text, past_text-append}

@@ -15,14 +15,14 @@ use Rattle.md_leaves.specs.HeadingTitle.{Title, chunk_unless_empty, front_len, l
 use Rattle.md_leaves.proofs.TitleLemmas.{title-fits}
 use Rattle.md_leaves.proofs.TitleRuns.{begun-hash, begun-white}
 use Rattle.md_seam.specs.declared.inline.Chunk.{Chunk}
-use Rattle.md_seam.specs.Inline.{plain_chunks, together}
-use Rattle.md_seam.specs.Leaves.{heading_lines, heading_text, without_closing}
-use Rattle.md_seam.specs.Nested.{around}
-use Rattle.md_seam.specs.Places.{past_byte, past_text}
-use Rattle.md_seam.specs.Rest.{is_parted, is_white, run_len, trim, trim_end, trim_start}
-use Rattle.md_seam.specs.Spelled.{AsHeading, AsMarkers, HeadingAtxLeaf, HeadingSoFar, OfHeadingAtx, OpenLeaf, Reading, Tells, Text, add_block, begun, byte_at, columns_left, first_told, fresh, noted, read, read_exit, text_to, told_at}
-use Rattle.md_seam.specs.Texts.{split_lines, trim_each}
-use Rattle.md_seam.specs.Tree.{Heading}
+use Rattle.md_seam.specs.Events.Inline.{plain_chunks, together}
+use Rattle.md_seam.specs.Standard.Leaves.{heading_lines, heading_text, without_closing}
+use Rattle.md_seam.specs.Events.Nested.{around}
+use Rattle.md_seam.specs.Events.Places.{past_byte, past_text}
+use Rattle.md_seam.specs.Standard.Rest.{is_parted, is_white, run_len, trim, trim_end, trim_start}
+use Rattle.md_seam.specs.Events.Spelled.{AsHeading, AsMarkers, HeadingAtxLeaf, HeadingSoFar, OfHeadingAtx, OpenLeaf, Reading, Tells, Text, add_block, begun, byte_at, columns_left, first_told, fresh, noted, read, read_exit, text_to, told_at}
+use Rattle.md_seam.specs.Standard.Texts.{split_lines, trim_each}
+use Rattle.md_seam.specs.Standard.Tree.{Heading}
 use Rattle.md_seam.proofs.BlocksLemmas.{read-leaf, read-told}
 use Rattle.md_seam.proofs.InlineLemmas.{past-index}
 use Rattle.md_seam.proofs.SpelledLemmas.{Between, Quiet, QuietOrEnding, Roles, read-from, read-quiet, text-inline, text_after}

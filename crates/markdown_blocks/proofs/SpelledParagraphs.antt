@@ -9,16 +9,16 @@ use Rattle.md_engine.specs.declared.event.Event.{Event}
 use Rattle.md_engine.specs.declared.event.Name.TheVariants as n
 use Rattle.md_engine.specs.declared.event.Point.{Point}
 use Rattle.md_seam.specs.declared.inline.Chunk.{Chunk}
-use Rattle.md_seam.specs.Inline.{pair_unless_empty, plain_chunk}
+use Rattle.md_seam.specs.Events.Inline.{pair_unless_empty, plain_chunk}
 use Rattle.md_leaves.specs.HeadingRule.{is_heading}
-use Rattle.md_seam.specs.Leaves.{is_rule}
-use Rattle.md_seam.specs.Lines.{begins_with}
-use Rattle.md_seam.specs.Nested.{around, enter, exit}
-use Rattle.md_seam.specs.Rest.{Rest, is_blank, is_white, trim_start}
-use Rattle.md_seam.specs.Spelled.{IsPrefix, IsQuiet, Reading, Role, Text, add_block, after_prefix, before_prefix, begun, byte_at, read, text_to}
-use Rattle.md_seam.specs.State.{Container, InQuote, Kept, kept, texts}
-use Rattle.md_seam.specs.Texts.{trim_each}
-use Rattle.md_seam.specs.Tree.{Paragraph}
+use Rattle.md_seam.specs.Standard.Leaves.{is_rule}
+use Rattle.md_seam.specs.Standard.Lines.{begins_with}
+use Rattle.md_seam.specs.Events.Nested.{around, enter, exit}
+use Rattle.md_seam.specs.Standard.Rest.{Rest, is_blank, is_white, trim_start}
+use Rattle.md_seam.specs.Events.Spelled.{IsPrefix, IsQuiet, Reading, Role, Text, add_block, after_prefix, before_prefix, begun, byte_at, read, text_to}
+use Rattle.md_seam.specs.Standard.State.{Container, InQuote, Kept, kept, texts}
+use Rattle.md_seam.specs.Standard.Texts.{trim_each}
+use Rattle.md_seam.specs.Standard.Tree.{Paragraph}
 use Rattle.md_seam.proofs.BlocksLemmas.{read-paragraph}
 use Rattle.md_seam.proofs.FeedLines.{slice-inside}
 use Rattle.md_seam.proofs.RestCells.{Cut}
@@ -29,7 +29,7 @@ use Rattle.markdown_blocks.specs.Fronted.{cut_tab, rest_line}
 use Rattle.markdown_blocks.specs.Rows.{BlankRow, BreakRow, HeadingRow, Row, TextRow, behind_row, last_row, read_lines}
 use Rattle.markdown_blocks.proofs.LineSteps.{rest_line-kind}
 use Rattle.markdown_blocks.proofs.FrontFacts as front
-use Rattle.markdown_blocks.proofs.FrontFacts.{Behind, Begins, Fronts, Goes}
+use Rattle.markdown_blocks.proofs.FrontFacts.{Behind, Begins, LinePrefix, Goes}
 use Rattle.markdown_blocks.proofs.FrontPlaces.{byte-order}
 use Rattle.markdown_blocks.proofs.PlainRoles.{chunk-roles, pair-roles}
 use Rattle.markdown_blocks.proofs.RowFacts as f
@@ -46,11 +46,11 @@ prefix-roles P bytes p q es is quiet prefix =
     (prefix, tt))
 
 -- so is what stands in front of the content of a container that goes on
-pub further-roles : (P : Role → Type 0) (bytes : List ℕ) (c : Container) (p q : Point) (es : List Event) → front.IsFurther bytes c p q es → P IsQuiet → P IsPrefix → Roles P es
+pub further-roles : (P : Role → Type 0) (bytes : List ℕ) (c : Container) (p q : Point) (es : List Event) → front.IsContinuationPrefix bytes c p q es → P IsQuiet → P IsPrefix → Roles P es
 further-roles P bytes InQuote p q es is quiet prefix = prefix-roles P bytes p q es is quiet prefix
 further-roles P bytes c p q es is quiet prefix = absurd is
 
-fronts-between : (bytes : List ℕ) (opens : List Container) (p q : Point) (es : List Event) → Fronts bytes opens p q es → opens ≡ [] → Roles Between es
+fronts-between : (bytes : List ℕ) (opens : List Container) (p q : Point) (es : List Event) → LinePrefix bytes opens p q es → opens ≡ [] → Roles Between es
 fronts-between bytes opens p q es (Behind r) none = tt
 fronts-between bytes opens p q es (Goes c many a b d xs ys further more) none =
     roles-append Between xs ys (further-roles Between bytes c a b xs further tt tt) (fronts-between bytes many b d ys more none)
@@ -129,12 +129,12 @@ collects-quote bytes p q es ys end all is c =
     (slice_range bytes (byte_at p) is.marker.index, blank-before bytes p is.marker.index le is.white_before, collects-prefix bytes p q es ys (byte_at p) end all is le c)
 
 -- what stands in front of the content of a container that goes on leaves whitespace alone
-collects-further : (bytes : List ℕ) (c : Container) (p q : Point) (es ys : List Event) (end : ℕ) (all : List ℕ) → front.IsFurther bytes c p q es → Collects bytes ys (byte_at q) end all →
+collects-further : (bytes : List ℕ) (c : Container) (p q : Point) (es ys : List Event) (end : ℕ) (all : List ℕ) → front.IsContinuationPrefix bytes c p q es → Collects bytes ys (byte_at q) end all →
     (white : List ℕ) × (is_blank white ≡ true) × Collects bytes (es ++ ys) (byte_at p) end (white ++ all)
 collects-further bytes InQuote p q es ys end all is collects = collects-quote bytes p q es ys end all is collects
 collects-further bytes c p q es ys end all is collects = absurd is
 
-collects-fronts : (bytes : List ℕ) (opens : List Container) (p q : Point) (es ys : List Event) (end : ℕ) (all : List ℕ) → Fronts bytes opens p q es → opens ≡ [] → Collects bytes ys (byte_at q) end all →
+collects-fronts : (bytes : List ℕ) (opens : List Container) (p q : Point) (es ys : List Event) (end : ℕ) (all : List ℕ) → LinePrefix bytes opens p q es → opens ≡ [] → Collects bytes ys (byte_at q) end all →
     (white : List ℕ) × (is_blank white ≡ true) × Collects bytes (es ++ ys) (byte_at p) end (white ++ all)
 collects-fronts bytes opens p q es ys end all (Behind r) none c = ([], refl, c)
 collects-fronts bytes opens p q es ys end all (Goes container many a b d xs zs further more) none c =
@@ -257,7 +257,7 @@ read-one options bytes r row is cut text =
 
 -- one more in front
 pub read-more : (options : ParseOptions) (bytes : List ℕ) (r : Rest) (row next : Row) (rows : List Row) (q : Point) (lines : List Kept) →
-    f.IsRow options bytes (rest_line r) row → Cut r.spaces row.first → row.kind ≡ TextRow → f.IsEnding bytes row.end q → Fronts bytes [] q next.first next.front → IsRead bytes next rows lines →
+    f.IsRow options bytes (rest_line r) row → Cut r.spaces row.first → row.kind ≡ TextRow → f.IsEnding bytes row.end q → LinePrefix bytes [] q next.first next.front → IsRead bytes next rows lines →
     IsRead bytes row (next ∷ rows) (kept r ∷ lines)
 read-more options bytes r row next rows q lines is cut text ending fronts below =
     let line = line-bytes options bytes r row is cut in

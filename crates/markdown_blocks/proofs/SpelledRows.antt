@@ -7,25 +7,25 @@ use Rattle.md_engine.specs.declared.event.Event.{Event}
 use Rattle.md_engine.specs.declared.event.Name.{Name}
 use Rattle.md_engine.specs.declared.event.Name.TheVariants as n
 use Rattle.md_engine.specs.declared.event.Point.{Point}
-use Rattle.md_seam.specs.Leaves.{heading_lines, heading_text}
-use Rattle.md_seam.specs.Nested.{around, enter, exit}
-use Rattle.md_seam.specs.Preamble.{rest_at}
-use Rattle.md_seam.specs.Rest.{Rest, run_len}
-use Rattle.md_seam.specs.Spelled.{Around, Reading, Shape, add_block, block_around, left, read, role, spelled, unread}
-use Rattle.md_seam.specs.State.{At, Container, InFootnote, InItem, InQuote, Kept, Leaf, NoLeaf, OpenParagraph, Path, Spot, Within, closed, container_block, kept, shut, spot, texts, then_block, then_leaf}
-use Rattle.md_seam.specs.Step.{spot_of, step, steps}
-use Rattle.md_seam.specs.Tree.{Block, Blocks, End, Heading, Paragraph}
+use Rattle.md_seam.specs.Standard.Leaves.{heading_lines, heading_text}
+use Rattle.md_seam.specs.Events.Nested.{around, enter, exit}
+use Rattle.md_seam.specs.Standard.Preamble.{rest_at}
+use Rattle.md_seam.specs.Standard.Rest.{Rest, run_len}
+use Rattle.md_seam.specs.Events.Spelled.{Around, Reading, Shape, add_block, block_around, left, read, role, spelled, unread}
+use Rattle.md_seam.specs.Standard.State.{At, Container, InFootnote, InItem, InQuote, Kept, Leaf, NoLeaf, OpenParagraph, Path, Spot, Within, closed, container_block, kept, shut, spot, texts, then_block, then_leaf}
+use Rattle.md_seam.specs.Standard.Step.{spot_of, step, steps}
+use Rattle.md_seam.specs.Standard.Tree.{Block, Blocks, End, Heading, Paragraph}
 use Rattle.md_seam.proofs.BlocksLemmas.{read-break}
 use Rattle.md_seam.proofs.RestCells.{Cut}
 use Rattle.md_seam.proofs.SpelledLemmas.{Between, Quiet, QuietOrPrefix, Roles, read-between, read-from, read-prefixes, read-quiet}
 use Rattle.markdown_blocks.specs.Change.{Change, container_name, ends_of, is_none}
-use Rattle.markdown_blocks.specs.Fed.{last_leaves, lefts, rests_from}
+use Rattle.markdown_blocks.specs.Fed.{last_leaves, close_containers, rests_from}
 use Rattle.markdown_blocks.specs.Fronted.{Contained, cut_tab, rest_from, rest_line}
 use Rattle.markdown_blocks.specs.Parsed.{IsBuilt}
 use Rattle.markdown_blocks.specs.Rows.{BlankRow, BreakRow, Group, HeadingRow, Lines, Row, RowKind, Single, TextRow, ending_events, goes_on, groups, groups_events, is_lazy, is_text, last_row, line_kind, onto_groups, onto_lines, read_lines, read_title, row_title, single_events_by, tail_events}
 use Rattle.markdown_blocks.specs.Stands.{IsPlain, around_of, containers_of, final, final_on, is_going, outer_on, reading, reading_on, shape_of}
 use Rattle.markdown_blocks.proofs.ContainedLemmas.{contained-shapes, lazy-opens}
-use Rattle.markdown_blocks.proofs.FrontFacts.{Behind, Begins, Fronts, Goes, IsFurther, IsOpening}
+use Rattle.markdown_blocks.proofs.FrontFacts.{Behind, Begins, LinePrefix, Goes, IsContinuationPrefix, IsOpeningPrefix}
 use Rattle.markdown_blocks.proofs.LineKinds.{heading-kind}
 use Rattle.markdown_blocks.proofs.LineSteps.{behind_path, contained-lazy, contained_at, containers-step, fresh-found, going-step, goes_lazy, held_of, kept_to, lazy-text, longer, new_line, new_path, plain-step, renewed, rest_line-kind, rest_line-trim, shut-lines, spot_by, step-contained}
 use Rattle.markdown_blocks.proofs.RowFacts as f
@@ -34,13 +34,13 @@ use Rattle.markdown_blocks.proofs.SpelledParagraphs.{IsRead, further-roles, pref
 
 -- The ends and begins of containers.
 
-lefts-one : (size : ℕ) (r : Reading) → lefts (suc size) r ≡ left (lefts size r).outer (lefts size r)
-lefts-one zero r = refl
-lefts-one (suc size) r = lefts-one size (left r.outer r)
+close_containers-one : (size : ℕ) (r : Reading) → close_containers (suc size) r ≡ left (close_containers size r).outer (close_containers size r)
+close_containers-one zero r = refl
+close_containers-one (suc size) r = close_containers-one size (left r.outer r)
 
-lefts-between : (size : ℕ) (r : Reading) → r.text ≡ None → r.leaf ≡ None → ((lefts size r).text ≡ None) × ((lefts size r).leaf ≡ None)
-lefts-between zero r t l = (t, l)
-lefts-between (suc size) r t l = let next = go r.outer in lefts-between size (left r.outer r) next.0 next.1
+close_containers-between : (size : ℕ) (r : Reading) → r.text ≡ None → r.leaf ≡ None → ((close_containers size r).text ≡ None) × ((close_containers size r).leaf ≡ None)
+close_containers-between zero r t l = (t, l)
+close_containers-between (suc size) r t l = let next = go r.outer in close_containers-between size (left r.outer r) next.0 next.1
   where
     go : (outer : List Around) → ((left outer r).text ≡ None) × ((left outer r).leaf ≡ None)
     go [] = (t, l)
@@ -53,11 +53,11 @@ shape-block (InItem digits marker width starts_blank) bs = refl
 shape-block (InFootnote label) bs = refl
 
 -- where all containers of a path end, all of it is closed
-lefts-all : (options : ParseOptions) (outer : List Around) (p : Path) → lefts (length (containers_of p)) (reading_on options outer p) ≡ final_on options outer p
-lefts-all options outer (At s) = refl
-lefts-all options outer (Within before container p) =
-    lefts-one (length (containers_of p)) (reading_on options (around_of container before ∷ outer) p)
-    ∙ ap (λ (r : Reading). left r.outer r) (lefts-all options (around_of container before ∷ outer) p)
+close_containers-all : (options : ParseOptions) (outer : List Around) (p : Path) → close_containers (length (containers_of p)) (reading_on options outer p) ≡ final_on options outer p
+close_containers-all options outer (At s) = refl
+close_containers-all options outer (Within before container p) =
+    close_containers-one (length (containers_of p)) (reading_on options (around_of container before ∷ outer) p)
+    ∙ ap (λ (r : Reading). left r.outer r) (close_containers-all options (around_of container before ∷ outer) p)
     ∙ ap (λ (b : Block). record { outer = outer; here = then_block before b; leaf = None; text = None }) (shape-block container (closed options p))
 
 -- The containers of a path are read as these, of which some stay and the others close. One that stays may have changed, but for
@@ -76,13 +76,13 @@ around-same : (c d : Container) (before : Blocks) → shape_of c ≡ shape_of d 
 around-same c d before e = ap (λ (shape : Shape). record { shape = shape; before = before }) e
 
 -- where some end, the others are kept
-lefts-kept : (options : ParseOptions) (stays closes : List Container) (outer : List Around) (p : Path) → AreShapes stays closes p → lefts (length closes) (reading_on options outer p) ≡ reading_on options outer (kept_to options stays p)
-lefts-kept options [] closes outer p e = ap (λ (n : ℕ). lefts n (reading_on options outer p)) (shapes-length closes (containers_of p) e) ∙ lefts-all options outer p
-lefts-kept options (c ∷ stays) closes outer (At s) e = cc
-lefts-kept options (c ∷ stays) closes outer (Within before container p) e =
+close_containers-kept : (options : ParseOptions) (stays closes : List Container) (outer : List Around) (p : Path) → AreShapes stays closes p → close_containers (length closes) (reading_on options outer p) ≡ reading_on options outer (kept_to options stays p)
+close_containers-kept options [] closes outer p e = ap (λ (n : ℕ). close_containers n (reading_on options outer p)) (shapes-length closes (containers_of p) e) ∙ close_containers-all options outer p
+close_containers-kept options (c ∷ stays) closes outer (At s) e = cc
+close_containers-kept options (c ∷ stays) closes outer (Within before container p) e =
     let same : shape_of c ≡ shape_of container = cc in
     let more : AreShapes stays closes p = cc in
-    lefts-kept options stays closes (around_of container before ∷ outer) p more
+    close_containers-kept options stays closes (around_of container before ∷ outer) p more
     ∙ ap (λ (around : Around). reading_on options (around ∷ outer) (kept_to options stays p)) (sym (around-same c container before same))
 
 -- what a line changes of those that stay, the events do not tell
@@ -130,13 +130,13 @@ reading-none options outer (c ∷ opens) bs = reading-none options (around_of c 
 
 -- behind the ends and the begins of containers
 reading-open : (options : ParseOptions) (p : Path) (c : Contained) → AreShapes c.change.stays c.change.closes p →
-    reading options (open_path options p c) ≡ enters c.change.opens (lefts (length c.change.closes) (reading options p))
+    reading options (open_path options p c) ≡ enters c.change.opens (close_containers (length c.change.closes) (reading options p))
 reading-open options p c shapes =
     let k : Path = kept_to options c.change.stays p in
     reading-behind options [] k (new_none c.change.opens)
     ∙ reading-none options (outer_on [] k) c.change.opens (spot k).here
     ∙ ap (λ (bs : Blocks). enters c.change.opens (record { outer = outer_on [] k; here = bs; leaf = None; text = None })) (sym (none-shut options (spot k) (kept-none options c.change.stays p)))
-    ∙ ap (enters c.change.opens) (sym (lefts-kept options c.change.stays c.change.closes [] p shapes))
+    ∙ ap (enters c.change.opens) (sym (close_containers-kept options c.change.stays c.change.closes [] p shapes))
 
 -- Leaves.
 
@@ -214,11 +214,11 @@ read-end bytes InQuote p r = refl
 read-end bytes (InItem digits marker width starts_blank) p r = refl
 read-end bytes (InFootnote label) p r = refl
 
-read-ends : (bytes : List ℕ) (cs : List Container) (p : Point) (r : Reading) → read bytes r (ends_of cs p) ≡ lefts (length cs) r
+read-ends : (bytes : List ℕ) (cs : List Container) (p : Point) (r : Reading) → read bytes r (ends_of cs p) ≡ close_containers (length cs) r
 read-ends bytes [] p r = refl
 read-ends bytes (c ∷ cs) p r =
-    let inner : Reading = lefts (length cs) r in
-    read-from bytes r inner (ends_of cs p) (exit (container_name c) p ∷ []) (read-ends bytes cs p r) ∙ read-end bytes c p inner ∙ sym (lefts-one (length cs) r)
+    let inner : Reading = close_containers (length cs) r in
+    read-from bytes r inner (ends_of cs p) (exit (container_name c) p ∷ []) (read-ends bytes cs p r) ∙ read-end bytes c p inner ∙ sym (close_containers-one (length cs) r)
 
 ending-between : (name : Name) (row : Row) → Between (role name) → Roles Between (ending_events name row)
 ending-between name row h = go row.after
@@ -227,23 +227,23 @@ ending-between name row h = go row.after
     go None = tt
     go (Some q) = (h, (h, tt))
 
-read-tail : (bytes : List ℕ) (name : Name) (row : Row) (r : Reading) → Between (role name) → r.text ≡ None → r.leaf ≡ None → read bytes r (tail_events name row) ≡ lefts (length row.leaves) r
+read-tail : (bytes : List ℕ) (name : Name) (row : Row) (r : Reading) → Between (role name) → r.text ≡ None → r.leaf ≡ None → read bytes r (tail_events name row) ≡ close_containers (length row.leaves) r
 read-tail bytes name row r h t l =
     let size : ℕ = length row.leaves in
-    let next = lefts-between size r t l in
-    read-from bytes r (lefts size r) (ends_of row.leaves row.end) (ending_events name row) (read-ends bytes row.leaves row.end r)
-    ∙ read-between bytes (lefts size r) (ending_events name row) next.0 next.1 (ending-between name row h)
+    let next = close_containers-between size r t l in
+    read-from bytes r (close_containers size r) (ends_of row.leaves row.end) (ending_events name row) (read-ends bytes row.leaves row.end r)
+    ∙ read-between bytes (close_containers size r) (ending_events name row) next.0 next.1 (ending-between name row h)
 
 -- what stands in front of the content of a container that goes on is not read
-read-further : (bytes : List ℕ) (c : Container) (p q : Point) (es : List Event) (r : Reading) → IsFurther bytes c p q es → r.text ≡ None → read bytes r es ≡ r
+read-further : (bytes : List ℕ) (c : Container) (p q : Point) (es : List Event) (r : Reading) → IsContinuationPrefix bytes c p q es → r.text ≡ None → read bytes r es ≡ r
 read-further bytes c p q es r is t = read-prefixes bytes r es t (further-roles QuietOrPrefix bytes c p q es is tt tt)
 
 -- a container begins with its prefix, as its name and its prefix tell
-read-opening : (bytes : List ℕ) (c : Container) (p q : Point) (es : List Event) (r : Reading) → IsOpening bytes c p q es → r.text ≡ None → read bytes r (enter (container_name c) p ∷ es) ≡ begins c r
+read-opening : (bytes : List ℕ) (c : Container) (p q : Point) (es : List Event) (r : Reading) → IsOpeningPrefix bytes c p q es → r.text ≡ None → read bytes r (enter (container_name c) p ∷ es) ≡ begins c r
 read-opening bytes InQuote p q es r is t = read-prefixes bytes (begins InQuote r) es t (prefix-roles QuietOrPrefix bytes p q es is tt tt)
 read-opening bytes c p q es r is t = absurd is
 
-read-fronts : (bytes : List ℕ) (opens : List Container) (p q : Point) (es : List Event) (r : Reading) → Fronts bytes opens p q es → r.text ≡ None → read bytes r es ≡ enters opens r
+read-fronts : (bytes : List ℕ) (opens : List Container) (p q : Point) (es : List Event) (r : Reading) → LinePrefix bytes opens p q es → r.text ≡ None → read bytes r es ≡ enters opens r
 read-fronts bytes opens p q es r (Behind a) t = refl
 read-fronts bytes opens p q es r (Goes c many a b d xs ys further more) t = read-from bytes r r xs ys (read-further bytes c a b xs r further t) ∙ read-fronts bytes many b d ys r more t
 read-fronts bytes opens p q es r (Begins c many a b d xs ys opening more) t =
@@ -257,7 +257,7 @@ read-parts bytes r a b c d xs ys zs more e f g h = read-from bytes r c (xs ++ ys
 
 -- these groups, where a path is open of whose containers so many end first, are read as this
 abbrev Reads : ParseOptions → List ℕ → Path → List Container → List Group → Reading → Type 0
-Reads options bytes p closes gs last = read bytes (lefts (length closes) (reading options p)) (groups_events bytes gs) ≡ last
+Reads options bytes p closes gs last = read bytes (close_containers (length closes) (reading options p)) (groups_events bytes gs) ≡ last
 
 -- the lines of a paragraph go on an open one or begin one, and with what follows are read as this
 record ReadsLines (options : ParseOptions) (bytes : List ℕ) (p : Path) (row : Row) (rows : List Row) (gs : List Group) (last : Reading) : Type 0 where
@@ -291,7 +291,7 @@ record Joins (options : ParseOptions) (bytes : List ℕ) (p : Path) (row : Row) 
   opens : next.change.opens ≡ []
   after : Point
   ending : f.IsEnding bytes row.end after
-  fronts : Fronts bytes [] after next.first next.front
+  fronts : LinePrefix bytes [] after next.first next.front
 
 abbrev Follows : ParseOptions → List ℕ → Path → Row → List Group → Reading → Type 0
 Follows options bytes p row gs last = Parts options bytes p row gs last ⊎ Joins options bytes p row gs last
@@ -329,7 +329,7 @@ starts-lines options bytes p r row gs last is cut text (inl parts) = record {
     are = read-one options bytes r row is cut text;
     behind =
         let s : Reading = reading options (longer p (kept r ∷ [])) in
-        read-from bytes s (lefts (length row.leaves) s) (tail_events n.LineEnding row) (groups_events bytes gs) (read-tail bytes n.LineEnding row s tt refl refl) ∙ parts.reads;
+        read-from bytes s (close_containers (length row.leaves) s) (tail_events n.LineEnding row) (groups_events bytes gs) (read-tail bytes n.LineEnding row s tt refl refl) ∙ parts.reads;
   };
 }
 starts-lines options bytes p r row gs last is cut text (inr joins) =
@@ -351,19 +351,19 @@ starts-lines options bytes p r row gs last is cut text (inr joins) =
 
 -- what is read in front of a line, and what it opens behind that
 read-open : (options : ParseOptions) (p : Path) (c : Contained) (row : Row) → AreShapes c.change.stays c.change.closes p → row.change ≡ c.change →
-    enters row.change.opens (lefts (length row.change.closes) (reading options p)) ≡ reading options (open_path options p c)
-read-open options p c row shapes same = ap (λ (x : Change). enters x.opens (lefts (length x.closes) (reading options p))) same ∙ sym (reading-open options p c shapes)
+    enters row.change.opens (close_containers (length row.change.closes) (reading options p)) ≡ reading options (open_path options p c)
+read-open options p c row shapes same = ap (λ (x : Change). enters x.opens (close_containers (length x.closes) (reading options p))) same ∙ sym (reading-open options p c shapes)
 
 -- a line that is no text
 single-reads : (options : ParseOptions) (bytes : List ℕ) (p : Path) (c : Contained) (row : Row) (gs : List Group) (last : Reading) (new : Path) (name : Name) (leaf : List Event) → AreShapes c.change.stays c.change.closes p →
-    row.change ≡ c.change → (a : Point) → Fronts bytes row.change.opens a row.first row.front →
+    row.change ≡ c.change → (a : Point) → LinePrefix bytes row.change.opens a row.first row.front →
     ((e : Reading) → e ≡ reading options (open_path options p c) → read bytes e leaf ≡ reading options new) → Between (role name) → Reads options bytes new row.leaves gs last →
-    read bytes (lefts (length row.change.closes) (reading options p)) ((row.front ++ leaf ++ tail_events name row) ++ groups_events bytes gs) ≡ last
+    read bytes (close_containers (length row.change.closes) (reading options p)) ((row.front ++ leaf ++ tail_events name row) ++ groups_events bytes gs) ≡ last
 single-reads options bytes p c row gs last new name leaf shapes change a fronts found between reads =
-    let start : Reading = lefts (length row.change.closes) (reading options p) in
+    let start : Reading = close_containers (length row.change.closes) (reading options p) in
     let begin : Reading = enters row.change.opens start in
-    let text = lefts-between (length row.change.closes) (reading options p) refl refl in
-    read-parts bytes start begin (reading options new) (lefts (length row.leaves) (reading options new)) last row.front leaf (tail_events name row) (groups_events bytes gs)
+    let text = close_containers-between (length row.change.closes) (reading options p) refl refl in
+    read-parts bytes start begin (reading options new) (close_containers (length row.leaves) (reading options new)) last row.front leaf (tail_events name row) (groups_events bytes gs)
     (read-fronts bytes row.change.opens a row.first row.front start fronts text.0) (found begin (read-open options p c row shapes change)) (read-tail bytes name row (reading options new) between refl refl) reads
 
 -- the heading behind the indent of a line
@@ -423,11 +423,11 @@ row-means options bytes p a line row gs last built plain is follows = go (goes_l
     inside h = (is.is.inside h).quiet
 
     by : (kind : RowKind) → row.kind ≡ kind → Follows options bytes (to kind) row gs last → Reads options bytes p row.change.closes (onto_groups row kind gs) last
-    by BlankRow e further = subst (λ (k : RowKind). read bytes (lefts (length row.change.closes) (reading options p)) (single_events_by bytes k row ++ groups_events bytes gs) ≡ last) (sym e)
+    by BlankRow e further = subst (λ (k : RowKind). read bytes (close_containers (length row.change.closes) (reading options p)) (single_events_by bytes k row ++ groups_events bytes gs) ≡ last) (sym e)
         (single-reads options bytes p c row gs last (to BlankRow) n.BlankLineEnding row.inside shapes is.change a is.front
         (λ s same. read-quiet bytes s row.inside (inside (λ (h : row.kind ≡ HeadingRow). let bad : BlankRow ≡ HeadingRow = sym e ∙ h in cc)) ∙ same ∙ sym (reading-with options o (λ bs. spot_by bs [] c.rest BlankRow) none))
         tt (no-joins options bytes (to BlankRow) row gs last (ap is_text e) further))
-    by HeadingRow e further = subst (λ (k : RowKind). read bytes (lefts (length row.change.closes) (reading options p)) (single_events_by bytes k row ++ groups_events bytes gs) ≡ last) (sym e)
+    by HeadingRow e further = subst (λ (k : RowKind). read bytes (close_containers (length row.change.closes) (reading options p)) (single_events_by bytes k row ++ groups_events bytes gs) ≡ last) (sym e)
         (single-reads options bytes p c row gs last (to HeadingRow) n.LineEnding (around n.HeadingAtx row.first row.end (read_title bytes (row_title bytes row))) shapes is.change a is.front
         (λ s same.
         ap (λ (x : Reading). read bytes x (around n.HeadingAtx row.first row.end (read_title bytes (row_title bytes row)))) same
@@ -435,7 +435,7 @@ row-means options bytes p a line row gs last built plain is follows = go (goes_l
         ∙ ap (λ (l : List ℕ). add_block (heading_with l) (reading options o)) (rest_line-trim c.rest)
         ∙ sym (reading-with options o (λ bs. spot_by bs [] c.rest HeadingRow) none))
         tt (no-joins options bytes (to HeadingRow) row gs last (ap is_text e) further))
-    by BreakRow e further = subst (λ (k : RowKind). read bytes (lefts (length row.change.closes) (reading options p)) (single_events_by bytes k row ++ groups_events bytes gs) ≡ last) (sym e)
+    by BreakRow e further = subst (λ (k : RowKind). read bytes (close_containers (length row.change.closes) (reading options p)) (single_events_by bytes k row ++ groups_events bytes gs) ≡ last) (sym e)
         (single-reads options bytes p c row gs last (to BreakRow) n.LineEnding (around n.ThematicBreak row.first row.end row.inside) shapes is.change a is.front
         (λ s same.
         ap (λ (x : Reading). read bytes x (around n.ThematicBreak row.first row.end row.inside)) same
@@ -443,9 +443,9 @@ row-means options bytes p a line row gs last built plain is follows = go (goes_l
         ∙ sym (reading-with options o (λ bs. spot_by bs [] c.rest BreakRow) none))
         tt (no-joins options bytes (to BreakRow) row gs last (ap is_text e) further))
     by TextRow e further =
-        let begin : Reading = enters row.change.opens (lefts (length row.change.closes) (reading options p)) in
-        let start : Reading = lefts (length row.change.closes) (reading options p) in
-        let text = lefts-between (length row.change.closes) (reading options p) refl refl in
+        let begin : Reading = enters row.change.opens (close_containers (length row.change.closes) (reading options p)) in
+        let start : Reading = close_containers (length row.change.closes) (reading options p) in
+        let text = close_containers-between (length row.change.closes) (reading options p) refl refl in
         let same : begin ≡ reading options o = read-open options p c row shapes is.change in
         let starts = starts-lines options bytes o c.rest row gs last is.is is.cut e (subst (λ (x : Path). Follows options bytes x row gs last) (sym (longer-with o (kept c.rest ∷ []) none)) further) in
         let reads = starts.reads in
@@ -475,9 +475,9 @@ row-means options bytes p a line row gs last built plain is follows = go (goes_l
 
 -- where nothing follows
 row-ends : (options : ParseOptions) (bytes : List ℕ) (p : Path) (a : Point) (line : List ℕ) (row : Row) → IsBuilt options → IsPlain p → f.IsLine options bytes (containers_of p) (is_going p) a line row →
-    Means options bytes p (is_lazy (is_going p) row.change.opens row.kind) row (groups (row ∷ [])) (lefts (length row.leaves) (reading options (step options p (rest_from a line))))
+    Means options bytes p (is_lazy (is_going p) row.change.opens row.kind) row (groups (row ∷ [])) (close_containers (length row.leaves) (reading options (step options p (rest_from a line))))
 row-ends options bytes p a line row built plain is =
-    row-means options bytes p a line row [] (lefts (length row.leaves) (reading options (step options p (rest_from a line)))) built plain is (inl (record { apart = λ text. refl; reads = refl }))
+    row-means options bytes p a line row [] (close_containers (length row.leaves) (reading options (step options p (rest_from a line)))) built plain is (inl (record { apart = λ text. refl; reads = refl }))
 
 -- Lines, one after another.
 
@@ -541,7 +541,7 @@ follows-below options bytes p row below gs q line last built plain going leaves 
       opens = none;
       after = q;
       ending = ending;
-      fronts = subst (λ (cs : List Container). Fronts bytes cs q below.first below.front) none is.front;
+      fronts = subst (λ (cs : List Container). LinePrefix bytes cs q below.first below.front) none is.front;
     })
   where
     lazy-going : (going : Bool) (opens : List Container) (kind : RowKind) → is_lazy going opens kind ≡ true → going ≡ true
@@ -549,7 +549,7 @@ follows-below options bytes p row below gs q line last built plain going leaves 
     lazy-going false opens kind e = cc
 follows-below options bytes p row below gs q line last built plain going leaves ending is false lazy means = inl (record {
   apart = λ text. not-joined row below gs (ap (λ (x : Bool). is_lazy x below.change.opens below.kind) (sym (going ∙ ap is_text text)) ∙ lazy);
-  reads = ap (λ (cs : List Container). read bytes (lefts (length cs) (reading options p)) (groups_events bytes (onto_groups below below.kind gs))) leaves ∙ means;
+  reads = ap (λ (cs : List Container). read bytes (close_containers (length cs) (reading options p)) (groups_events bytes (onto_groups below below.kind gs))) leaves ∙ means;
 })
 
 -- what the first line is read as
@@ -571,7 +571,7 @@ rows-below options bytes a p line next lines row below rows built plain are =
 
 -- what so many lines, and one more, come to, but for the containers that end behind them
 abbrev Came : ParseOptions → List ℕ → Path → ℕ → List Rest → List Row → Type 0
-Came options bytes a n rests rows = RowsMean options bytes a (lefts (length (last_leaves (take (suc n) rows))) (reading options (steps options a (take (suc n) rests)))) (take (suc n) rows)
+Came options bytes a n rests rows = RowsMean options bytes a (close_containers (length (last_leaves (take (suc n) rows))) (reading options (steps options a (take (suc n) rests)))) (take (suc n) rows)
 
 -- The groups of the lines of a text, up to any of them, are read as what these lines do.
 rows-mean : (options : ParseOptions) (bytes : List ℕ) (a : Path) (p : Point) (n : ℕ) (lines : List (List ℕ)) (rows : List Row) → IsBuilt options → IsPlain a →
@@ -588,7 +588,7 @@ rows-mean options bytes a p (suc n) (line ∷ next ∷ lines) (row ∷ below ∷
     let are_b = rows-below options bytes a p line next lines row below rows built plain are in
     let further : Came options bytes b n (rests_from q (next ∷ lines)) (below ∷ rows) = rows-mean options bytes b q n (next ∷ lines) (below ∷ rows) built plain_b are_b in
     let some : List Row = take n rows in
-    let last : Reading = lefts (length (last_leaves (below ∷ some))) (reading options (steps options b (take (suc n) (map (rest_at 0) (next ∷ lines))))) in
+    let last : Reading = close_containers (length (last_leaves (below ∷ some))) (reading options (steps options b (take (suc n) (map (rest_at 0) (next ∷ lines))))) in
     row-means options bytes a p line row (groups (below ∷ some)) last built plain are.0
     (follows-below options bytes b row below (groups some) q next last built plain_b going are.1 are.4 (first-line options bytes (containers_of b) (is_going b) q (next ∷ lines) (below ∷ rows) are_b)
     (is_lazy (is_going b) below.change.opens below.kind) refl
@@ -607,7 +607,7 @@ all-leave options bytes a p lines rows built plain are = absurd are
 
 -- The events of a text, up to any of its lines, are read as what these lines come to, but for the containers that end behind them.
 pub lines-read : (options : ParseOptions) (bytes : List ℕ) (p : Point) (n : ℕ) (lines : List (List ℕ)) (rows : List Row) → IsBuilt options → f.AreRows options bytes [] false p lines rows →
-    read bytes unread (groups_events bytes (groups (take n rows))) ≡ lefts (length (last_leaves (take n rows))) (reading options (steps options (At (spot_of End)) (take n (rests_from p lines))))
+    read bytes unread (groups_events bytes (groups (take n rows))) ≡ close_containers (length (last_leaves (take n rows))) (reading options (steps options (At (spot_of End)) (take n (rests_from p lines))))
 lines-read options bytes p zero lines rows built are = refl
 lines-read options bytes p (suc n) lines rows built are = go lines rows (first-line options bytes [] false p lines rows are) (rows-mean options bytes (At (spot_of End)) p n lines rows built tt are)
   where
@@ -618,11 +618,11 @@ lines-read options bytes p (suc n) lines rows built are = go lines rows (first-l
     none (c ∷ stays) closes e = cc
 
     go : (ls : List (List ℕ)) (rs : List Row) → First options bytes [] false p ls rs → Came options bytes (At (spot_of End)) n (rests_from p lines) rs →
-        read bytes unread (groups_events bytes (groups (take (suc n) rs))) ≡ lefts (length (last_leaves (take (suc n) rs))) (reading options (steps options (At (spot_of End)) (take (suc n) (rests_from p lines))))
+        read bytes unread (groups_events bytes (groups (take (suc n) rs))) ≡ close_containers (length (last_leaves (take (suc n) rs))) (reading options (steps options (At (spot_of End)) (take (suc n) (rests_from p lines))))
     go (line ∷ ls) (row ∷ rs) is means =
         let c : Contained = contained_at options (At (spot_of End)) (rest_from p line) in
         let first : row.change.closes ≡ [] = ap (λ (x : Change). x.closes) is.change ∙ none c.change.stays c.change.closes (contained-shapes options [] false (rest_from p line)) in
-        ap (λ (cs : List Container). read bytes (lefts (length cs) unread) (groups_events bytes (groups (row ∷ take n rs)))) (sym first) ∙ means
+        ap (λ (cs : List Container). read bytes (close_containers (length cs) unread) (groups_events bytes (groups (row ∷ take n rs)))) (sym first) ∙ means
     go [] rs is means = absurd is
     go (line ∷ ls) [] is means = absurd is
 
@@ -635,9 +635,9 @@ rows-final options bytes p lines rows built are =
     let n : ℕ = length rows + length rests in
     ap (λ (rs : List Row). read bytes unread (groups_events bytes (groups rs))) (sym (take_all n rows (omega arith)))
     ∙ lines-read options bytes p n lines rows built are
-    ∙ ap₂ (λ (rs : List Row) (xs : List Rest). lefts (length (last_leaves rs)) (reading options (steps options start xs))) (take_all n rows (omega arith)) (take_all n rests (omega arith))
-    ∙ ap (λ (cs : List Container). lefts (length cs) (reading options (steps options start rests))) (all-leave options bytes start p lines rows built tt are)
-    ∙ lefts-all options [] (steps options start rests)
+    ∙ ap₂ (λ (rs : List Row) (xs : List Rest). close_containers (length (last_leaves rs)) (reading options (steps options start xs))) (take_all n rows (omega arith)) (take_all n rests (omega arith))
+    ∙ ap (λ (cs : List Container). close_containers (length cs) (reading options (steps options start rests))) (all-leave options bytes start p lines rows built tt are)
+    ∙ close_containers-all options [] (steps options start rests)
 
 -- So they spell it.
 pub spelled-rows : (options : ParseOptions) (bytes : List ℕ) (p : Point) (lines : List (List ℕ)) (rows : List Row) → IsBuilt options → f.AreRows options bytes [] false p lines rows →

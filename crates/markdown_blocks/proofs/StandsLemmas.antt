@@ -8,14 +8,14 @@ use Rattle.md_engine.specs.Resolvers.{same_name}
 use Rattle.md_engine.specs.Run.{Runs}
 use Rattle.md_engine.specs.TextFeed.{text_feed}
 use Rattle.md_engine.specs.World.{Flags, World}
-use Rattle.md_seam.specs.Rest.{Rest}
-use Rattle.md_seam.specs.Spelled.{Reading, read, unread}
-use Rattle.md_seam.specs.State.{At, Container, Path}
-use Rattle.md_seam.specs.Step.{spot_of, step, steps}
-use Rattle.md_seam.specs.Texts.{split_lines}
-use Rattle.md_seam.specs.Tree.{End}
+use Rattle.md_seam.specs.Standard.Rest.{Rest}
+use Rattle.md_seam.specs.Events.Spelled.{Reading, read, unread}
+use Rattle.md_seam.specs.Standard.State.{At, Container, Path}
+use Rattle.md_seam.specs.Standard.Step.{spot_of, step, steps}
+use Rattle.md_seam.specs.Standard.Texts.{split_lines}
+use Rattle.md_seam.specs.Standard.Tree.{End}
 use Rattle.markdown_blocks.specs.Change.{open_behind}
-use Rattle.markdown_blocks.specs.Fed.{FlowRan, StandsBehind, fed, flow_begins, last_leaves, lefts, line_begins, rests_from}
+use Rattle.markdown_blocks.specs.Fed.{FlowRan, StandsBehind, fed, flow_begins, last_leaves, close_containers, line_begins, rests_from}
 use Rattle.markdown_blocks.specs.Fronted.{rest_from}
 use Rattle.markdown_blocks.specs.Parsed.{IsBuilt}
 use Rattle.markdown_blocks.specs.Rows.{Row, groups, groups_events, is_text}
@@ -63,7 +63,7 @@ steps-left options bytes a p (suc n) lines rows built plain are = absurd are
 pub flags-stand : (options : ParseOptions) (bytes : List ℕ) (p : Point) (n : ℕ) (lines : List (List ℕ)) (rows : List Row) (g : Flags) → IsBuilt options → f.AreRows options bytes [] false p lines rows →
     let path : Path = steps options (At (spot_of End)) (take n (rests_from p lines)) in
     AreOpen g.containers (containers_of path) → g.interrupt ≡ is_going path →
-    (r : Reading) × StandsFor options g r path × (read bytes unread (groups_events bytes (groups (take n rows))) ≡ lefts (length (last_leaves (take n rows))) r)
+    (r : Reading) × StandsFor options g r path × (read bytes unread (groups_events bytes (groups (take n rows))) ≡ close_containers (length (last_leaves (take n rows))) r)
 flags-stand options bytes p n lines rows g built are containers going =
     let path : Path = steps options (At (spot_of End)) (take n (rests_from p lines)) in
     (reading options path, record { containers = containers; going = going; reading = refl }, lines-read options bytes p n lines rows built are)

@@ -18,7 +18,7 @@ use Rattle.md_leaves.proofs.HeadingGoods.{HeadingFits}
 use Rattle.md_seam.specs.Spaces.{ends_line, is_current, sees_white}
 use Rattle.md_seam.proofs.SpacesGoods as spaces
 use Rattle.md_seam.proofs.SpacesGoods.{Does, WhiteFits, seen-some}
-use Rattle.markdown_blocks.specs.States.{flow_owner, flow_table_scheme, flow_went}
+use Rattle.markdown_blocks.specs.States.{flow_owner, flow_table_scheme, flow_transition}
 use Rattle.markdown_blocks.proofs.Goods as flow
 use Rattle.markdown_blocks.proofs.Goods.{FlowFits}
 
@@ -93,7 +93,7 @@ white-here w b c e = go w.current c e
     go None k e = cc
     go (Some x) k e = seen-some (spot w) x (sym k)
 
-pub flow_does : (is_name : ResolveName → ResolveName → Bool) (name : StateName) (w : World) → w.current ≡ looks w → stands flow_table_scheme w (Next name) → Does flow_table_scheme name w (flow_went is_name name w)
+pub flow_does : (is_name : ResolveName → ResolveName → Bool) (name : StateName) (w : World) → w.current ≡ looks w → stands flow_table_scheme w (Next name) → Does flow_table_scheme name w (flow_transition is_name name w)
 flow_does is_name n.BlankLineStart w c at = leaves.good_blank_start flow_table_scheme w _ blank_fits at
 flow_does is_name n.BlankLineAfter w c at = leaves.good_blank_after flow_table_scheme w _ blank_fits at
 flow_does is_name n.BlockQuoteStart w c at = good_quote_start flow_table_scheme w _ quote_fits at

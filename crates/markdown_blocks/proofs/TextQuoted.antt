@@ -2,11 +2,11 @@
 use Rattle.std.proofs.Common.{◌≡◌, ℕ, true, List, ap, ◌∙◌, sym}
 use Rattle.md_engine.specs.declared.configuration.ParseOptions.{ParseOptions}
 use Rattle.md_engine.specs.declared.event.Event.{Event}
-use Rattle.md_seam.specs.Lines.{lines_of}
-use Rattle.md_seam.specs.Meaning.{tree}
-use Rattle.md_seam.specs.Spelled.{spelled}
-use Rattle.md_seam.specs.Tree.{Blocks, End, More, Quote}
-use Rattle.md_seam.specs.Wrapped.{quoted}
+use Rattle.md_seam.specs.Standard.Lines.{lines_of}
+use Rattle.md_seam.specs.Standard.Meaning.{tree}
+use Rattle.md_seam.specs.Events.Spelled.{spelled}
+use Rattle.md_seam.specs.Standard.Tree.{Blocks, End, More, Quote}
+use Rattle.md_seam.specs.Standard.Wrapped.{quoted}
 use Rattle.md_seam.proofs.QuoteLaw.{quote-law}
 use Rattle.markdown_blocks.specs.Parsed.{IsBuilt, IsQuotable}
 use Rattle.markdown_blocks.proofs.TreeRows.{front-off}

@@ -13,13 +13,13 @@ use Rattle.md_leaves.specs.Heading.{heading_link}
 use Rattle.md_leaves.specs.HeadingRule.{Apart, Hashes, Run, Text, White, begun, closes, goes_on, opens}
 use Rattle.md_leaves.specs.HeadingText.{linked_text}
 use Rattle.md_leaves.specs.HeadingTitle.{Title, chunk_unless_empty, front_len, line_runs, text_of, title_of, unread_title}
-use Rattle.md_seam.specs.Inline.{Covers, pair_unless_empty, pieces}
-use Rattle.md_seam.specs.Nested.{around, enter, enter_link, exit, pair}
-use Rattle.md_seam.specs.Places.{first_point, past_byte, past_text, same_place}
-use Rattle.md_seam.specs.Preamble.{has_mark}
-use Rattle.md_seam.specs.Rest.{is_white}
-use Rattle.md_seam.specs.State.{Container, InQuote}
-use Rattle.md_seam.specs.Tiles.{end_point}
+use Rattle.md_seam.specs.Events.Inline.{Covers, pair_unless_empty, pieces}
+use Rattle.md_seam.specs.Events.Nested.{around, enter, enter_link, exit, pair}
+use Rattle.md_seam.specs.Events.Places.{first_point, past_byte, past_text, same_place}
+use Rattle.md_seam.specs.Standard.Preamble.{has_mark}
+use Rattle.md_seam.specs.Standard.Rest.{is_white}
+use Rattle.md_seam.specs.Standard.State.{Container, InQuote}
+use Rattle.md_seam.specs.Events.Tiles.{end_point}
 use Rattle.md_seam.proofs.InlineLemmas.{same-refl}
 use Rattle.markdown_blocks.specs.Change.{container_name, ends_of}
 use Rattle.markdown_blocks.specs.Document.{body_point, mark_end, mark_events}
@@ -28,7 +28,7 @@ use Rattle.markdown_blocks.specs.Rows.{BlankRow, BreakRow, Group, HeadingRow, Li
 use Rattle.markdown_blocks.specs.Unread.{linked_lines, titled_group, titled_groups, titled_row_by}
 use Rattle.markdown_blocks.proofs.JoinedLemmas.{behind-is, behind-none}
 use Rattle.markdown_blocks.proofs.PiecesLemmas.{Follows, Shut, Tiled, follows-append, follows-tiled, shut-exit, tiled-append, tiled-around, tiled-enter, tiled-none, tiled-pair, tiled-two, tiled-unless_empty, tiled-within}
-use Rattle.markdown_blocks.proofs.FrontFacts.{Behind, Begins, Fronts, Goes, IsFurther, IsOpening, IsPrefix}
+use Rattle.markdown_blocks.proofs.FrontFacts.{Behind, Begins, LinePrefix, Goes, IsContinuationPrefix, IsOpeningPrefix, IsPrefix}
 use Rattle.markdown_blocks.proofs.RowFacts.{AreRows, IsLine, IsRow, behind_line}
 use Rattle.markdown_blocks.proofs.TitleNests.{back_bytes, blank-no_heading, break-no_heading, either, line-end-is, text-end-is, text_begin, text_end}
 
@@ -143,15 +143,15 @@ prefix-some bytes p q es is none = go (same_place p is.marker) (sym is.events �
     go false h = cc
 
 -- what stands in front of the content of a container covers what it takes, and where the container opens it has events
-further-tiled : (bytes : List ℕ) (c : Container) (p q : Point) (es : List Event) → IsFurther bytes c p q es → Tiled p q es
+further-tiled : (bytes : List ℕ) (c : Container) (p q : Point) (es : List Event) → IsContinuationPrefix bytes c p q es → Tiled p q es
 further-tiled bytes InQuote p q es is = prefix-tiled bytes p q es is
 further-tiled bytes c p q es is = absurd is
 
-opening-tiled : (bytes : List ℕ) (c : Container) (p q : Point) (es : List Event) → IsOpening bytes c p q es → Tiled p q es
+opening-tiled : (bytes : List ℕ) (c : Container) (p q : Point) (es : List Event) → IsOpeningPrefix bytes c p q es → Tiled p q es
 opening-tiled bytes InQuote p q es is = prefix-tiled bytes p q es is
 opening-tiled bytes c p q es is = absurd is
 
-opening-some : (bytes : List ℕ) (c : Container) (p q : Point) (es : List Event) → IsOpening bytes c p q es → es ≢ []
+opening-some : (bytes : List ℕ) (c : Container) (p q : Point) (es : List Event) → IsOpeningPrefix bytes c p q es → es ≢ []
 opening-some bytes InQuote p q es is = prefix-some bytes p q es is
 opening-some bytes c p q es is = absurd is
 
@@ -161,7 +161,7 @@ begun-tiled name p q [] ys some h = absurd (some refl)
 begun-tiled name p q (e ∷ xs) ys some h = tiled-within (enter name p) e q (xs ++ ys) refl h
 
 -- so what stands in front of a line covers it
-fronts-tiled : (bytes : List ℕ) (opens : List Container) (p q : Point) (es : List Event) → Fronts bytes opens p q es → Tiled p q es
+fronts-tiled : (bytes : List ℕ) (opens : List Container) (p q : Point) (es : List Event) → LinePrefix bytes opens p q es → Tiled p q es
 fronts-tiled bytes opens p q es (Behind at) = tiled-none at at (same-refl at)
 fronts-tiled bytes opens first last es (Goes c same p q r xs ys is more) = tiled-append p q r xs ys (further-tiled bytes c p q xs is) (fronts-tiled bytes same q r ys more)
 fronts-tiled bytes opens first last es (Begins c before p q r xs ys is more) =

@@ -20,19 +20,19 @@ use Rattle.md_leaves.specs.HeadingTitle.{Title, front_len, text_of, title_of, un
 use Rattle.md_seam.specs.declared.inline.Chunk.{Chunk}
 use Rattle.md_seam.specs.declared.inline.PartKind.{PartKind}
 use Rattle.md_seam.specs.declared.inline.PartKind.TheVariants.{Text}
-use Rattle.md_seam.specs.Inline.{Piece, are_lines, pieces}
-use Rattle.md_seam.specs.Nested.{Nested, around, enter, enter_link, exit, pair, is_exit}
-use Rattle.md_seam.specs.Places.{at_or_before, first_point, same_place}
-use Rattle.md_seam.specs.Preamble.{has_mark}
-use Rattle.md_seam.specs.State.{Container, InQuote}
-use Rattle.md_seam.specs.Tiles.{begins_at, chunks, chunks_stand, inside_part, is_part, is_white_piece, part_end, part_kind, part_stands, parts_stand, stands_in_part}
+use Rattle.md_seam.specs.Events.Inline.{Piece, are_lines, pieces}
+use Rattle.md_seam.specs.Events.Nested.{Nested, around, enter, enter_link, exit, pair, is_exit}
+use Rattle.md_seam.specs.Events.Places.{at_or_before, first_point, same_place}
+use Rattle.md_seam.specs.Standard.Preamble.{has_mark}
+use Rattle.md_seam.specs.Standard.State.{Container, InQuote}
+use Rattle.md_seam.specs.Events.Tiles.{begins_at, chunks, chunks_stand, inside_part, is_part, is_white_piece, part_end, part_kind, part_stands, parts_stand, stands_in_part}
 use Rattle.md_seam.proofs.InlineLemmas.{same-refl}
 use Rattle.md_seam.proofs.NestedLemmas.{at_or_before-refl, balanced-none}
 use Rattle.markdown_blocks.specs.Change.{ends_of}
 use Rattle.markdown_blocks.specs.Document.{body_point, mark_end, mark_events}
 use Rattle.markdown_blocks.specs.Rows.{BlankRow, BreakRow, Group, HeadingRow, Lines, Row, RowKind, Single, TextRow, behind_row, chunks_of, ending_events, groups, last_row, row_line, row_title, tail_events}
 use Rattle.markdown_blocks.specs.Unread.{linked, linked_lines, titled_group, titled_groups, titled_row_by, unread_paragraph}
-use Rattle.markdown_blocks.proofs.FrontFacts.{Behind, Begins, Fronts, Goes, IsFurther, IsPrefix}
+use Rattle.markdown_blocks.proofs.FrontFacts.{Behind, Begins, LinePrefix, Goes, IsContinuationPrefix, IsPrefix}
 use Rattle.markdown_blocks.proofs.FrontLemmas.{fronts-balanced, fronts-spans, fronts-turn, open_names}
 use Rattle.markdown_blocks.proofs.FrontParts.{ends-no_parts, ends-unlinked, fronts-no_parts, fronts-unlinked}
 use Rattle.markdown_blocks.proofs.GroupLemmas.{AreGroups, HasFront, IsParagraph, IsSingle, groups-are, paragraph-lines, title-lines}
@@ -128,12 +128,12 @@ prefix-inside bytes p q es is = subst (Inside bytes []) (sym is.events) (go (sam
     go false false = record { outside = (refl, (refl, (refl, (refl, (refl, (refl, (refl, (refl, tt)))))))); ends = refl; white = rw (is.white_before, is.white_behind) refl; has = refl; stand = λ ys. refl }
 
 -- what stands in front of the content of a container that goes on
-further-inside : (bytes : List ℕ) (c : Container) (p q : Point) (es : List Event) → IsFurther bytes c p q es → Inside bytes [] es
+further-inside : (bytes : List ℕ) (c : Container) (p q : Point) (es : List Event) → IsContinuationPrefix bytes c p q es → Inside bytes [] es
 further-inside bytes InQuote p q es is = prefix-inside bytes p q es is
 further-inside bytes c p q es is = absurd is
 
 -- what stands in front of a further line of a paragraph
-fronts-inside : (bytes : List ℕ) (opens : List Container) (p q : Point) (es : List Event) → opens ≡ [] → Fronts bytes opens p q es → Inside bytes [] es
+fronts-inside : (bytes : List ℕ) (opens : List Container) (p q : Point) (es : List Event) → opens ≡ [] → LinePrefix bytes opens p q es → Inside bytes [] es
 fronts-inside bytes opens p q es none (Behind at) = record { outside = tt; ends = refl; white = refl; has = refl; stand = λ ys. refl }
 fronts-inside bytes opens first last es none (Goes c same p q r xs ys is more) = inside-append bytes [] [] xs ys (further-inside bytes c p q xs is) (fronts-inside bytes same q r ys none more)
 fronts-inside bytes opens first last es none (Begins c before p q r xs ys is more) = cc

@@ -19,12 +19,12 @@ use Rattle.md_leaves.specs.HeadingTitle.{Title, chunk_unless_empty, front_len, t
 use Rattle.md_seam.specs.declared.inline.Chunk.{Chunk}
 use Rattle.md_seam.specs.declared.inline.PartKind.{PartKind}
 use Rattle.md_seam.specs.declared.inline.PartKind.TheVariants.{Text}
-use Rattle.md_seam.specs.Inline.{Fills, Part, in_order, pieces, plain_chunk, plain_chunks, together}
-use Rattle.md_seam.specs.Nested.{around, enter, exit, pair}
-use Rattle.md_seam.specs.Places.{at_or_before}
-use Rattle.md_seam.specs.Preamble.{has_mark}
-use Rattle.md_seam.specs.State.{Container}
-use Rattle.md_seam.specs.Tiles.{EachRead, chunks, filled, filled_from, first_list, further_lists, part_at, part_kind, part_of, parts, plain_lists, plain_read}
+use Rattle.md_seam.specs.Events.Inline.{Fills, Part, in_order, pieces, plain_chunk, plain_chunks, together}
+use Rattle.md_seam.specs.Events.Nested.{around, enter, exit, pair}
+use Rattle.md_seam.specs.Events.Places.{at_or_before}
+use Rattle.md_seam.specs.Standard.Preamble.{has_mark}
+use Rattle.md_seam.specs.Standard.State.{Container}
+use Rattle.md_seam.specs.Events.Tiles.{EachRead, chunks, filled, filled_from, first_list, further_lists, part_at, part_kind, part_of, parts, plain_lists, plain_read}
 use Rattle.md_seam.proofs.InlineLemmas.{plain-fills, before-text}
 use Rattle.md_seam.proofs.NestedLemmas.{at_or_before-refl, at_or_before-trans}
 use Rattle.md_seam.proofs.NestsLemmas.{part-none, together-append}

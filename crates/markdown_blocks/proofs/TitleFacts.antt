@@ -10,9 +10,9 @@ use Rattle.md_leaves.specs.HeadingText.{Before, headings_resolved, resolved}
 use Rattle.md_leaves.specs.HeadingTitle.{front_len, line_runs, text_of, title_of, unread_title}
 use Rattle.md_leaves.proofs.TitleLemmas.{behind-marks, front-marks, is_mark, title-resolved}
 use Rattle.md_leaves.proofs.TitleRuns.{pass-first, pass-rest}
-use Rattle.md_seam.specs.Nested.{around, enter, exit}
-use Rattle.md_seam.specs.Places.{past_byte, past_text}
-use Rattle.md_seam.specs.Rest.{is_white, trim_start}
+use Rattle.md_seam.specs.Events.Nested.{around, enter, exit}
+use Rattle.md_seam.specs.Events.Places.{past_byte, past_text}
+use Rattle.md_seam.specs.Standard.Rest.{is_white, trim_start}
 
 -- events without links
 abbrev pub NoLinks : List Event → Type 0

@@ -8,8 +8,8 @@ use Rattle.md_engine.specs.declared.event.Name.TheVariants as n
 use Rattle.md_engine.specs.declared.event.Point.{Point}
 use Rattle.md_leaves.specs.HeadingRule.{Apart, Hashes, Run, Text, White, begun, closes, goes_on, opens}
 use Rattle.md_leaves.specs.HeadingTitle.{front_len, line_runs, text_of, title_of}
-use Rattle.md_seam.specs.Nested.{Balanced, Forward, Matches, last_point, open_after}
-use Rattle.md_seam.specs.Places.{at_or_before, past_byte, past_text}
+use Rattle.md_seam.specs.Events.Nested.{Balanced, Forward, Matches, last_point, open_after}
+use Rattle.md_seam.specs.Events.Places.{at_or_before, past_byte, past_text}
 use Rattle.md_seam.proofs.InlineLemmas.{before-text, past_text-append}
 use Rattle.md_seam.proofs.NestedLemmas.{at_or_before-refl, at_or_before-trans, forward-append, last_point-append}
 use Rattle.markdown_blocks.specs.Rows.{BlankRow, BreakRow, HeadingRow, RowKind}

@@ -9,17 +9,17 @@ use Rattle.md_engine.specs.declared.configuration.ParseOptions.{ParseOptions}
 use Rattle.md_engine.specs.declared.event.Point.{Point}
 use Rattle.md_engine.specs.Place.{first_point}
 use Rattle.md_leaves.specs.HeadingRule.{is_heading}
-use Rattle.md_seam.specs.Containers.{Taken, continues, opens_quote, quote_taken}
-use Rattle.md_seam.specs.Grouped.{grouped, grouped_block, with_front}
-use Rattle.md_seam.specs.Lines.{begins_with, ends_line, full_lines_of, is_ending, lines_of, without_ending}
-use Rattle.md_seam.specs.Meaning.{tree, with_frontmatter}
-use Rattle.md_seam.specs.Preamble.{Preamble, first_column, front_of, has_mark, preamble, preamble_by, rest_at, rests_at, without_mark}
-use Rattle.md_seam.specs.Rest.{Rest, has_small_indent, is_parted, lose, run_len, trim_start}
-use Rattle.md_seam.specs.Spelled.{QuoteShape, spelled}
-use Rattle.md_seam.specs.State.{At, Container, InFootnote, InItem, InQuote, Kept, Leaf, NoLeaf, OpenParagraph, Path, Spot, Within, closed, container_block, kept, shut, texts, then_block, then_leaf}
-use Rattle.md_seam.specs.Step.{fresh_line, spot_of, step, steps}
-use Rattle.md_seam.specs.Texts.{split_lines}
-use Rattle.md_seam.specs.Tree.{Block, Blocks, Break, End, Heading, More, Paragraph, Quote}
+use Rattle.md_seam.specs.Standard.Containers.{Taken, continues, opens_quote, quote_taken}
+use Rattle.md_seam.specs.Standard.Grouped.{grouped, grouped_block, with_front}
+use Rattle.md_seam.specs.Standard.Lines.{begins_with, ends_line, full_lines_of, is_ending, lines_of, without_ending}
+use Rattle.md_seam.specs.Standard.Meaning.{tree, with_frontmatter}
+use Rattle.md_seam.specs.Standard.Preamble.{Preamble, first_column, front_of, has_mark, preamble, preamble_by, rest_at, rests_at, without_mark}
+use Rattle.md_seam.specs.Standard.Rest.{Rest, has_small_indent, is_parted, lose, run_len, trim_start}
+use Rattle.md_seam.specs.Events.Spelled.{QuoteShape, spelled}
+use Rattle.md_seam.specs.Standard.State.{At, Container, InFootnote, InItem, InQuote, Kept, Leaf, NoLeaf, OpenParagraph, Path, Spot, Within, closed, container_block, kept, shut, texts, then_block, then_leaf}
+use Rattle.md_seam.specs.Standard.Step.{fresh_line, spot_of, step, steps}
+use Rattle.md_seam.specs.Standard.Texts.{split_lines}
+use Rattle.md_seam.specs.Standard.Tree.{Block, Blocks, Break, End, Heading, More, Paragraph, Quote}
 use Rattle.md_seam.proofs.LinesLemmas.{without_ending-onto}
 use Rattle.md_outline.specs.Outlined.{are_shallow, is_shallow}
 use Rattle.markdown_blocks.specs.Change.{change_by, interrupts, others_of}

@@ -10,10 +10,10 @@ use Rattle.md_leaves.specs.BreakRule.{Apart, runs}
 use Rattle.md_leaves.specs.HeadingRule.{is_heading_line}
 use Rattle.md_leaves.proofs.GrammarLeaves.{break-word}
 use Rattle.md_seam.specs.Ahead.{begins_white, line_bytes, line_cells, line_end, white_end, white_rest}
-use Rattle.md_seam.specs.Grammar.{Expression, blocks, inside, left_of}
-use Rattle.md_seam.specs.Leaves.{is_rule}
-use Rattle.md_seam.specs.Nested.{pair}
-use Rattle.md_seam.specs.Rest.{is_blank}
+use Rattle.md_seam.specs.Events.Grammar.{Expression, blocks, inside, left_of}
+use Rattle.md_seam.specs.Standard.Leaves.{is_rule}
+use Rattle.md_seam.specs.Events.Nested.{pair}
+use Rattle.md_seam.specs.Standard.Rest.{is_blank}
 use Rattle.md_seam.specs.Spaces.{small_indent}
 use Rattle.md_seam.proofs.GrammarLemmas.{IsWord, Leads, maybe, word-behind}
 use Rattle.markdown_blocks.specs.Rows.{BlankRow, BreakRow, HeadingRow, RowKind, TextRow, first_cell, inside_of, is_break, row_kind}

@@ -14,7 +14,7 @@ use Rattle.md_engine.specs.declared.event.Name.{Name}
 use Rattle.md_engine.specs.declared.event.Name.TheVariants as n
 use Rattle.md_content.specs.Paragraph.{text_link}
 use Rattle.md_leaves.specs.HeadingTitle.{unread_title}
-use Rattle.md_seam.specs.Nested.{around, enter_link, exit}
+use Rattle.md_seam.specs.Events.Nested.{around, enter_link, exit}
 use Rattle.markdown_blocks.specs.Document.{body_point, mark_events}
 use Rattle.markdown_blocks.specs.Rows.{Group, HeadingRow, Lines, Row, RowKind, Single, behind_row, ending_of, groups, last_row, leaf_events, row_title, tail_events}
 use Rattle.markdown_blocks.specs.TextRows.{text_rows}

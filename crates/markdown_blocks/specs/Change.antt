@@ -4,8 +4,8 @@ use Rattle.md_engine.specs.declared.event.Event.{Event}
 use Rattle.md_engine.specs.declared.event.Name.{Name}
 use Rattle.md_engine.specs.declared.event.Name.TheVariants as n
 use Rattle.md_engine.specs.declared.event.Point.{Point}
-use Rattle.md_seam.specs.Nested.{exit}
-use Rattle.md_seam.specs.State.{Container, InFootnote, InItem, InQuote}
+use Rattle.md_seam.specs.Events.Nested.{exit}
+use Rattle.md_seam.specs.Standard.State.{Container, InFootnote, InItem, InQuote}
 
 -- The containers of a line, the outermost first.
 pub record Change : Type 0 where

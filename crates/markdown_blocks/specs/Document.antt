@@ -12,18 +12,18 @@ use Rattle.md_engine.specs.Scheme.{Scheme, Spot, nowhere, of_owners}
 use Rattle.md_engine.specs.World.{World}
 use Rattle.md_leaves.specs.Bom as bom
 use Rattle.md_leaves.specs.Bom.{bom_scheme}
-use Rattle.md_seam.specs.Nested.{pair}
-use Rattle.md_seam.specs.Preamble.{has_mark}
+use Rattle.md_seam.specs.Events.Nested.{pair}
+use Rattle.md_seam.specs.Standard.Preamble.{has_mark}
 use Rattle.md_seam.specs.Spaces.{rest_ready}
-use Rattle.md_seam.specs.Went.{Went, tried}
+use Rattle.md_seam.specs.Transition.{Transition, tried}
 
 -- States.
 
-abbrev pub start_went : World → Went
-start_went w = record { to = Retry s.BomStart; world = tried w (Next s.DocumentBeforeFrontmatter) (Next s.DocumentBeforeFrontmatter) }
+abbrev pub start_transition : World → Transition
+start_transition w = record { to = Retry s.BomStart; world = tried w (Next s.DocumentBeforeFrontmatter) (Next s.DocumentBeforeFrontmatter) }
 
-abbrev pub before_frontmatter_went : World → Went
-before_frontmatter_went w = record { to = Ok; world = w }
+abbrev pub before_frontmatter_transition : World → Transition
+before_frontmatter_transition w = record { to = Ok; world = w }
 
 abbrev pub document_rank : StateName → Spot → ℕ
 document_rank s.DocumentStart x = 2
@@ -44,17 +44,17 @@ document_owner _ = nowhere
 abbrev pub document_table_scheme : Scheme
 document_table_scheme = of_owners document_owner
 
-abbrev pub document_went : StateName → World → Went
-document_went s.BomStart w = bom.start_went w
-document_went s.BomInside w = bom.inside_went w
-document_went s.DocumentStart w = start_went w
-document_went s.DocumentBeforeFrontmatter w = before_frontmatter_went w
-document_went _ w = record { to = Nok; world = w }
+abbrev pub document_transition : StateName → World → Transition
+document_transition s.BomStart w = bom.start_transition w
+document_transition s.BomInside w = bom.inside_transition w
+document_transition s.DocumentStart w = start_transition w
+document_transition s.DocumentBeforeFrontmatter w = before_frontmatter_transition w
+document_transition _ w = record { to = Nok; world = w }
 
 -- what a call of a state does, where there is memory
 pub record DocumentStep (name : StateName) (w : World) (to : State) (new : World) : Type 0 where
-  pub to_is : to ≡ (document_went name w).to
-  pub new_is : new ≡ (document_went name w).world
+  pub to_is : to ≡ (document_transition name w).to
+  pub new_is : new ≡ (document_transition name w).world
 
 -- What it reads.
 

@@ -11,13 +11,13 @@ use Rattle.md_engine.specs.Resolvers.{same_name}
 use Rattle.md_engine.specs.Run.{Calls, Runs, Step}
 use Rattle.md_engine.specs.Run.Runs.{Stays, ThenCalls, ThenLeaves}
 use Rattle.md_engine.specs.World.{World, fresh, looks, reads_to}
-use Rattle.md_seam.specs.Preamble.{rest_at}
-use Rattle.md_seam.specs.Rest.{Rest}
-use Rattle.md_seam.specs.Spelled.{Reading, left, read, unread}
-use Rattle.md_seam.specs.State.{At, Container, Path}
-use Rattle.md_seam.specs.Step.{spot_of, steps}
-use Rattle.md_seam.specs.Texts.{split_lines}
-use Rattle.md_seam.specs.Tree.{End}
+use Rattle.md_seam.specs.Standard.Preamble.{rest_at}
+use Rattle.md_seam.specs.Standard.Rest.{Rest}
+use Rattle.md_seam.specs.Events.Spelled.{Reading, left, read, unread}
+use Rattle.md_seam.specs.Standard.State.{At, Container, Path}
+use Rattle.md_seam.specs.Standard.Step.{spot_of, steps}
+use Rattle.md_seam.specs.Standard.Texts.{split_lines}
+use Rattle.md_seam.specs.Standard.Tree.{End}
 use Rattle.markdown_blocks.specs.Fronted.{rest_from}
 use Rattle.markdown_blocks.specs.Parsed.{IsBuilt}
 use Rattle.markdown_blocks.specs.Rows.{Row, behind_row, groups, groups_events, rows_events}
@@ -46,9 +46,9 @@ abbrev pub path_behind : ParseOptions → List ℕ → Point → ℕ → Path
 path_behind options bytes p n = steps options (At (spot_of End)) (take n (rests_from p (split_lines (drop p.index bytes))))
 
 -- what is read where so many containers end
-abbrev pub lefts : ℕ → Reading → Reading
-lefts zero r = r
-lefts (suc size) r = lefts size (left r.outer r)
+abbrev pub close_containers : ℕ → Reading → Reading
+close_containers zero r = r
+close_containers (suc size) r = close_containers size (left r.outer r)
 
 -- the containers that end behind the last of these lines
 abbrev pub last_leaves : List Row → List Container
@@ -78,7 +78,7 @@ pub record StandsBehind (bytes : List ℕ) (options : ParseOptions) (p : Point) 
   pub events : w.events ≡ rows_events (not_left (take n (text_rows options bytes p)))
   -- these, with their parts read, are read as a tree that is not closed yet,
   pub reading : Reading
-  pub reads : read bytes unread (groups_events bytes (groups (take n (text_rows options bytes p)))) ≡ lefts (length (last_leaves (take n (text_rows options bytes p)))) reading
+  pub reads : read bytes unread (groups_events bytes (groups (take n (text_rows options bytes p)))) ≡ close_containers (length (last_leaves (take n (text_rows options bytes p)))) reading
   -- and with the flags it stands for what these lines come to
   pub stands : StandsFor options w.flags reading (path_behind options bytes p n)
 

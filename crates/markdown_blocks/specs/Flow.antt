@@ -9,31 +9,31 @@ use Rattle.md_engine.specs.declared.tokenizer.ContainerKind.TheVariants as kind
 use Rattle.md_engine.specs.Scheme.{After, Scheme, Spot}
 use Rattle.md_engine.specs.World.{World, closed}
 use Rattle.md_seam.specs.Spaces.{rest_ready}
-use Rattle.md_seam.specs.Went.{Went, entered, exited, taken, tried}
+use Rattle.md_seam.specs.Transition.{Transition, entered, exited, taken, tried}
 use Rattle.markdown_blocks.specs.LineFlags.{begun_line, blanked, ending_name, next_container, next_line, stays, went_on, with_quote}
 
-abbrev pub start_went : World → Went
-start_went w = record { to = Retry s.FlowBlankLineBefore; world = w }
+abbrev pub start_transition : World → Transition
+start_transition w = record { to = Retry s.FlowBlankLineBefore; world = w }
 
-abbrev pub blank_line_before_went : World → Went
-blank_line_before_went w = record { to = Retry s.BlankLineStart; world = tried w (Next s.FlowBlankLineAfter) (Next s.FlowBeforeHeadingAtx) }
+abbrev pub blank_line_before_transition : World → Transition
+blank_line_before_transition w = record { to = Retry s.BlankLineStart; world = tried w (Next s.FlowBlankLineAfter) (Next s.FlowBeforeHeadingAtx) }
 
-abbrev pub before_heading_atx_went : World → Went
-before_heading_atx_went w = record { to = Retry s.HeadingAtxStart; world = tried w (Next s.FlowAfter) (Next s.FlowBeforeThematicBreak) }
+abbrev pub before_heading_atx_transition : World → Transition
+before_heading_atx_transition w = record { to = Retry s.HeadingAtxStart; world = tried w (Next s.FlowAfter) (Next s.FlowBeforeThematicBreak) }
 
-abbrev pub before_thematic_break_went : World → Went
-before_thematic_break_went w = record { to = Retry s.ThematicBreakStart; world = tried w (Next s.FlowAfter) (Next s.FlowBeforeContent) }
+abbrev pub before_thematic_break_transition : World → Transition
+before_thematic_break_transition w = record { to = Retry s.ThematicBreakStart; world = tried w (Next s.FlowAfter) (Next s.FlowBeforeContent) }
 
-abbrev pub before_content_went : World → Went
-before_content_went w = record { to = Retry s.ContentChunkStart; world = tried w (Next s.FlowAfter) Nok }
+abbrev pub before_content_transition : World → Transition
+before_content_transition w = record { to = Retry s.ContentChunkStart; world = tried w (Next s.FlowAfter) Nok }
 
 -- behind the leaf of a line
-abbrev pub after_went : World → Went
-after_went w = record { to = Retry s.DocumentFlowEnd; world = w }
+abbrev pub after_transition : World → Transition
+after_transition w = record { to = Retry s.DocumentFlowEnd; world = w }
 
 -- behind a blank line no paragraph is open
-abbrev pub blank_line_after_went : World → Went
-blank_line_after_went w = record { to = Retry s.DocumentFlowEnd; world = record w { flags = blanked w.flags } }
+abbrev pub blank_line_after_transition : World → Transition
+blank_line_after_transition w = record { to = Retry s.DocumentFlowEnd; world = record w { flags = blanked w.flags } }
 
 -- Containers.
 
@@ -42,35 +42,35 @@ abbrev pub goes_on_with : ContainerKind → StateName
 goes_on_with kind.BlockQuote = s.BlockQuoteContStart
 
 -- by the container that may go on
-abbrev pub existing_before_code : World → Option Container → Went
+abbrev pub existing_before_code : World → Option Container → Transition
 existing_before_code w None = record { to = Retry s.DocumentContainerNewBefore; world = w }
 existing_before_code w (Some c) = record { to = Retry (goes_on_with c.kind); world = tried w (Next s.DocumentContainerExistingAfter) (Next s.DocumentContainerNewBefore) }
 
-abbrev pub existing_before_went : World → Went
-existing_before_went w = existing_before_code w (next_container w.flags)
+abbrev pub existing_before_transition : World → Transition
+existing_before_transition w = existing_before_code w (next_container w.flags)
 
-abbrev pub existing_after_went : World → Went
-existing_after_went w = record { to = Retry s.DocumentContainerExistingBefore; world = record w { flags = went_on w.flags } }
+abbrev pub existing_after_transition : World → Transition
+existing_after_transition w = record { to = Retry s.DocumentContainerExistingBefore; world = record w { flags = went_on w.flags } }
 
-abbrev pub new_before_went : World → Went
-new_before_went w = record { to = Retry s.BlockQuoteStart; world = tried w (Next s.DocumentContainerNewAfter) (Next s.DocumentContainersAfter) }
+abbrev pub new_before_transition : World → Transition
+new_before_transition w = record { to = Retry s.BlockQuoteStart; world = tried w (Next s.DocumentContainerNewAfter) (Next s.DocumentContainersAfter) }
 
-abbrev pub new_after_went : World → Went
-new_after_went w = let v = closed w w.flags.continued w.flags.line_end in record { to = Retry s.DocumentContainerNewBefore; world = record v { flags = with_quote v.flags } }
+abbrev pub new_after_transition : World → Transition
+new_after_transition w = let v = closed w w.flags.continued w.flags.line_end in record { to = Retry s.DocumentContainerNewBefore; world = record v { flags = with_quote v.flags } }
 
-abbrev pub containers_after_went : World → Went
-containers_after_went w = record { to = Retry s.FlowStart; world = record w { flags = begun_line w.flags } }
+abbrev pub containers_after_transition : World → Transition
+containers_after_transition w = record { to = Retry s.FlowStart; world = record w { flags = begun_line w.flags } }
 
 -- where a line ends: by what stands here
-abbrev pub flow_end_code : World → Option ℕ → Went
+abbrev pub flow_end_code : World → Option ℕ → Transition
 flow_end_code w None = record { to = Ok; world = closed w 0 (length w.events) }
 flow_end_code w (Some b) =
     if b == 10
     then record { to = Next s.DocumentContainerExistingBefore; world = record (exited (taken (entered w (ending_name w.flags.blank))) (ending_name w.flags.blank)) { flags = next_line (length w.events) w.flags } }
     else record { to = Nok; world = w }
 
-abbrev pub flow_end_went : World → Went
-flow_end_went w = flow_end_code (closed w (stays w.flags) w.flags.line_end) w.current
+abbrev pub flow_end_transition : World → Transition
+flow_end_transition w = flow_end_code (closed w (stays w.flags) w.flags.line_end) w.current
 
 abbrev pub flow_rank : StateName → Spot → ℕ
 flow_rank s.DocumentContainerExistingAfter x = 18

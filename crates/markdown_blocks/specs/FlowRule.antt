@@ -16,7 +16,7 @@ use Rattle.md_leaves.specs.BreakRule.{HasBreak, Marks, at_break, before_marker, 
 use Rattle.md_leaves.specs.HeadingRule as heading
 use Rattle.md_leaves.specs.HeadingRule.{HasHeading, Hashes, Text, before_opening, heading_at, in_heading, in_opening}
 use Rattle.md_seam.specs.Ahead.{after_white, inside_white, white_at}
-use Rattle.md_seam.specs.Nested.{pair}
+use Rattle.md_seam.specs.Events.Nested.{pair}
 use Rattle.markdown_blocks.specs.LineFlags.{begun_line, blanked, ending_name, next_container, next_line, stays, went_on, with_quote}
 
 -- how the rest of a text ends from a place

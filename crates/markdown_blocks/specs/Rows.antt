@@ -15,12 +15,12 @@ use Rattle.md_leaves.specs.HeadingTitle.{Title, title_of}
 use Rattle.md_seam.specs.declared.inline.Chunk.{Chunk}
 use Rattle.md_seam.specs.declared.inline.PartKind.TheVariants.{Text}
 use Rattle.md_seam.specs.Ahead.{begins_white, from_ending, line_bytes, line_cells, line_end, white_end, white_rest}
-use Rattle.md_seam.specs.Inline.{plain_chunk, plain_events}
-use Rattle.md_seam.specs.Leaves.{is_rule}
-use Rattle.md_seam.specs.Nested.{around, enter, enter_link, exit, pair}
-use Rattle.md_seam.specs.Rest.{is_blank, trim_start}
+use Rattle.md_seam.specs.Events.Inline.{plain_chunk, plain_events}
+use Rattle.md_seam.specs.Standard.Leaves.{is_rule}
+use Rattle.md_seam.specs.Events.Nested.{around, enter, enter_link, exit, pair}
+use Rattle.md_seam.specs.Standard.Rest.{is_blank, trim_start}
 use Rattle.md_seam.specs.Spaces.{small_indent}
-use Rattle.md_seam.specs.State.{Container, InQuote}
+use Rattle.md_seam.specs.Standard.State.{Container, InQuote}
 use Rattle.markdown_blocks.specs.Change.{Change, change_by, ends_of, interrupts, is_none, open_behind, others_of}
 
 -- what the rest of a line is, behind the prefixes of its containers, where only headings and breaks are on

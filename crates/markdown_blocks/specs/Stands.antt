@@ -1,7 +1,7 @@
 -- What stands between two lines: what was read of the text, what the tokenizer knows, and what is open by the line definition.
 --
 -- The events before a line, without the ends of the containers that the line closes, spell the finished blocks, and the open leaf
--- as if it ended there. What is still open, and may go on, is told by the flags. A container adds a clause to `Is`. Items are
+-- as if it ended there. What is still open, and may go on, is told by the flags. A container adds a clause to `MatchesContainer`. Items are
 -- meant as they stand before their resolver puts lists around them. A leaf of several lines (fenced code, HTML, a table) will add
 -- what its scratch holds.
 use Rattle.std.specs.Prelude.{◌≡◌, Bool, List, [], ◌∷◌, None}
@@ -9,10 +9,10 @@ use Rattle.md_engine.specs.declared.configuration.ParseOptions.{ParseOptions}
 use Rattle.md_engine.specs.declared.tokenizer.Container.{Container as Held}
 use Rattle.md_engine.specs.declared.tokenizer.ContainerKind.TheVariants as kind
 use Rattle.md_engine.specs.World.{Flags}
-use Rattle.md_seam.specs.Spelled.{Around, FootnoteShape, ItemShape, QuoteShape, Reading, Shape}
-use Rattle.md_seam.specs.State.{At, Container, InFootnote, InItem, InQuote, Leaf, NoLeaf, OpenParagraph, Path, Within, closed, shut, spot}
-use Rattle.md_seam.specs.Step.{is_open_text}
-use Rattle.md_seam.specs.Tree.{Blocks}
+use Rattle.md_seam.specs.Events.Spelled.{Around, FootnoteShape, ItemShape, QuoteShape, Reading, Shape}
+use Rattle.md_seam.specs.Standard.State.{At, Container, InFootnote, InItem, InQuote, Leaf, NoLeaf, OpenParagraph, Path, Within, closed, shut, spot}
+use Rattle.md_seam.specs.Standard.Step.{is_open_text}
+use Rattle.md_seam.specs.Standard.Tree.{Blocks}
 
 -- What was read.
 
@@ -49,14 +49,14 @@ final options p = final_on options [] p
 
 -- A container that the tokenizer holds is this one: it is of its kind, and holds what the events do not tell. Quotes alone have
 -- a kind yet.
-abbrev pub Is : Held → Container → Type 0
-Is held InQuote = held.kind ≡ kind.BlockQuote
-Is held container = ⊥
+abbrev pub MatchesContainer : Held → Container → Type 0
+MatchesContainer held InQuote = held.kind ≡ kind.BlockQuote
+MatchesContainer held container = ⊥
 
 -- those that the tokenizer holds are these, the outermost first
 abbrev pub AreOpen : List Held → List Container → Type 0
 AreOpen [] [] = Unit {0}
-AreOpen (held ∷ more) (container ∷ containers) = Is held container × AreOpen more containers
+AreOpen (held ∷ more) (container ∷ containers) = MatchesContainer held container × AreOpen more containers
 AreOpen more containers = ⊥
 
 -- the open containers of a path, the outermost first

@@ -10,7 +10,7 @@ use Rattle.md_engine.specs.Scheme.{Scheme, nowhere, of_owners}
 use Rattle.md_engine.specs.World.{World}
 use Rattle.md_containers.specs.Quote as quote
 use Rattle.md_containers.specs.Quote.{quote_scheme}
-use Rattle.md_content.specs.Chunks.{chunk_inside_code, chunk_scheme, chunk_start_went}
+use Rattle.md_content.specs.Chunks.{chunk_inside_code, chunk_scheme, chunk_start_transition}
 use Rattle.md_leaves.specs.Blank as blank
 use Rattle.md_leaves.specs.Blank.{blank_scheme}
 use Rattle.md_leaves.specs.Break as break
@@ -19,7 +19,7 @@ use Rattle.md_leaves.specs.Heading as heading
 use Rattle.md_leaves.specs.Heading.{heading_scheme}
 use Rattle.md_seam.specs.Spaces as spaces
 use Rattle.md_seam.specs.Spaces.{ends_line, white_scheme}
-use Rattle.md_seam.specs.Went.{Went}
+use Rattle.md_seam.specs.Transition.{Transition}
 use Rattle.markdown_blocks.specs.Flow as flow
 use Rattle.markdown_blocks.specs.Flow.{flow_scheme}
 
@@ -64,44 +64,44 @@ abbrev pub flow_table_scheme : Scheme
 flow_table_scheme = of_owners flow_owner
 
 -- `is_name` finds a resolver among those that are registered
-abbrev pub flow_went : (ResolveName → ResolveName → Bool) → StateName → World → Went
-flow_went is_name s.BlankLineStart w = blank.start_went w
-flow_went is_name s.BlockQuoteStart w = quote.start_went w
-flow_went is_name s.BlockQuoteContStart w = quote.cont_start_went w
-flow_went is_name s.BlockQuoteContBefore w = quote.cont_before_went w
-flow_went is_name s.BlockQuoteContAfter w = quote.cont_after_went w
-flow_went is_name s.DocumentContainerExistingBefore w = flow.existing_before_went w
-flow_went is_name s.DocumentContainerExistingAfter w = flow.existing_after_went w
-flow_went is_name s.DocumentContainerNewBefore w = flow.new_before_went w
-flow_went is_name s.DocumentContainerNewAfter w = flow.new_after_went w
-flow_went is_name s.DocumentContainersAfter w = flow.containers_after_went w
-flow_went is_name s.DocumentFlowEnd w = flow.flow_end_went w
-flow_went is_name s.BlankLineAfter w = blank.after_went w
-flow_went is_name s.ContentChunkStart w = chunk_start_went w
-flow_went is_name s.ContentChunkInside w = chunk_inside_code (is_name r.Content) w (ends_line w.current)
-flow_went is_name s.FlowStart w = flow.start_went w
-flow_went is_name s.FlowBlankLineBefore w = flow.blank_line_before_went w
-flow_went is_name s.FlowBeforeHeadingAtx w = flow.before_heading_atx_went w
-flow_went is_name s.FlowBeforeThematicBreak w = flow.before_thematic_break_went w
-flow_went is_name s.FlowBeforeContent w = flow.before_content_went w
-flow_went is_name s.FlowBlankLineAfter w = flow.blank_line_after_went w
-flow_went is_name s.FlowAfter w = flow.after_went w
-flow_went is_name s.HeadingAtxStart w = heading.start_went w
-flow_went is_name s.HeadingAtxBefore w = heading.before_went w
-flow_went is_name s.HeadingAtxSequenceOpen w = heading.sequence_open_went w
-flow_went is_name s.HeadingAtxAtBreak w = heading.at_break_went (is_name r.HeadingAtx) w
-flow_went is_name s.HeadingAtxSequenceFurther w = heading.sequence_further_went w
-flow_went is_name s.HeadingAtxData w = heading.data_went w
-flow_went is_name s.SpaceOrTabStart w = spaces.start_went w
-flow_went is_name s.SpaceOrTabInside w = spaces.inside_went w
-flow_went is_name s.SpaceOrTabAfter w = spaces.after_went w
-flow_went is_name s.ThematicBreakStart w = break.start_went w
-flow_went is_name s.ThematicBreakBefore w = break.before_went w
-flow_went is_name s.ThematicBreakAtBreak w = break.at_break_went w
-flow_went is_name s.ThematicBreakSequence w = break.sequence_went w
-flow_went is_name _ w = record { to = Nok; world = w }
+abbrev pub flow_transition : (ResolveName → ResolveName → Bool) → StateName → World → Transition
+flow_transition is_name s.BlankLineStart w = blank.start_transition w
+flow_transition is_name s.BlockQuoteStart w = quote.start_transition w
+flow_transition is_name s.BlockQuoteContStart w = quote.cont_start_transition w
+flow_transition is_name s.BlockQuoteContBefore w = quote.cont_before_transition w
+flow_transition is_name s.BlockQuoteContAfter w = quote.cont_after_transition w
+flow_transition is_name s.DocumentContainerExistingBefore w = flow.existing_before_transition w
+flow_transition is_name s.DocumentContainerExistingAfter w = flow.existing_after_transition w
+flow_transition is_name s.DocumentContainerNewBefore w = flow.new_before_transition w
+flow_transition is_name s.DocumentContainerNewAfter w = flow.new_after_transition w
+flow_transition is_name s.DocumentContainersAfter w = flow.containers_after_transition w
+flow_transition is_name s.DocumentFlowEnd w = flow.flow_end_transition w
+flow_transition is_name s.BlankLineAfter w = blank.after_transition w
+flow_transition is_name s.ContentChunkStart w = chunk_start_transition w
+flow_transition is_name s.ContentChunkInside w = chunk_inside_code (is_name r.Content) w (ends_line w.current)
+flow_transition is_name s.FlowStart w = flow.start_transition w
+flow_transition is_name s.FlowBlankLineBefore w = flow.blank_line_before_transition w
+flow_transition is_name s.FlowBeforeHeadingAtx w = flow.before_heading_atx_transition w
+flow_transition is_name s.FlowBeforeThematicBreak w = flow.before_thematic_break_transition w
+flow_transition is_name s.FlowBeforeContent w = flow.before_content_transition w
+flow_transition is_name s.FlowBlankLineAfter w = flow.blank_line_after_transition w
+flow_transition is_name s.FlowAfter w = flow.after_transition w
+flow_transition is_name s.HeadingAtxStart w = heading.start_transition w
+flow_transition is_name s.HeadingAtxBefore w = heading.before_transition w
+flow_transition is_name s.HeadingAtxSequenceOpen w = heading.sequence_open_transition w
+flow_transition is_name s.HeadingAtxAtBreak w = heading.at_break_transition (is_name r.HeadingAtx) w
+flow_transition is_name s.HeadingAtxSequenceFurther w = heading.sequence_further_transition w
+flow_transition is_name s.HeadingAtxData w = heading.data_transition w
+flow_transition is_name s.SpaceOrTabStart w = spaces.start_transition w
+flow_transition is_name s.SpaceOrTabInside w = spaces.inside_transition w
+flow_transition is_name s.SpaceOrTabAfter w = spaces.after_transition w
+flow_transition is_name s.ThematicBreakStart w = break.start_transition w
+flow_transition is_name s.ThematicBreakBefore w = break.before_transition w
+flow_transition is_name s.ThematicBreakAtBreak w = break.at_break_transition w
+flow_transition is_name s.ThematicBreakSequence w = break.sequence_transition w
+flow_transition is_name _ w = record { to = Nok; world = w }
 
 -- what a call of a state does, where there is memory
 pub record FlowStep (is_name : ResolveName → ResolveName → Bool) (name : StateName) (w : World) (to : State) (new : World) : Type 0 where
-  pub to_is : to ≡ (flow_went is_name name w).to
-  pub new_is : new ≡ (flow_went is_name name w).world
+  pub to_is : to ≡ (flow_transition is_name name w).to
+  pub new_is : new ≡ (flow_transition is_name name w).world

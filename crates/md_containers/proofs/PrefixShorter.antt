@@ -4,7 +4,7 @@ use Rattle.md_engine.specs.declared.configuration.ParseOptions.{ParseOptions}
 use Rattle.md_engine.specs.Meaning.{Accepts, Cell, Fails, Here, Outcome, Refuses}
 use Rattle.md_containers.specs.QuoteRule.{at_marker, behind_marker, prefix_at, quote_at}
 use Rattle.md_seam.specs.Ahead.{begins_white}
-use Rattle.md_seam.specs.Rest.{is_white}
+use Rattle.md_seam.specs.Standard.Rest.{is_white}
 use Rattle.md_seam.specs.Spaces.{small_indent}
 use Rattle.md_seam.proofs.RestCells.{white-length}
 

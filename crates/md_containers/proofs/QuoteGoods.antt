@@ -9,7 +9,7 @@ use Rattle.md_engine.proofs.Local.{accepts, consumes, refuses_later, turns}
 use Rattle.md_engine.proofs.Points.{takes_past}
 use Rattle.md_containers.specs.Quote.{cont_after_code, cont_before_code, cont_start_code, quote_scheme, start_code}
 use Rattle.md_seam.specs.Spaces.{IsRest, is_current, later_ready, rest_ready, sees_white, small_indent}
-use Rattle.md_seam.specs.Went.{entered, exited}
+use Rattle.md_seam.specs.Transition.{entered, exited}
 use Rattle.md_seam.proofs.SpacesGoods.{Does, WhiteFits, accepts-behind, rest-calm, rest-none, seen-in, white_try_later}
 
 pub record QuoteFits (T : Scheme) : Type 1 where

@@ -12,7 +12,7 @@ use Rattle.md_engine.proofs.StepOf.{Sees, ahead, begins_only, moves, passes}
 use Rattle.md_containers.specs.Quote.{cont_after_code, cont_before_code, cont_start_code, start_code}
 use Rattle.md_containers.specs.QuoteRule.{HasQuote, at_marker, behind_marker, prefix_at, quote_at}
 use Rattle.md_seam.specs.Ahead.{begins_white, white_rest}
-use Rattle.md_seam.specs.Nested.{enter, exit}
+use Rattle.md_seam.specs.Events.Nested.{enter, exit}
 use Rattle.md_seam.specs.Spaces.{is_current, sees_white, small_indent}
 use Rattle.md_seam.proofs.AheadLemmas.{small-some}
 use Rattle.md_seam.proofs.WhiteSteps.{begins-seen, behind_white, white-tried}

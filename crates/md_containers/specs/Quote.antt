@@ -7,40 +7,40 @@ use Rattle.md_engine.specs.declared.state.State.TheVariants.{Ok, Nok, Next, Retr
 use Rattle.md_engine.specs.Scheme.{After, Scheme, Spot}
 use Rattle.md_engine.specs.World.{World}
 use Rattle.md_seam.specs.Spaces.{is_current, later_ready, rest_ready, sees_white, small_indent, white_then}
-use Rattle.md_seam.specs.Went.{Went, entered, exited, taken}
+use Rattle.md_seam.specs.Transition.{Transition, entered, exited, taken}
 
 -- by whether quotes are on
-abbrev pub start_code : World → Bool → Went
+abbrev pub start_code : World → Bool → Transition
 start_code w true = record { to = Retry BlockQuoteContStart; world = entered w BlockQuote }
 start_code w false = record { to = Nok; world = w }
 
 -- by whether whitespace stands here
-abbrev pub cont_start_code : World → Bool → Went
+abbrev pub cont_start_code : World → Bool → Transition
 cont_start_code w true = white_then w 1 (small_indent w.setting.options) (Next BlockQuoteContBefore) Nok
 cont_start_code w false = record { to = Retry BlockQuoteContBefore; world = w }
 
 -- by whether `>` stands here
-abbrev pub cont_before_code : World → Bool → Went
+abbrev pub cont_before_code : World → Bool → Transition
 cont_before_code w true = record { to = Next BlockQuoteContAfter; world = exited (taken (entered (entered w BlockQuotePrefix) BlockQuoteMarker)) BlockQuoteMarker }
 cont_before_code w false = record { to = Nok; world = w }
 
 -- by whether whitespace stands here
-abbrev pub cont_after_code : World → Bool → Went
+abbrev pub cont_after_code : World → Bool → Transition
 cont_after_code w true = record { to = Ok; world = exited (exited (taken (entered w SpaceOrTab)) SpaceOrTab) BlockQuotePrefix }
 cont_after_code w false = record { to = Ok; world = exited w BlockQuotePrefix }
 
 -- each state with what it does, where there is memory
-abbrev pub start_went : World → Went
-start_went w = start_code w w.setting.options.constructs.block_quote
+abbrev pub start_transition : World → Transition
+start_transition w = start_code w w.setting.options.constructs.block_quote
 
-abbrev pub cont_start_went : World → Went
-cont_start_went w = cont_start_code w (sees_white w.current)
+abbrev pub cont_start_transition : World → Transition
+cont_start_transition w = cont_start_code w (sees_white w.current)
 
-abbrev pub cont_before_went : World → Went
-cont_before_went w = cont_before_code w (is_current 62 w.current)
+abbrev pub cont_before_transition : World → Transition
+cont_before_transition w = cont_before_code w (is_current 62 w.current)
 
-abbrev pub cont_after_went : World → Went
-cont_after_went w = cont_after_code w (sees_white w.current)
+abbrev pub cont_after_transition : World → Transition
+cont_after_transition w = cont_after_code w (sees_white w.current)
 
 abbrev pub quote_rank : StateName → Spot → ℕ
 quote_rank BlockQuoteStart x = 6

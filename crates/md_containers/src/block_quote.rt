@@ -10,8 +10,8 @@ ghost use Rattle.std.specs.Prelude.{◌≡◌, ◌≢◌};
 ghost use Rattle.md_engine.specs.World.{world};
 ghost use Rattle.md_engine.specs.declared.state.Name.{Name as StateName};
 ghost use Rattle.md_engine.specs.declared.state.State.{State};
-ghost use Rattle.md_containers.specs.Quote.{cont_after_went, cont_before_went, cont_start_went, start_went};
-ghost use Rattle.md_seam.specs.Went.{IsAt, NeedsNothing};
+ghost use Rattle.md_containers.specs.Quote.{cont_after_transition, cont_before_transition, cont_start_transition, start_transition};
+ghost use Rattle.md_seam.specs.Transition.{IsAt, NeedsNothing};
 
 use md_engine::event::Name;
 use md_engine::or_error;
@@ -27,8 +27,8 @@ use md_seam::space_or_tab::{is_space_or_tab, small_indent, space_or_tab_min_max}
 /// ```
 pub fn start(tokenizer: &mut Tokenizer) -> State
     requires { IsAt NeedsNothing StateName.BlockQuoteStart (world tokenizer.old) }
-    ensures to { result ≢ State.Error → result ≡ (start_went (world tokenizer.old)).to }
-    ensures world { result ≢ State.Error → world tokenizer.new ≡ (start_went (world tokenizer.old)).world }
+    ensures to { result ≢ State.Error → result ≡ (start_transition (world tokenizer.old)).to }
+    ensures world { result ≢ State.Error → world tokenizer.new ≡ (start_transition (world tokenizer.old)).world }
 {
     if !tokenizer.options.constructs.block_quote {
         return State::Nok;
@@ -46,8 +46,8 @@ pub fn start(tokenizer: &mut Tokenizer) -> State
 /// ```
 pub fn cont_start(tokenizer: &mut Tokenizer) -> State
     requires { IsAt NeedsNothing StateName.BlockQuoteContStart (world tokenizer.old) }
-    ensures to { result ≢ State.Error → result ≡ (cont_start_went (world tokenizer.old)).to }
-    ensures world { result ≢ State.Error → world tokenizer.new ≡ (cont_start_went (world tokenizer.old)).world }
+    ensures to { result ≢ State.Error → result ≡ (cont_start_transition (world tokenizer.old)).to }
+    ensures world { result ≢ State.Error → world tokenizer.new ≡ (cont_start_transition (world tokenizer.old)).world }
 {
     if is_space_or_tab(tokenizer.current) {
         let max = small_indent(tokenizer);
@@ -71,8 +71,8 @@ pub fn cont_start(tokenizer: &mut Tokenizer) -> State
 /// ```
 pub fn cont_before(tokenizer: &mut Tokenizer) -> State
     requires { IsAt NeedsNothing StateName.BlockQuoteContBefore (world tokenizer.old) }
-    ensures to { result ≢ State.Error → result ≡ (cont_before_went (world tokenizer.old)).to }
-    ensures world { result ≢ State.Error → world tokenizer.new ≡ (cont_before_went (world tokenizer.old)).world }
+    ensures to { result ≢ State.Error → result ≡ (cont_before_transition (world tokenizer.old)).to }
+    ensures world { result ≢ State.Error → world tokenizer.new ≡ (cont_before_transition (world tokenizer.old)).world }
 {
     if tokenizer.current != Some(b'>') {
         return State::Nok;
@@ -92,8 +92,8 @@ pub fn cont_before(tokenizer: &mut Tokenizer) -> State
 /// ```
 pub fn cont_after(tokenizer: &mut Tokenizer) -> State
     requires { IsAt NeedsNothing StateName.BlockQuoteContAfter (world tokenizer.old) }
-    ensures to { result ≢ State.Error → result ≡ (cont_after_went (world tokenizer.old)).to }
-    ensures world { result ≢ State.Error → world tokenizer.new ≡ (cont_after_went (world tokenizer.old)).world }
+    ensures to { result ≢ State.Error → result ≡ (cont_after_transition (world tokenizer.old)).to }
+    ensures world { result ≢ State.Error → world tokenizer.new ≡ (cont_after_transition (world tokenizer.old)).world }
 {
     if is_space_or_tab(tokenizer.current) {
         or_error!(tokenizer.enter(Name::SpaceOrTab));

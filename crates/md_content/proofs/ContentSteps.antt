@@ -13,20 +13,20 @@ use Rattle.md_engine.specs.Standing.{MeansAt, StandsOn}
 use Rattle.md_engine.specs.World.{World, after}
 use Rattle.md_engine.proofs.StepOf.{Sees, ahead, cell_here, moves, passes, sees, steps-as}
 use Rattle.md_content.specs.ChunkRule.{HasChunk, chunk_at, inside_chunk}
-use Rattle.md_content.specs.Chunks.{chunk_inside_code, chunk_start_went, content_link}
-use Rattle.md_content.specs.Paragraph.{inside_code, line_start_went, start_went, text_link}
+use Rattle.md_content.specs.Chunks.{chunk_inside_code, chunk_start_transition, content_link}
+use Rattle.md_content.specs.Paragraph.{inside_code, line_start_transition, start_transition, text_link}
 use Rattle.md_content.specs.ParagraphRule.{HasParagraph, content_behaves, inside_paragraph, paragraph_at, paragraph_line}
-use Rattle.md_content.specs.States.{ContentStep, content_scheme, content_went}
+use Rattle.md_content.specs.States.{ContentStep, content_scheme, content_transition}
 use Rattle.md_content.proofs.States.{content_does}
-use Rattle.md_seam.specs.Nested.{enter, enter_link, exit}
+use Rattle.md_seam.specs.Events.Nested.{enter, enter_link, exit}
 use Rattle.md_seam.specs.Spaces.{ends_line}
 use Rattle.md_seam.proofs.SpacesGoods.{does-stands}
 
 -- A line of content.
 
-pub chunk_start_steps : (B : Behaviour) (feed : Feed) (w : World) → HasChunk B → Steps B feed (Next n.ContentChunkStart) w (chunk_start_went w).to (chunk_start_went w).world
+pub chunk_start_steps : (B : Behaviour) (feed : Feed) (w : World) → HasChunk B → Steps B feed (Next n.ContentChunkStart) w (chunk_start_transition w).to (chunk_start_transition w).world
 unfolding chunk_at
-chunk_start_steps B feed w has = moves B feed _ _ w (chunk_start_went w).world (enter_link parts.Content w.point content_link ∷ []) refl refl (has.start _ _ ∙ sym (has.inside _ _))
+chunk_start_steps B feed w has = moves B feed _ _ w (chunk_start_transition w).world (enter_link parts.Content w.point content_link ∷ []) refl refl (has.start _ _ ∙ sym (has.inside _ _))
 
 chunk-ends : (feed : Feed) (w : World) (h : Here) (o : Option ℕ) → ends_line o ≡ true →
     inside_chunk (ahead feed w o) h ≡ Accepts (record h { events = h.events ++ exit parts.Content h.point ∷ []; flags = record h.flags { interrupt = true } }) (ahead feed w o)
@@ -50,13 +50,13 @@ chunk_inside_steps B feed is_name w false has s e =
 
 -- The paragraph.
 
-pub paragraph_start_steps : (B : Behaviour) (feed : Feed) (w : World) → HasParagraph B → Steps B feed (Next n.ParagraphStart) w (start_went w).to (start_went w).world
+pub paragraph_start_steps : (B : Behaviour) (feed : Feed) (w : World) → HasParagraph B → Steps B feed (Next n.ParagraphStart) w (start_transition w).to (start_transition w).world
 unfolding paragraph_at
-paragraph_start_steps B feed w has = moves B feed _ _ w (start_went w).world (enter parts.Paragraph w.point ∷ []) refl refl (has.start _ _ ∙ sym (has.line_start _ _))
+paragraph_start_steps B feed w has = moves B feed _ _ w (start_transition w).world (enter parts.Paragraph w.point ∷ []) refl refl (has.start _ _ ∙ sym (has.line_start _ _))
 
-pub paragraph_line_steps : (B : Behaviour) (feed : Feed) (w : World) → HasParagraph B → Steps B feed (Next n.ParagraphLineStart) w (line_start_went w).to (line_start_went w).world
+pub paragraph_line_steps : (B : Behaviour) (feed : Feed) (w : World) → HasParagraph B → Steps B feed (Next n.ParagraphLineStart) w (line_start_transition w).to (line_start_transition w).world
 unfolding paragraph_line
-paragraph_line_steps B feed w has = moves B feed _ _ w (line_start_went w).world (enter_link parts.Data w.point text_link ∷ []) refl refl (has.line_start _ _ ∙ sym (has.inside _ _))
+paragraph_line_steps B feed w has = moves B feed _ _ w (line_start_transition w).world (enter_link parts.Data w.point text_link ∷ []) refl refl (has.line_start _ _ ∙ sym (has.inside _ _))
 
 text-none : (h : Here) → inside_paragraph [] h ≡ Accepts (record h { events = h.events ++ exit parts.Data h.point ∷ [] ++ exit parts.Paragraph h.point ∷ [] }) []
 unfolding inside_paragraph
@@ -94,7 +94,7 @@ paragraph_inside_steps B feed w has s = go w.current s.next
 has_paragraph : HasParagraph content_behaves
 has_paragraph = record { start = λ _ _. refl; line_start = λ _ _. refl; inside = λ _ _. refl }
 
-content_steps : (feed : Feed) (name : StateName) (w : World) → Sees feed w → stands content_scheme w (Next name) → Steps content_behaves feed (Next name) w (content_went name w).to (content_went name w).world
+content_steps : (feed : Feed) (name : StateName) (w : World) → Sees feed w → stands content_scheme w (Next name) → Steps content_behaves feed (Next name) w (content_transition name w).to (content_transition name w).world
 content_steps feed n.ParagraphStart w s at = paragraph_start_steps content_behaves feed w has_paragraph
 content_steps feed n.ParagraphLineStart w s at = paragraph_line_steps content_behaves feed w has_paragraph
 content_steps feed n.ParagraphInside w s at = paragraph_inside_steps content_behaves feed w has_paragraph s
@@ -108,4 +108,4 @@ content_means options is_end feed name w to new f called step =
 -- and comes to where the table stands
 pub content_stands : StandsOn ContentStep content_scheme
 content_stands name w to new at step =
-    does-stands content_scheme name (reading w) (content_went name (reading w)) to new step.to_is step.new_is (content_does name (reading w) refl at)
+    does-stands content_scheme name (reading w) (content_transition name (reading w)) to new step.to_is step.new_is (content_does name (reading w) refl at)

@@ -8,17 +8,17 @@ use Rattle.md_engine.specs.World.{World}
 use Rattle.md_engine.proofs.Falls.{later}
 use Rattle.md_engine.proofs.Local.{accepts, consumes, turns}
 use Rattle.md_engine.proofs.Points.{takes}
-use Rattle.md_content.specs.Chunks.{chunk_inside_code, chunk_scheme, chunk_start_went, content_link}
-use Rattle.md_content.specs.Paragraph.{inside_code, line_start_went, paragraph_scheme, start_went, text_link}
+use Rattle.md_content.specs.Chunks.{chunk_inside_code, chunk_scheme, chunk_start_transition, content_link}
+use Rattle.md_content.specs.Paragraph.{inside_code, line_start_transition, paragraph_scheme, start_transition, text_link}
 use Rattle.md_seam.specs.Spaces.{rest_ready}
-use Rattle.md_seam.specs.Went.{entered, entered_link, exited, taken}
+use Rattle.md_seam.specs.Transition.{entered, entered_link, exited, taken}
 use Rattle.md_seam.proofs.SpacesGoods.{Does, seen-some}
 
 pub record ChunkFits (T : Scheme) : Type 1 where
   pub start : Fits T chunk_scheme n.ContentChunkStart
   pub inside : Fits T chunk_scheme n.ContentChunkInside
 
-pub good_chunk_start : (T : Scheme) (w : World) → ChunkFits T → rest_ready (spot w) (after_all T w.frames) → Does T n.ContentChunkStart w (chunk_start_went w)
+pub good_chunk_start : (T : Scheme) (w : World) → ChunkFits T → rest_ready (spot w) (after_all T w.frames) → Does T n.ContentChunkStart w (chunk_start_transition w)
 good_chunk_start T w has r = (turns T chunk_scheme _ _ w (entered_link w parts.Content content_link).events w.scratch has.start has.inside r (omega arith) (omega arith), refl)
 
 pub good_chunk_inside : (T : Scheme) (w : World) (is_name : ResolveName → Bool) (x : Bool) → ChunkFits T → rest_ready (spot w) (after_all T w.frames) → (x ≡ false → w.point.index < w.setting.limit) → Does T n.ContentChunkInside w (chunk_inside_code is_name w x)
@@ -31,10 +31,10 @@ pub record ParagraphFits (T : Scheme) : Type 1 where
   pub line_start : Fits T paragraph_scheme n.ParagraphLineStart
   pub inside : Fits T paragraph_scheme n.ParagraphInside
 
-pub good_start : (T : Scheme) (w : World) → ParagraphFits T → rest_ready (spot w) (after_all T w.frames) → Does T n.ParagraphStart w (start_went w)
+pub good_start : (T : Scheme) (w : World) → ParagraphFits T → rest_ready (spot w) (after_all T w.frames) → Does T n.ParagraphStart w (start_transition w)
 good_start T w has r = (turns T paragraph_scheme _ _ w (entered w parts.Paragraph).events w.scratch has.start has.line_start r (omega arith) (omega arith), refl)
 
-pub good_line_start : (T : Scheme) (w : World) → ParagraphFits T → rest_ready (spot w) (after_all T w.frames) → Does T n.ParagraphLineStart w (line_start_went w)
+pub good_line_start : (T : Scheme) (w : World) → ParagraphFits T → rest_ready (spot w) (after_all T w.frames) → Does T n.ParagraphLineStart w (line_start_transition w)
 good_line_start T w has r = (turns T paragraph_scheme _ _ w (entered_link w parts.Data text_link).events w.scratch has.line_start has.inside r (omega arith) (omega arith), refl)
 
 pub good_inside : (T : Scheme) (w : World) (o : Option ℕ) → ParagraphFits T → rest_ready (spot w) (after_all T w.frames) → seen (spot w) ≡ o → Does T n.ParagraphInside w (inside_code w o)

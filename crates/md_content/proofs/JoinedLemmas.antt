@@ -3,7 +3,7 @@ use Rattle.std.proofs.Common.{◌≡◌, ℕ, ◌+◌, ◌<◌, Bool, true, fals
 use Rattle.std.proofs.lemmas.List.{drop-drop, get_or-drop}
 use Rattle.md_engine.specs.declared.event.Event.{Event}
 use Rattle.md_content.specs.Joined.{goes_on, is_content, joined, joined_with}
-use Rattle.md_seam.specs.Nested.{is_exit}
+use Rattle.md_seam.specs.Events.Nested.{is_exit}
 
 -- the first of some events, and those that are joined with it
 joined-head : (l : List Event) (j : ℕ) (d d' : Event) → 0 < length l → j ≡ joined_with l → joined l ≡ record (get_or l 0 d) { point = (get_or l j d').point } ∷ joined (drop (j + 1) l)

@@ -7,7 +7,7 @@ use Rattle.md_engine.specs.declared.event.Name.TheVariants as n
 use Rattle.md_engine.specs.Place.{IsPlaced, first_point}
 use Rattle.md_content.specs.ContentReads.{is_data_end, settled}
 use Rattle.md_seam.specs.declared.inline.Chunk.{Chunk}
-use Rattle.md_seam.specs.Nested.{exit}
+use Rattle.md_seam.specs.Events.Nested.{exit}
 use Rattle.md_seam.specs.Parts.{AreChunks, ArePlaced}
 
 -- the events in front of a place are settled, with so many of the chunks

@@ -5,7 +5,7 @@ use Rattle.md_engine.specs.declared.state.Name.TheVariants.{ContentChunkStart, C
 use Rattle.md_engine.specs.Meaning.{Accepts, Behaviour, Cell, Here, Outcome}
 use Rattle.md_content.specs.Chunks.{content_link}
 use Rattle.md_seam.specs.Ahead.{from_ending, line_end}
-use Rattle.md_seam.specs.Nested.{enter_link, exit}
+use Rattle.md_seam.specs.Events.Nested.{enter_link, exit}
 
 -- the rest of the line; a paragraph is open then
 unfoldable pub inside_chunk : List Cell → Here → Outcome

@@ -11,16 +11,16 @@ use Rattle.md_engine.specs.declared.state.State.TheVariants.{Ok, Next, Retry}
 use Rattle.md_engine.specs.Scheme.{Scheme, Spot}
 use Rattle.md_engine.specs.World.{World, registered_before}
 use Rattle.md_seam.specs.Spaces.{rest_ready}
-use Rattle.md_seam.specs.Went.{Went, entered_link, exited, taken}
+use Rattle.md_seam.specs.Transition.{Transition, entered_link, exited, taken}
 
 abbrev pub content_link : Link
 content_link = record { previous = None; next = None; content = content.Content }
 
-abbrev pub chunk_start_went : World → Went
-chunk_start_went w = record { to = Retry ContentChunkInside; world = entered_link w n.Content content_link }
+abbrev pub chunk_start_transition : World → Transition
+chunk_start_transition w = record { to = Retry ContentChunkInside; world = entered_link w n.Content content_link }
 
 -- by whether the line ends here; `is_name` finds the resolver of content
-abbrev pub chunk_inside_code : (ResolveName → Bool) → World → Bool → Went
+abbrev pub chunk_inside_code : (ResolveName → Bool) → World → Bool → Transition
 chunk_inside_code is_name w true = record { to = Ok; world = record (exited w n.Content) { resolvers = registered_before is_name w.resolvers ContentResolver; flags = record w.flags { interrupt = true } } }
 chunk_inside_code is_name w false = record { to = Next ContentChunkInside; world = taken w }
 

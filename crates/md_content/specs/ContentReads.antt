@@ -14,9 +14,9 @@ use Rattle.md_content.specs.Paragraph.{text_link}
 use Rattle.md_content.specs.ParagraphRule.{line_events}
 use Rattle.md_seam.specs.declared.inline.Chunk.{Chunk}
 use Rattle.md_seam.specs.Ahead.{point_after}
-use Rattle.md_seam.specs.Nested.{enter, enter_link, exit, is_exit}
+use Rattle.md_seam.specs.Events.Nested.{enter, enter_link, exit, is_exit}
 use Rattle.md_seam.specs.Substituted.{Readings}
-use Rattle.md_seam.specs.Tiles.{is_data}
+use Rattle.md_seam.specs.Events.Tiles.{is_data}
 
 -- where the first chunk begins
 abbrev pub first_of : List Chunk → Point

@@ -3,8 +3,8 @@ use Rattle.std.specs.Prelude.{ℕ, Bool, true, false, ◌&&◌, if◌then◌else
 use Rattle.md_engine.specs.declared.event.Event.{Event}
 use Rattle.md_engine.specs.declared.event.Name.{Name}
 use Rattle.md_engine.specs.declared.event.Name.TheVariants as n
-use Rattle.md_seam.specs.Inline.{is_line_ending}
-use Rattle.md_seam.specs.Nested.{is_enter, is_exit}
+use Rattle.md_seam.specs.Events.Inline.{is_line_ending}
+use Rattle.md_seam.specs.Events.Nested.{is_enter, is_exit}
 use Rattle.md_seam.specs.Substituted.{is_prefix}
 
 abbrev pub is_content : Name → Bool

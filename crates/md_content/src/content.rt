@@ -14,15 +14,15 @@ ghost use Rattle.md_engine.specs.Found.{found_in};
 ghost use Rattle.md_engine.specs.World.{looks, world};
 ghost use Rattle.md_engine.specs.declared.state.Name.{Name as StateName};
 ghost use Rattle.md_engine.specs.declared.state.State.{State};
-ghost use Rattle.md_content.specs.States.{content_went};
-ghost use Rattle.md_content.specs.Chunks.{chunk_inside_code, chunk_start_went};
+ghost use Rattle.md_content.specs.States.{content_transition};
+ghost use Rattle.md_content.specs.Chunks.{chunk_inside_code, chunk_start_transition};
 ghost use Rattle.md_content.specs.ContentReads.{content_events, is_data_end, settled};
 ghost use Rattle.md_content.specs.Joined.{content_behind, goes_on, is_content, joined, joined_with};
 ghost use Rattle.md_content.specs.Resolves.{Resolves, is_all_read};
-ghost use Rattle.md_seam.specs.Nested.{is_enter};
+ghost use Rattle.md_seam.specs.Events.Nested.{is_enter};
 ghost use Rattle.md_seam.specs.Parts.{AreChunks, ArePlaced};
 ghost use Rattle.md_seam.specs.Spaces.{ends_line};
-ghost use Rattle.md_seam.specs.Went.{IsAt, NeedsNothing};
+ghost use Rattle.md_seam.specs.Transition.{IsAt, NeedsNothing};
 
 use crate::paragraph;
 use md_engine::configuration::ParseOptions;
@@ -46,8 +46,8 @@ use std::alloc::Global;
 /// ```
 pub fn chunk_start(tokenizer: &mut Tokenizer) -> State
     requires { IsAt NeedsNothing StateName.ContentChunkStart (world tokenizer.old) }
-    ensures to { result ≢ State.Error → result ≡ (chunk_start_went (world tokenizer.old)).to }
-    ensures world { result ≢ State.Error → world tokenizer.new ≡ (chunk_start_went (world tokenizer.old)).world }
+    ensures to { result ≢ State.Error → result ≡ (chunk_start_transition (world tokenizer.old)).to }
+    ensures world { result ≢ State.Error → world tokenizer.new ≡ (chunk_start_transition (world tokenizer.old)).world }
 {
     let link = Link {
         previous: None,
@@ -86,8 +86,8 @@ pub fn chunk_inside(tokenizer: &mut Tokenizer) -> State
 /// Calls a state of content.
 fn call_state(tokenizer: &mut Tokenizer, name: StateName) -> State
     requires { (world tokenizer.old).current ≡ looks (world tokenizer.old) }
-    ensures to { result ≢ State.Error → result ≡ (content_went name (world tokenizer.old)).to }
-    ensures world { result ≢ State.Error → world tokenizer.new ≡ (content_went name (world tokenizer.old)).world }
+    ensures to { result ≢ State.Error → result ≡ (content_transition name (world tokenizer.old)).to }
+    ensures world { result ≢ State.Error → world tokenizer.new ≡ (content_transition name (world tokenizer.old)).world }
 {
     match name {
         StateName::ParagraphStart => paragraph::start(tokenizer),

@@ -8,8 +8,8 @@ ghost use Rattle.std.specs.Prelude.{◌≡◌, ◌≢◌};
 ghost use Rattle.md_engine.specs.World.{world};
 ghost use Rattle.md_engine.specs.declared.state.Name.{Name as StateName};
 ghost use Rattle.md_engine.specs.declared.state.State.{State};
-ghost use Rattle.md_content.specs.Paragraph.{inside_went, line_start_went, start_went};
-ghost use Rattle.md_seam.specs.Went.{IsAt, NeedsNothing};
+ghost use Rattle.md_content.specs.Paragraph.{inside_transition, line_start_transition, start_transition};
+ghost use Rattle.md_seam.specs.Transition.{IsAt, NeedsNothing};
 
 use md_engine::event::{Content, Link, Name};
 use md_engine::or_error;
@@ -25,8 +25,8 @@ use md_engine::tokenizer::Tokenizer;
 /// ```
 pub fn start(tokenizer: &mut Tokenizer) -> State
     requires { IsAt NeedsNothing StateName.ParagraphStart (world tokenizer.old) }
-    ensures to { result ≢ State.Error → result ≡ (start_went (world tokenizer.old)).to }
-    ensures world { result ≢ State.Error → world tokenizer.new ≡ (start_went (world tokenizer.old)).world }
+    ensures to { result ≢ State.Error → result ≡ (start_transition (world tokenizer.old)).to }
+    ensures world { result ≢ State.Error → world tokenizer.new ≡ (start_transition (world tokenizer.old)).world }
 {
     or_error!(tokenizer.enter(Name::Paragraph));
     State::Retry(StateName::ParagraphLineStart)
@@ -42,8 +42,8 @@ pub fn start(tokenizer: &mut Tokenizer) -> State
 /// ```
 pub fn line_start(tokenizer: &mut Tokenizer) -> State
     requires { IsAt NeedsNothing StateName.ParagraphLineStart (world tokenizer.old) }
-    ensures to { result ≢ State.Error → result ≡ (line_start_went (world tokenizer.old)).to }
-    ensures world { result ≢ State.Error → world tokenizer.new ≡ (line_start_went (world tokenizer.old)).world }
+    ensures to { result ≢ State.Error → result ≡ (line_start_transition (world tokenizer.old)).to }
+    ensures world { result ≢ State.Error → world tokenizer.new ≡ (line_start_transition (world tokenizer.old)).world }
 {
     let link = Link {
         previous: None,
@@ -62,8 +62,8 @@ pub fn line_start(tokenizer: &mut Tokenizer) -> State
 /// ```
 pub fn inside(tokenizer: &mut Tokenizer) -> State
     requires { IsAt NeedsNothing StateName.ParagraphInside (world tokenizer.old) }
-    ensures to { result ≢ State.Error → result ≡ (inside_went (world tokenizer.old)).to }
-    ensures world { result ≢ State.Error → world tokenizer.new ≡ (inside_went (world tokenizer.old)).world }
+    ensures to { result ≢ State.Error → result ≡ (inside_transition (world tokenizer.old)).to }
+    ensures world { result ≢ State.Error → world tokenizer.new ≡ (inside_transition (world tokenizer.old)).world }
 {
     match tokenizer.current {
         None => {

@@ -13,8 +13,8 @@ use Rattle.md_engine.proofs.StepOf.{Sees, ahead, begins_only, passes}
 use Rattle.md_leaves.specs.Blank.{after_code, start_code}
 use Rattle.md_leaves.specs.BlankRule.{HasBlank, after_blank, blank_at}
 use Rattle.md_seam.specs.Ahead.{begins_white, from_ending, line_bytes, line_end, white_end, white_rest}
-use Rattle.md_seam.specs.Nested.{enter, exit}
-use Rattle.md_seam.specs.Rest.{is_blank, is_white}
+use Rattle.md_seam.specs.Events.Nested.{enter, exit}
+use Rattle.md_seam.specs.Standard.Rest.{is_blank, is_white}
 use Rattle.md_seam.specs.Spaces.{IsRest, any_size, asking, calmed, ends_line, sees_white}
 use Rattle.md_seam.proofs.WhiteSteps.{begins-seen, behind_white, white-tried}
 use Rattle.md_seam.proofs.AheadLemmas.{white-no_ending}

@@ -12,7 +12,7 @@ use Rattle.md_leaves.specs.Bom.{inside_code, mark_at, start_code}
 use Rattle.md_leaves.specs.BomRule.{HasBom, bom_at, inside_mark}
 use Rattle.md_leaves.specs.Heading.{without_size}
 use Rattle.md_leaves.proofs.BreakSteps.{sees-one}
-use Rattle.md_seam.specs.Nested.{enter, exit}
+use Rattle.md_seam.specs.Events.Nested.{enter, exit}
 use Rattle.md_seam.specs.Spaces.{IsRest, is_current}
 
 -- at its first byte the mark is what is inside it

@@ -11,8 +11,8 @@ use Rattle.md_engine.specs.Meaning.{Cell, Here, Refuses}
 use Rattle.md_leaves.specs.Break.{is_marker, without_marker}
 use Rattle.md_leaves.specs.BreakRule.{Apart, Marks, Run, White, at_break, before_marker, in_break, marks}
 use Rattle.md_seam.specs.Ahead.{line_bytes, white_end, white_rest}
-use Rattle.md_seam.specs.Nested.{enter, exit}
-use Rattle.md_seam.specs.Rest.{is_white}
+use Rattle.md_seam.specs.Events.Nested.{enter, exit}
+use Rattle.md_seam.specs.Standard.Rest.{is_white}
 use Rattle.md_seam.specs.Spaces.{calmed}
 use Rattle.md_seam.proofs.AheadLemmas.{white-no_ending}
 use Rattle.md_seam.proofs.WhiteSteps.{behind_white}

@@ -12,7 +12,7 @@ use Rattle.md_leaves.specs.Blank as blank
 use Rattle.md_leaves.specs.Blank.{blank_scheme}
 use Rattle.md_leaves.specs.Break.{at_break_code, before_code, break_ready, break_scheme, is_marker, sequence_code, start_code, without_marker}
 use Rattle.md_seam.specs.Spaces.{IsRest, calmed, is_current, rest_ready, sees_white, small_indent, any_size}
-use Rattle.md_seam.specs.Went.{entered, exited}
+use Rattle.md_seam.specs.Transition.{entered, exited}
 use Rattle.md_seam.proofs.SpacesGoods.{Does, WhiteFits, rest-calm, rest-none, seen-in, white_try}
 
 -- The blank line.

@@ -14,11 +14,11 @@ use Rattle.md_leaves.proofs.TitleLemmas.{front-runs, hashes-cut, hashes-some, pa
 use Rattle.md_leaves.proofs.TitleRuns.{hash-runs, is_hash, pass-first, runs-cut, white-runs, white-stops}
 use Rattle.md_leaves.proofs.TitleTexts.{Behind, Closed, Empty, Parted, Plain, Shape, parted}
 use Rattle.md_seam.specs.Ahead.{line_bytes, line_cells}
-use Rattle.md_seam.specs.Grammar.{Expression, Nothing, behind, inside, may_end}
-use Rattle.md_seam.specs.Leaves.{is_rule}
-use Rattle.md_seam.specs.Nested.{enter, exit}
-use Rattle.md_seam.specs.Places.{past_text}
-use Rattle.md_seam.specs.Rest.{is_white, trim_start}
+use Rattle.md_seam.specs.Events.Grammar.{Expression, Nothing, behind, inside, may_end}
+use Rattle.md_seam.specs.Standard.Leaves.{is_rule}
+use Rattle.md_seam.specs.Events.Nested.{enter, exit}
+use Rattle.md_seam.specs.Events.Places.{past_text}
+use Rattle.md_seam.specs.Standard.Rest.{is_white, trim_start}
 use Rattle.md_seam.proofs.GrammarLemmas.{IsWord, Leads, leads-append, maybe, word-behind}
 
 -- two words are one whichever is taken

@@ -18,7 +18,7 @@ use Rattle.md_leaves.specs.Bom.{bom_ready, bom_scheme, mark_at}
 use Rattle.md_leaves.specs.Heading.{at_break_code, before_code, behind_part, data_code, heading_link, heading_ready, heading_scheme, sees_text, sequence_further_code, sequence_open_code, start_code, without_size}
 use Rattle.md_leaves.proofs.Goods.{low-rank, rest-size}
 use Rattle.md_seam.specs.Spaces.{IsRest, calmed, is_current, rest_ready, sees_white, small_indent, any_size}
-use Rattle.md_seam.specs.Went.{entered, entered_link, exited}
+use Rattle.md_seam.specs.Transition.{entered, entered_link, exited}
 use Rattle.md_seam.proofs.SpacesGoods.{Does, WhiteFits, accepts-behind, rest-calm, rest-none, seen-in, white_try}
 
 -- The heading.

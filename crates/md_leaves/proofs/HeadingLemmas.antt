@@ -10,8 +10,8 @@ use Rattle.md_leaves.specs.Heading.{without_size}
 use Rattle.md_leaves.specs.HeadingRule.{Apart, Hashes, Run, White, at_break, before_opening, begun, closes, goes_on, in_heading, in_opening, is_heading, is_opening, opens}
 use Rattle.md_leaves.proofs.BreakLemmas.{here_after}
 use Rattle.md_seam.specs.Ahead.{begins_white, line_bytes, white_rest}
-use Rattle.md_seam.specs.Nested.{enter, exit}
-use Rattle.md_seam.specs.Rest.{is_white, run_len}
+use Rattle.md_seam.specs.Events.Nested.{enter, exit}
+use Rattle.md_seam.specs.Standard.Rest.{is_white, run_len}
 use Rattle.md_seam.proofs.AheadLemmas.{white-no_ending}
 
 -- a run goes on

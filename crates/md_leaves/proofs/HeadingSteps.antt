@@ -23,11 +23,11 @@ use Rattle.md_leaves.proofs.BreakLemmas.{behind-joined}
 use Rattle.md_leaves.proofs.BreakSteps.{sees-one, white_frame}
 use Rattle.md_leaves.proofs.HeadingLemmas.{apart-none, apart-white, before-hash, before-other, opening-ends, opening-full, opening-more, opening-none, opening-text, opening-white, run-begins, run-ends, run-ends_line, run-ends_none, run-more, white-no_hash, white-run}
 use Rattle.md_seam.specs.Ahead.{begins_white, white_rest}
-use Rattle.md_seam.specs.Nested.{enter, exit}
-use Rattle.md_seam.specs.Rest.{is_white}
+use Rattle.md_seam.specs.Events.Nested.{enter, exit}
+use Rattle.md_seam.specs.Standard.Rest.{is_white}
 use Rattle.md_seam.specs.Spaces.{IsRest, any_size, calmed, ends_line, is_current, sees_white, small_indent}
 use Rattle.md_seam.proofs.AheadLemmas.{small-some}
-use Rattle.md_seam.specs.Went.{Went}
+use Rattle.md_seam.specs.Transition.{Transition}
 use Rattle.md_seam.proofs.WhiteSteps.{begins-seen, behind_white, white-tried}
 
 not-or : (a b : Bool) → not (a || b) ≡ true → (a ≡ false) × (b ≡ false)
@@ -119,7 +119,7 @@ white-here feed w h s e =
 -- what is left behind a run that has ended, in a step that ends it
 behind_steps : (B : Behaviour) (options : ParseOptions) (feed : Feed) (from : State) (w : World) (name : Name) (t : Scratch) (x : Bool) → HasHeading B options → Sees feed w → IsRest t → sees_white w.current ≡ x →
     goes B from (feed w.point) (here w) ≡ in_heading Apart (feed w.point) (record (here w) { events = w.events ++ exit name w.point ∷ []; scratch = t }) →
-    (let left : Went = behind_part (record w { events = w.events ++ exit name w.point ∷ []; scratch = t }) x in Steps B feed from w left.to left.world)
+    (let left : Transition = behind_part (record w { events = w.events ++ exit name w.point ∷ []; scratch = t }) x in Steps B feed from w left.to left.world)
 behind_steps B options feed from w name t true has s r e same =
     let h : Here = record (here w) { events = w.events ++ exit name w.point ∷ []; scratch = t } in
     let frame : Frame = white_frame (Next n.HeadingAtxAtBreak) w h.events in

@@ -12,9 +12,9 @@ use Rattle.md_engine.specs.Sound.{IsSaved, IsSound}
 use Rattle.md_leaves.specs.HeadingText.{Before, Opened, Outside, Place, Within, begins, ends, headings_resolved, is_heading, is_run, is_sequence, linked_text, resolved, text_between}
 use Rattle.md_leaves.specs.HeadingWalk.{Walked, finished, in_all, stepped, stepped_from}
 use Rattle.md_leaves.specs.Heading.{heading_link}
-use Rattle.md_seam.specs.Nested.{enter, enter_link, exit}
+use Rattle.md_seam.specs.Events.Nested.{enter, enter_link, exit}
 use Rattle.md_seam.specs.Parts.{ArePlaced}
-use Rattle.md_seam.specs.Tiles.{is_data}
+use Rattle.md_seam.specs.Events.Tiles.{is_data}
 
 step-from : (all : List Event) (p : Place) (e : Event) (es : List Event) → in_all (stepped_from all p e) es ≡ all ++ resolved p (e ∷ es)
 step-from all Outside e es = append_assoc all (e ∷ []) _

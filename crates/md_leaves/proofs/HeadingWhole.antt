@@ -11,7 +11,7 @@ use Rattle.md_leaves.specs.HeadingRule.{Apart, heading_at, heading_inside, in_he
 use Rattle.md_leaves.proofs.HeadingLemmas.{before-is, before-no}
 use Rattle.md_leaves.proofs.HeadingSteps.{at-none, at-off, at-white}
 use Rattle.md_seam.specs.Ahead.{begins_white, from_ending, line_bytes, line_cells, line_end, white_end, white_rest}
-use Rattle.md_seam.specs.Nested.{around, enter, pair}
+use Rattle.md_seam.specs.Events.Nested.{around, enter, pair}
 use Rattle.md_seam.specs.Spaces.{calmed, small_indent}
 use Rattle.md_seam.proofs.AheadLemmas.{none-end, none-rest, white-ending, white-line_end}
 use Rattle.md_seam.proofs.WhiteSteps.{behind_white}

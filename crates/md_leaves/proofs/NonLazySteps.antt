@@ -10,7 +10,7 @@ use Rattle.md_engine.specs.World.{World, after}
 use Rattle.md_engine.proofs.StepOf.{Sees, ahead, moves, passes}
 use Rattle.md_leaves.specs.NonLazy.{after_code, start_code}
 use Rattle.md_leaves.specs.NonLazyRule.{HasNonLazy, after_ending, continuation_at, is_lazy}
-use Rattle.md_seam.specs.Nested.{enter, exit, pair}
+use Rattle.md_seam.specs.Events.Nested.{enter, exit, pair}
 use Rattle.md_seam.specs.Spaces.{is_current}
 
 -- The start.

@@ -6,9 +6,9 @@ use Rattle.md_engine.specs.declared.event.Point.{Point}
 use Rattle.md_engine.specs.declared.state.Name.TheVariants.{BlankLineStart, BlankLineAfter}
 use Rattle.md_engine.specs.Meaning.{Accepts, Behaviour, Cell, Here, Outcome, Refuses}
 use Rattle.md_seam.specs.Ahead.{HasWhite, begins_white, from_ending, line_bytes, line_end}
-use Rattle.md_seam.specs.Bytes.{is_end}
-use Rattle.md_seam.specs.Nested.{pair}
-use Rattle.md_seam.specs.Rest.{is_blank}
+use Rattle.md_seam.specs.Standard.Bytes.{is_end}
+use Rattle.md_seam.specs.Events.Nested.{pair}
+use Rattle.md_seam.specs.Standard.Rest.{is_blank}
 
 -- behind the whitespace: the line ends
 unfoldable pub after_blank : List Cell → Here → Outcome

@@ -8,7 +8,7 @@ use Rattle.md_engine.specs.Scheme.{After, Ends, Scheme, Spot}
 use Rattle.md_engine.specs.World.{World}
 use Rattle.md_leaves.specs.Heading.{without_size}
 use Rattle.md_seam.specs.Spaces.{IsRest, is_current, rest_ready}
-use Rattle.md_seam.specs.Went.{Went, entered, exited, taken}
+use Rattle.md_seam.specs.Transition.{Transition, entered, exited, taken}
 
 -- U+FEFF
 abbrev pub mark : List ℕ
@@ -19,22 +19,22 @@ abbrev pub mark_at : ℕ → ℕ
 mark_at size = get_or mark size 0
 
 -- by whether the first byte of the mark stands here
-abbrev pub start_code : World → Bool → Went
+abbrev pub start_code : World → Bool → Transition
 start_code w true = record { to = Retry BomInside; world = entered w ByteOrderMark }
 start_code w false = record { to = Nok; world = w }
 
 -- by whether the next byte of the mark stands here, and whether more of the mark follows
-abbrev pub inside_code : World → Bool → Bool → Went
+abbrev pub inside_code : World → Bool → Bool → Transition
 inside_code w true true = record { to = Next BomInside; world = record (taken w) { scratch = record w.scratch { size = w.scratch.size + 1 } } }
 inside_code w true false = record { to = Ok; world = record (exited (taken w) ByteOrderMark) { scratch = without_size w.scratch } }
 inside_code w false more = record { to = Nok; world = record w { scratch = without_size w.scratch } }
 
 -- each state with what it does, where there is memory
-abbrev pub start_went : World → Went
-start_went w = start_code w (is_current 239 w.current)
+abbrev pub start_transition : World → Transition
+start_transition w = start_code w (is_current 239 w.current)
 
-abbrev pub inside_went : World → Went
-inside_went w = inside_code w (is_current (mark_at w.scratch.size) w.current) (nat_lt w.scratch.size 2)
+abbrev pub inside_transition : World → Transition
+inside_transition w = inside_code w (is_current (mark_at w.scratch.size) w.current) (nat_lt w.scratch.size 2)
 
 abbrev pub BomNeeds : StateName → World → Type 0
 BomNeeds BomInside w = w.scratch.size < 3

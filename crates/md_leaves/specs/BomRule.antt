@@ -6,7 +6,7 @@ use Rattle.md_engine.specs.Meaning.{Accepts, Behaviour, Cell, Here, Outcome, Ref
 use Rattle.md_leaves.specs.Bom.{mark}
 use Rattle.md_leaves.specs.Heading.{without_size}
 use Rattle.md_seam.specs.Ahead.{point_after}
-use Rattle.md_seam.specs.Nested.{exit, pair}
+use Rattle.md_seam.specs.Events.Nested.{exit, pair}
 
 -- whether the first cells are these bytes
 abbrev pub are_next : List ℕ → List Cell → Bool

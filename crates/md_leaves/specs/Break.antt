@@ -8,7 +8,7 @@ use Rattle.md_engine.specs.declared.tokenizer.Scratch.{Scratch}
 use Rattle.md_engine.specs.Scheme.{After, Ends, Scheme, Spot, cells_before, seen}
 use Rattle.md_engine.specs.World.{World}
 use Rattle.md_seam.specs.Spaces.{any_size, ends_line, IsRest, is_current, rest_ready, sees_white, small_indent, white_then}
-use Rattle.md_seam.specs.Went.{Went, entered, exited, taken}
+use Rattle.md_seam.specs.Transition.{Transition, entered, exited, taken}
 
 -- a marker of a break (CommonMark 4.1)
 abbrev pub is_marker : ℕ → Bool
@@ -18,40 +18,40 @@ abbrev pub without_marker : Scratch → Scratch
 without_marker s = record s { marker = 0; size = 0 }
 
 -- by whether breaks are on, and whether whitespace stands here
-abbrev pub start_code : World → Bool → Bool → Went
+abbrev pub start_code : World → Bool → Bool → Transition
 start_code w false white = record { to = Nok; world = w }
 start_code w true true = white_then (entered w ThematicBreak) 0 (small_indent w.setting.options) (Next ThematicBreakBefore) Nok
 start_code w true false = record { to = Retry ThematicBreakBefore; world = entered w ThematicBreak }
 
 -- by what stands here
-abbrev pub before_code : World → Option ℕ → Went
+abbrev pub before_code : World → Option ℕ → Transition
 before_code w None = record { to = Nok; world = w }
 before_code w (Some b) = if is_marker b then record { to = Retry ThematicBreakAtBreak; world = record w { scratch = record w.scratch { marker = b } } } else record { to = Nok; world = w }
 
 -- by whether the marker stands here, and whether the line ends here with enough of it
-abbrev pub at_break_code : World → Bool → Bool → Went
+abbrev pub at_break_code : World → Bool → Bool → Transition
 at_break_code w true done = record { to = Retry Sequence; world = entered w ThematicBreakSequence }
 at_break_code w false true = record { to = Ok; world = record (exited w ThematicBreak) { scratch = without_marker w.scratch; flags = record w.flags { interrupt = false } } }
 at_break_code w false false = record { to = Nok; world = record w { scratch = without_marker w.scratch } }
 
 -- by whether the marker stands here, and whether whitespace does
-abbrev pub sequence_code : World → Bool → Bool → Went
+abbrev pub sequence_code : World → Bool → Bool → Transition
 sequence_code w true white = record { to = Next Sequence; world = record (taken w) { scratch = record w.scratch { size = w.scratch.size + 1 } } }
 sequence_code w false true = white_then (exited w ThematicBreakSequence) 0 any_size (Next ThematicBreakAtBreak) Nok
 sequence_code w false false = record { to = Retry ThematicBreakAtBreak; world = exited w ThematicBreakSequence }
 
 -- each state with what it does, where there is memory
-abbrev pub start_went : World → Went
-start_went w = start_code w w.setting.options.constructs.thematic_break (sees_white w.current)
+abbrev pub start_transition : World → Transition
+start_transition w = start_code w w.setting.options.constructs.thematic_break (sees_white w.current)
 
-abbrev pub before_went : World → Went
-before_went w = before_code w w.current
+abbrev pub before_transition : World → Transition
+before_transition w = before_code w w.current
 
-abbrev pub at_break_went : World → Went
-at_break_went w = at_break_code w (is_current w.scratch.marker w.current) (ends_line w.current && nat_le 3 w.scratch.size)
+abbrev pub at_break_transition : World → Transition
+at_break_transition w = at_break_code w (is_current w.scratch.marker w.current) (ends_line w.current && nat_le 3 w.scratch.size)
 
-abbrev pub sequence_went : World → Went
-sequence_went w = sequence_code w (is_current w.scratch.marker w.current) (sees_white w.current)
+abbrev pub sequence_transition : World → Transition
+sequence_transition w = sequence_code w (is_current w.scratch.marker w.current) (sees_white w.current)
 
 -- Behind the indent there is a marker, and those that were taken lie before the point.
 pub record IsMarked (x : Spot) : Type 0 where

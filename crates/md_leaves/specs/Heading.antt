@@ -11,9 +11,9 @@ use Rattle.md_engine.specs.declared.state.State.TheVariants.{Ok, Nok, Next, Retr
 use Rattle.md_engine.specs.declared.tokenizer.Scratch.{Scratch}
 use Rattle.md_engine.specs.Scheme.{After, Ends, Scheme, Spot, seen}
 use Rattle.md_engine.specs.World.{World, registered}
-use Rattle.md_seam.specs.Rest.{is_white}
+use Rattle.md_seam.specs.Standard.Rest.{is_white}
 use Rattle.md_seam.specs.Spaces.{any_size, ends_line, IsRest, is_current, rest_ready, sees_white, small_indent, white_then}
-use Rattle.md_seam.specs.Went.{Went, entered, entered_link, exited, taken}
+use Rattle.md_seam.specs.Transition.{Transition, entered, entered_link, exited, taken}
 
 -- whether something other than whitespace and the line's end stands here
 abbrev pub sees_text : Option ℕ → Bool
@@ -27,70 +27,70 @@ abbrev pub heading_link : Link
 heading_link = record { previous = None; next = None; content = content.Text }
 
 -- by whether headings are on, and whether whitespace stands here
-abbrev pub start_code : World → Bool → Bool → Went
+abbrev pub start_code : World → Bool → Bool → Transition
 start_code w false white = record { to = Nok; world = w }
 start_code w true true = white_then (entered w HeadingAtx) 0 (small_indent w.setting.options) (Next HeadingAtxBefore) Nok
 start_code w true false = record { to = Retry HeadingAtxBefore; world = entered w HeadingAtx }
 
 -- by whether `#` stands here
-abbrev pub before_code : World → Bool → Went
+abbrev pub before_code : World → Bool → Transition
 before_code w true = record { to = Retry HeadingAtxSequenceOpen; world = entered w HeadingAtxSequence }
 before_code w false = record { to = Nok; world = w }
 
 -- behind a run of the line, by whether whitespace stands here
-abbrev pub behind_part : World → Bool → Went
+abbrev pub behind_part : World → Bool → Transition
 behind_part w true = white_then w 1 any_size (Next HeadingAtxAtBreak) Nok
 behind_part w false = record { to = Retry HeadingAtxAtBreak; world = w }
 
 -- by whether one more `#` is taken, and whether text or whitespace stands here
-abbrev pub sequence_open_code : World → Bool → Bool → Bool → Went
+abbrev pub sequence_open_code : World → Bool → Bool → Bool → Transition
 sequence_open_code w true text white = record { to = Next HeadingAtxSequenceOpen; world = record (taken w) { scratch = record w.scratch { size = w.scratch.size + 1 } } }
 sequence_open_code w false true white = record { to = Nok; world = record w { scratch = without_size w.scratch } }
 sequence_open_code w false false white = behind_part (record (exited w HeadingAtxSequence) { scratch = without_size w.scratch }) white
 
 -- by whether text, `#` or the line's end stands here; `is_name` finds the resolver of headings
-abbrev pub at_break_code : (ResolveName → Bool) → World → Bool → Bool → Bool → Went
+abbrev pub at_break_code : (ResolveName → Bool) → World → Bool → Bool → Bool → Transition
 at_break_code is_name w true true ending = record { to = Retry HeadingAtxSequenceFurther; world = entered w HeadingAtxSequence }
 at_break_code is_name w true false ending = record { to = Retry HeadingAtxData; world = entered_link w Data heading_link }
 at_break_code is_name w false hash true = record { to = Ok; world = record (exited w HeadingAtx) { resolvers = registered is_name w.resolvers HeadingResolver; flags = record w.flags { interrupt = false } } }
 at_break_code is_name w false hash false = record { to = Nok; world = w }
 
 -- by whether `#` or whitespace stands here
-abbrev pub sequence_further_code : World → Bool → Bool → Went
+abbrev pub sequence_further_code : World → Bool → Bool → Transition
 sequence_further_code w true white = record { to = Next HeadingAtxSequenceFurther; world = taken w }
 sequence_further_code w false white = behind_part (exited w HeadingAtxSequence) white
 
 -- by whether text or whitespace stands here
-abbrev pub data_code : World → Bool → Bool → Went
+abbrev pub data_code : World → Bool → Bool → Transition
 data_code w true white = record { to = Next HeadingAtxData; world = taken w }
 data_code w false white = behind_part (exited w Data) white
 
 -- each state with what it does, where there is memory
-abbrev pub start_went : World → Went
-start_went w = start_code w w.setting.options.constructs.heading_atx (sees_white w.current)
+abbrev pub start_transition : World → Transition
+start_transition w = start_code w w.setting.options.constructs.heading_atx (sees_white w.current)
 
-abbrev pub before_went : World → Went
-before_went w = before_code w (is_current 35 w.current)
+abbrev pub before_transition : World → Transition
+before_transition w = before_code w (is_current 35 w.current)
 
-abbrev pub sequence_open_went : World → Went
-sequence_open_went w = sequence_open_code w (is_current 35 w.current && nat_lt w.scratch.size 6) (sees_text w.current) (sees_white w.current)
+abbrev pub sequence_open_transition : World → Transition
+sequence_open_transition w = sequence_open_code w (is_current 35 w.current && nat_lt w.scratch.size 6) (sees_text w.current) (sees_white w.current)
 
-abbrev pub at_break_went : (ResolveName → Bool) → World → Went
-at_break_went is_name w = at_break_code is_name w (sees_text w.current) (is_current 35 w.current) (ends_line w.current)
+abbrev pub at_break_transition : (ResolveName → Bool) → World → Transition
+at_break_transition is_name w = at_break_code is_name w (sees_text w.current) (is_current 35 w.current) (ends_line w.current)
 
-abbrev pub sequence_further_went : World → Went
-sequence_further_went w = sequence_further_code w (is_current 35 w.current) (sees_white w.current)
+abbrev pub sequence_further_transition : World → Transition
+sequence_further_transition w = sequence_further_code w (is_current 35 w.current) (sees_white w.current)
 
-abbrev pub data_went : World → Went
-data_went w = data_code w (sees_text w.current) (sees_white w.current)
+abbrev pub data_transition : World → Transition
+data_transition w = data_code w (sees_text w.current) (sees_white w.current)
 
 -- In the opening sequence at most six were taken.
-pub record IsOpening (x : Spot) : Type 0 where
+pub record IsOpeningPrefix (x : Spot) : Type 0 where
   pub size : x.scratch.size ≤ 6
   pub rest : IsRest (without_size x.scratch)
 
 abbrev pub heading_ready : StateName → Spot → After → Type 0
-heading_ready HeadingAtxSequenceOpen x K = IsOpening x × Ends IsRest IsRest x K
+heading_ready HeadingAtxSequenceOpen x K = IsOpeningPrefix x × Ends IsRest IsRest x K
 heading_ready _ x K = rest_ready x K
 
 abbrev pub heading_rank : StateName → Spot → ℕ

@@ -5,7 +5,7 @@ use Rattle.md_leaves.specs.declared.heading_text.Stage.{Stage}
 use Rattle.md_leaves.specs.declared.heading_text.Stage.TheVariants as stage
 use Rattle.md_leaves.specs.declared.heading_text.Walk.{Walk}
 use Rattle.md_leaves.specs.HeadingText.{Before, Opened, Outside, Place, Within, begins, ends, is_heading, is_run, is_sequence, resolved, text_between}
-use Rattle.md_seam.specs.Tiles.{is_data}
+use Rattle.md_seam.specs.Events.Tiles.{is_data}
 
 -- what is given so far, and where the walk stands
 pub record Walked : Type 0 where

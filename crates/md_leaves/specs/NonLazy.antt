@@ -6,24 +6,24 @@ use Rattle.md_engine.specs.declared.state.State.TheVariants.{Ok, Nok, Next}
 use Rattle.md_engine.specs.Scheme.{After, Ends, Scheme, Spot}
 use Rattle.md_engine.specs.World.{World}
 use Rattle.md_seam.specs.Spaces.{is_current}
-use Rattle.md_seam.specs.Went.{Went, entered, exited, taken}
+use Rattle.md_seam.specs.Transition.{Transition, entered, exited, taken}
 
 -- by whether the line ends here, with an ending
-abbrev pub start_code : World → Bool → Went
+abbrev pub start_code : World → Bool → Transition
 start_code w true = record { to = Next NonLazyContinuationAfter; world = exited (taken (entered w LineEnding)) LineEnding }
 start_code w false = record { to = Nok; world = w }
 
 -- by whether the line that begins here is lazy
-abbrev pub after_code : World → Bool → Went
+abbrev pub after_code : World → Bool → Transition
 after_code w true = record { to = Nok; world = w }
 after_code w false = record { to = Ok; world = w }
 
 -- each state with what it does, where there is memory
-abbrev pub start_went : World → Went
-start_went w = start_code w (is_current 10 w.current)
+abbrev pub start_transition : World → Transition
+start_transition w = start_code w (is_current 10 w.current)
 
-abbrev pub after_went : World → Went
-after_went w = after_code w w.setting.line.lazy
+abbrev pub after_transition : World → Transition
+after_transition w = after_code w w.setting.line.lazy
 
 -- it leaves the scratch of the construct around it as it is, whatever that keeps
 abbrev pub non_lazy_ready : Spot → After → Type 0

@@ -4,7 +4,7 @@ use Rattle.md_engine.specs.declared.event.Name.TheVariants.{LineEnding}
 use Rattle.md_engine.specs.declared.state.Name.TheVariants.{NonLazyContinuationStart, NonLazyContinuationAfter}
 use Rattle.md_engine.specs.declared.tokenizer.Line.{Line}
 use Rattle.md_engine.specs.Meaning.{Accepts, Behaviour, Cell, Here, Outcome, Refuses, line_of}
-use Rattle.md_seam.specs.Nested.{pair}
+use Rattle.md_seam.specs.Events.Nested.{pair}
 
 -- whether the line of these cells is lazy; where no cell is left, it is what the parent says of the end
 abbrev pub is_lazy : Line → List Cell → Bool

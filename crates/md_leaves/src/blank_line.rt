@@ -8,8 +8,8 @@ ghost use Rattle.std.specs.Prelude.{◌≡◌, ◌≢◌};
 ghost use Rattle.md_engine.specs.World.{world};
 ghost use Rattle.md_engine.specs.declared.state.Name.{Name as StateName};
 ghost use Rattle.md_engine.specs.declared.state.State.{State};
-ghost use Rattle.md_leaves.specs.Blank.{after_went, start_went};
-ghost use Rattle.md_seam.specs.Went.{IsAt, NeedsNothing};
+ghost use Rattle.md_leaves.specs.Blank.{after_transition, start_transition};
+ghost use Rattle.md_seam.specs.Transition.{IsAt, NeedsNothing};
 
 use md_engine::state::{Name as StateName, State};
 use md_engine::tokenizer::Tokenizer;
@@ -23,8 +23,8 @@ use md_seam::space_or_tab::{is_space_or_tab, space_or_tab};
 /// ```
 pub fn start(tokenizer: &mut Tokenizer) -> State
     requires { IsAt NeedsNothing StateName.BlankLineStart (world tokenizer.old) }
-    ensures to { result ≢ State.Error → result ≡ (start_went (world tokenizer.old)).to }
-    ensures world { result ≢ State.Error → world tokenizer.new ≡ (start_went (world tokenizer.old)).world }
+    ensures to { result ≢ State.Error → result ≡ (start_transition (world tokenizer.old)).to }
+    ensures world { result ≢ State.Error → world tokenizer.new ≡ (start_transition (world tokenizer.old)).world }
 {
     if is_space_or_tab(tokenizer.current) {
         space_or_tab(
@@ -45,8 +45,8 @@ pub fn start(tokenizer: &mut Tokenizer) -> State
 /// ```
 pub fn after(tokenizer: &mut Tokenizer) -> State
     requires { IsAt NeedsNothing StateName.BlankLineAfter (world tokenizer.old) }
-    ensures to { result ≡ (after_went (world tokenizer.old)).to }
-    ensures world { world tokenizer.new ≡ (after_went (world tokenizer.old)).world }
+    ensures to { result ≡ (after_transition (world tokenizer.old)).to }
+    ensures world { world tokenizer.new ≡ (after_transition (world tokenizer.old)).world }
 {
     match tokenizer.current {
         None | Some(b'\n') => State::Ok,

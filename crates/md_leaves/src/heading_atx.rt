@@ -12,10 +12,10 @@ ghost use Rattle.md_engine.specs.Found.{found_in};
 ghost use Rattle.md_engine.specs.World.{world};
 ghost use Rattle.md_engine.specs.declared.state.Name.{Name as StateName};
 ghost use Rattle.md_engine.specs.declared.state.State.{State};
-ghost use Rattle.md_leaves.specs.Heading.{at_break_went, before_went, behind_part, data_went, sequence_further_went, sequence_open_went, start_went};
+ghost use Rattle.md_leaves.specs.Heading.{at_break_transition, before_transition, behind_part, data_transition, sequence_further_transition, sequence_open_transition, start_transition};
 ghost use Rattle.md_leaves.specs.HeadingText.{headings_resolved};
 ghost use Rattle.md_seam.specs.Spaces.{sees_white};
-ghost use Rattle.md_seam.specs.Went.{IsAt, NeedsNothing};
+ghost use Rattle.md_seam.specs.Transition.{IsAt, NeedsNothing};
 
 use crate::heading_text::put_texts;
 use md_engine::event::{Content, Link, Name};
@@ -45,8 +45,8 @@ pub(crate) const TEXT_LINK: Link = Link {
 /// ```
 pub fn start(tokenizer: &mut Tokenizer) -> State
     requires { IsAt NeedsNothing StateName.HeadingAtxStart (world tokenizer.old) }
-    ensures to { result ≢ State.Error → result ≡ (start_went (world tokenizer.old)).to }
-    ensures world { result ≢ State.Error → world tokenizer.new ≡ (start_went (world tokenizer.old)).world }
+    ensures to { result ≢ State.Error → result ≡ (start_transition (world tokenizer.old)).to }
+    ensures world { result ≢ State.Error → world tokenizer.new ≡ (start_transition (world tokenizer.old)).world }
 {
     if !tokenizer.options.constructs.heading_atx {
         return State::Nok;
@@ -74,8 +74,8 @@ pub fn start(tokenizer: &mut Tokenizer) -> State
 /// ```
 pub fn before(tokenizer: &mut Tokenizer) -> State
     requires { IsAt NeedsNothing StateName.HeadingAtxBefore (world tokenizer.old) }
-    ensures to { result ≢ State.Error → result ≡ (before_went (world tokenizer.old)).to }
-    ensures world { result ≢ State.Error → world tokenizer.new ≡ (before_went (world tokenizer.old)).world }
+    ensures to { result ≢ State.Error → result ≡ (before_transition (world tokenizer.old)).to }
+    ensures world { result ≢ State.Error → world tokenizer.new ≡ (before_transition (world tokenizer.old)).world }
 {
     if tokenizer.current == Some(b'#') {
         or_error!(tokenizer.enter(Name::HeadingAtxSequence));
@@ -109,8 +109,8 @@ fn go_on(tokenizer: &mut Tokenizer) -> State
 /// ```
 pub fn sequence_open(tokenizer: &mut Tokenizer) -> State
     requires { IsAt NeedsNothing StateName.HeadingAtxSequenceOpen (world tokenizer.old) }
-    ensures to { result ≢ State.Error → result ≡ (sequence_open_went (world tokenizer.old)).to }
-    ensures world { result ≢ State.Error → world tokenizer.new ≡ (sequence_open_went (world tokenizer.old)).world }
+    ensures to { result ≢ State.Error → result ≡ (sequence_open_transition (world tokenizer.old)).to }
+    ensures world { result ≢ State.Error → world tokenizer.new ≡ (sequence_open_transition (world tokenizer.old)).world }
 {
     if tokenizer.current == Some(b'#') && tokenizer.scratch.size < OPENING {
         tokenizer.consume();
@@ -135,8 +135,8 @@ pub fn sequence_open(tokenizer: &mut Tokenizer) -> State
 /// ```
 pub fn at_break(tokenizer: &mut Tokenizer) -> State
     requires { IsAt NeedsNothing StateName.HeadingAtxAtBreak (world tokenizer.old) }
-    ensures to { result ≢ State.Error → result ≡ (at_break_went (λ name. ⟦<ResolveName as PartialEq>⟧.eq name ResolveName.HeadingAtx) (world tokenizer.old)).to }
-    ensures world { result ≢ State.Error → world tokenizer.new ≡ (at_break_went (λ name. ⟦<ResolveName as PartialEq>⟧.eq name ResolveName.HeadingAtx) (world tokenizer.old)).world }
+    ensures to { result ≢ State.Error → result ≡ (at_break_transition (λ name. ⟦<ResolveName as PartialEq>⟧.eq name ResolveName.HeadingAtx) (world tokenizer.old)).to }
+    ensures world { result ≢ State.Error → world tokenizer.new ≡ (at_break_transition (λ name. ⟦<ResolveName as PartialEq>⟧.eq name ResolveName.HeadingAtx) (world tokenizer.old)).world }
 {
     match tokenizer.current {
         None | Some(b'\n') => {
@@ -166,8 +166,8 @@ pub fn at_break(tokenizer: &mut Tokenizer) -> State
 /// ```
 pub fn sequence_further(tokenizer: &mut Tokenizer) -> State
     requires { IsAt NeedsNothing StateName.HeadingAtxSequenceFurther (world tokenizer.old) }
-    ensures to { result ≢ State.Error → result ≡ (sequence_further_went (world tokenizer.old)).to }
-    ensures world { result ≢ State.Error → world tokenizer.new ≡ (sequence_further_went (world tokenizer.old)).world }
+    ensures to { result ≢ State.Error → result ≡ (sequence_further_transition (world tokenizer.old)).to }
+    ensures world { result ≢ State.Error → world tokenizer.new ≡ (sequence_further_transition (world tokenizer.old)).world }
 {
     if tokenizer.current == Some(b'#') {
         tokenizer.consume();
@@ -186,8 +186,8 @@ pub fn sequence_further(tokenizer: &mut Tokenizer) -> State
 /// ```
 pub fn data(tokenizer: &mut Tokenizer) -> State
     requires { IsAt NeedsNothing StateName.HeadingAtxData (world tokenizer.old) }
-    ensures to { result ≢ State.Error → result ≡ (data_went (world tokenizer.old)).to }
-    ensures world { result ≢ State.Error → world tokenizer.new ≡ (data_went (world tokenizer.old)).world }
+    ensures to { result ≢ State.Error → result ≡ (data_transition (world tokenizer.old)).to }
+    ensures world { result ≢ State.Error → world tokenizer.new ≡ (data_transition (world tokenizer.old)).world }
 {
     match tokenizer.current {
         None | Some(b'\t' | b'\n' | b' ') => {

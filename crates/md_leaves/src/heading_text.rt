@@ -3,7 +3,7 @@
 ghost use Rattle.std.specs.Prelude.{◌≡◌, ℕ, List, [], ◌∷◌, ◌++◌, IfOk, OnOk};
 ghost use Rattle.md_leaves.specs.HeadingText.{begins, ends, headings_resolved, is_heading, is_run, is_sequence, text_between};
 ghost use Rattle.md_seam.specs.Parts.{ArePlaced};
-ghost use Rattle.md_seam.specs.Tiles.{is_data};
+ghost use Rattle.md_seam.specs.Events.Tiles.{is_data};
 
 use crate::heading_atx::TEXT_LINK;
 use md_engine::event::{Event, Kind, Name, Point};

@@ -8,8 +8,8 @@ ghost use Rattle.std.specs.Prelude.{◌≡◌, ◌≢◌};
 ghost use Rattle.md_engine.specs.World.{world};
 ghost use Rattle.md_engine.specs.declared.state.Name.{Name as StateName};
 ghost use Rattle.md_engine.specs.declared.state.State.{State};
-ghost use Rattle.md_leaves.specs.Bom.{BomNeeds, inside_went, start_went};
-ghost use Rattle.md_seam.specs.Went.{IsAt};
+ghost use Rattle.md_leaves.specs.Bom.{BomNeeds, inside_transition, start_transition};
+ghost use Rattle.md_seam.specs.Transition.{IsAt};
 
 use md_engine::event::Name;
 use md_engine::or_error;
@@ -27,8 +27,8 @@ const MARK: [u8; 3] = [0xEF, 0xBB, 0xBF];
 /// ```
 pub fn start(tokenizer: &mut Tokenizer) -> State
     requires { IsAt BomNeeds StateName.BomStart (world tokenizer.old) }
-    ensures to { result ≢ State.Error → result ≡ (start_went (world tokenizer.old)).to }
-    ensures world { result ≢ State.Error → world tokenizer.new ≡ (start_went (world tokenizer.old)).world }
+    ensures to { result ≢ State.Error → result ≡ (start_transition (world tokenizer.old)).to }
+    ensures world { result ≢ State.Error → world tokenizer.new ≡ (start_transition (world tokenizer.old)).world }
 {
     if tokenizer.current == Some(MARK[0]) {
         or_error!(tokenizer.enter(Name::ByteOrderMark));
@@ -46,8 +46,8 @@ pub fn start(tokenizer: &mut Tokenizer) -> State
 /// ```
 pub fn inside(tokenizer: &mut Tokenizer) -> State
     requires { IsAt BomNeeds StateName.BomInside (world tokenizer.old) }
-    ensures to { result ≢ State.Error → result ≡ (inside_went (world tokenizer.old)).to }
-    ensures world { result ≢ State.Error → world tokenizer.new ≡ (inside_went (world tokenizer.old)).world }
+    ensures to { result ≢ State.Error → result ≡ (inside_transition (world tokenizer.old)).to }
+    ensures world { result ≢ State.Error → world tokenizer.new ≡ (inside_transition (world tokenizer.old)).world }
 {
     let size = tokenizer.scratch.size;
     if tokenizer.current != Some(MARK[size]) {

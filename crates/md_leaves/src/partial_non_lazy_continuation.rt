@@ -8,8 +8,8 @@ ghost use Rattle.std.specs.Prelude.{◌≡◌, ◌≢◌};
 ghost use Rattle.md_engine.specs.World.{world};
 ghost use Rattle.md_engine.specs.declared.state.Name.{Name as StateName};
 ghost use Rattle.md_engine.specs.declared.state.State.{State};
-ghost use Rattle.md_leaves.specs.NonLazy.{after_went, start_went};
-ghost use Rattle.md_seam.specs.Went.{IsAt, NeedsNothing};
+ghost use Rattle.md_leaves.specs.NonLazy.{after_transition, start_transition};
+ghost use Rattle.md_seam.specs.Transition.{IsAt, NeedsNothing};
 
 use md_engine::event::Name;
 use md_engine::or_error;
@@ -25,8 +25,8 @@ use md_engine::tokenizer::Tokenizer;
 /// ```
 pub fn start(tokenizer: &mut Tokenizer) -> State
     requires { IsAt NeedsNothing StateName.NonLazyContinuationStart (world tokenizer.old) }
-    ensures to { result ≢ State.Error → result ≡ (start_went (world tokenizer.old)).to }
-    ensures world { result ≢ State.Error → world tokenizer.new ≡ (start_went (world tokenizer.old)).world }
+    ensures to { result ≢ State.Error → result ≡ (start_transition (world tokenizer.old)).to }
+    ensures world { result ≢ State.Error → world tokenizer.new ≡ (start_transition (world tokenizer.old)).world }
 {
     if tokenizer.current == Some(b'\n') {
         or_error!(tokenizer.enter(Name::LineEnding));
@@ -47,8 +47,8 @@ pub fn start(tokenizer: &mut Tokenizer) -> State
 /// ```
 pub fn after(tokenizer: &mut Tokenizer) -> State
     requires { IsAt NeedsNothing StateName.NonLazyContinuationAfter (world tokenizer.old) }
-    ensures to { result ≡ (after_went (world tokenizer.old)).to }
-    ensures world { world tokenizer.new ≡ (after_went (world tokenizer.old)).world }
+    ensures to { result ≡ (after_transition (world tokenizer.old)).to }
+    ensures world { world tokenizer.new ≡ (after_transition (world tokenizer.old)).world }
 {
     if tokenizer.line.lazy {
         State::Nok

@@ -10,8 +10,8 @@ ghost use Rattle.std.specs.Prelude.{◌≡◌, ◌≢◌};
 ghost use Rattle.md_engine.specs.World.{world};
 ghost use Rattle.md_engine.specs.declared.state.Name.{Name as StateName};
 ghost use Rattle.md_engine.specs.declared.state.State.{State};
-ghost use Rattle.md_leaves.specs.Break.{BreakNeeds, at_break_went, before_went, sequence_went, start_went};
-ghost use Rattle.md_seam.specs.Went.{IsAt};
+ghost use Rattle.md_leaves.specs.Break.{BreakNeeds, at_break_transition, before_transition, sequence_transition, start_transition};
+ghost use Rattle.md_seam.specs.Transition.{IsAt};
 
 use md_engine::event::Name;
 use md_engine::or_error;
@@ -30,8 +30,8 @@ const MARKERS: usize = 3;
 /// ```
 pub fn start(tokenizer: &mut Tokenizer) -> State
     requires { IsAt BreakNeeds StateName.ThematicBreakStart (world tokenizer.old) }
-    ensures to { result ≢ State.Error → result ≡ (start_went (world tokenizer.old)).to }
-    ensures world { result ≢ State.Error → world tokenizer.new ≡ (start_went (world tokenizer.old)).world }
+    ensures to { result ≢ State.Error → result ≡ (start_transition (world tokenizer.old)).to }
+    ensures world { result ≢ State.Error → world tokenizer.new ≡ (start_transition (world tokenizer.old)).world }
 {
     if !tokenizer.options.constructs.thematic_break {
         return State::Nok;
@@ -59,8 +59,8 @@ pub fn start(tokenizer: &mut Tokenizer) -> State
 /// ```
 pub fn before(tokenizer: &mut Tokenizer) -> State
     requires { IsAt BreakNeeds StateName.ThematicBreakBefore (world tokenizer.old) }
-    ensures to { result ≡ (before_went (world tokenizer.old)).to }
-    ensures world { world tokenizer.new ≡ (before_went (world tokenizer.old)).world }
+    ensures to { result ≡ (before_transition (world tokenizer.old)).to }
+    ensures world { world tokenizer.new ≡ (before_transition (world tokenizer.old)).world }
 {
     match tokenizer.current {
         Some(byte) if byte == b'*' || byte == b'-' || byte == b'_' => {
@@ -79,8 +79,8 @@ pub fn before(tokenizer: &mut Tokenizer) -> State
 /// ```
 pub fn at_break(tokenizer: &mut Tokenizer) -> State
     requires { IsAt BreakNeeds StateName.ThematicBreakAtBreak (world tokenizer.old) }
-    ensures to { result ≢ State.Error → result ≡ (at_break_went (world tokenizer.old)).to }
-    ensures world { result ≢ State.Error → world tokenizer.new ≡ (at_break_went (world tokenizer.old)).world }
+    ensures to { result ≢ State.Error → result ≡ (at_break_transition (world tokenizer.old)).to }
+    ensures world { result ≢ State.Error → world tokenizer.new ≡ (at_break_transition (world tokenizer.old)).world }
 {
     if tokenizer.current == Some(tokenizer.scratch.marker) {
         or_error!(tokenizer.enter(Name::ThematicBreakSequence));
@@ -109,8 +109,8 @@ pub fn at_break(tokenizer: &mut Tokenizer) -> State
 /// ```
 pub fn sequence(tokenizer: &mut Tokenizer) -> State
     requires { IsAt BreakNeeds StateName.ThematicBreakSequence (world tokenizer.old) }
-    ensures to { result ≢ State.Error → result ≡ (sequence_went (world tokenizer.old)).to }
-    ensures world { result ≢ State.Error → world tokenizer.new ≡ (sequence_went (world tokenizer.old)).world }
+    ensures to { result ≢ State.Error → result ≡ (sequence_transition (world tokenizer.old)).to }
+    ensures world { result ≢ State.Error → world tokenizer.new ≡ (sequence_transition (world tokenizer.old)).world }
 {
     if tokenizer.current == Some(tokenizer.scratch.marker) {
         tokenizer.consume();

@@ -14,16 +14,16 @@ use Rattle.md_engine.specs.declared.event.Kind.TheVariants.{Enter, Exit}
 use Rattle.md_engine.specs.declared.event.Name.{Name}
 use Rattle.md_engine.specs.declared.event.Point.{Point}
 use Rattle.md_seam.specs.declared.outline.Word.TheVariants as word
-use Rattle.md_seam.specs.Lines.{begins_with}
-use Rattle.md_seam.specs.Nested.{Balanced, Fits, Matches, open_after, open_behind}
-use Rattle.md_seam.specs.Outline.{Entry, block_entries, entries, entry, outline}
-use Rattle.md_seam.specs.Places.{last_line}
-use Rattle.md_seam.specs.Rest.{is_blank}
-use Rattle.md_seam.specs.Spelled.{Around, AsHeading, AsMarkers, AsParagraph, BreakLeaf, FootnoteShape, HeadingAtxLeaf, HeadingSoFar, Holds, IsEnding, IsPrefix, IsQuiet, ItemShape, OfBreak, OfHeadingAtx, OpenLeaf, Opens, OrderedShape, QuoteShape, Reading, Shape, Tells, Text, UnorderedShape, after_prefix, at_ending, before_prefix, begun, block_around, block_of, byte_at, finished, first_told, left, next_line, on_leaf, read, read_by, read_enter, read_exit, spelled, text_to, unread}
-use Rattle.md_seam.specs.Spelled as spelled
-use Rattle.md_seam.specs.State.{then_block}
-use Rattle.md_seam.specs.Texts.{split_lines, trim_each}
-use Rattle.md_seam.specs.Tree.{Block, Blocks, Break, End, Heading, Line, More, Paragraph, Quote}
+use Rattle.md_seam.specs.Standard.Lines.{begins_with}
+use Rattle.md_seam.specs.Events.Nested.{Balanced, Fits, Matches, open_after, open_behind}
+use Rattle.md_seam.specs.Standard.Outline.{Entry, block_entries, entries, entry, outline}
+use Rattle.md_seam.specs.Events.Places.{last_line}
+use Rattle.md_seam.specs.Standard.Rest.{is_blank}
+use Rattle.md_seam.specs.Events.Spelled.{Around, AsHeading, AsMarkers, AsParagraph, BreakLeaf, FootnoteShape, HeadingAtxLeaf, HeadingSoFar, Holds, IsEnding, IsPrefix, IsQuiet, ItemShape, OfBreak, OfHeadingAtx, OpenLeaf, Opens, OrderedShape, QuoteShape, Reading, Shape, Tells, Text, UnorderedShape, after_prefix, at_ending, before_prefix, begun, block_around, block_of, byte_at, finished, first_told, left, next_line, on_leaf, read, read_by, read_enter, read_exit, spelled, text_to, unread}
+use Rattle.md_seam.specs.Events.Spelled as spelled
+use Rattle.md_seam.specs.Standard.State.{then_block}
+use Rattle.md_seam.specs.Standard.Texts.{split_lines, trim_each}
+use Rattle.md_seam.specs.Standard.Tree.{Block, Blocks, Break, End, Heading, Line, More, Paragraph, Quote}
 use Rattle.md_seam.proofs.PlacesLemmas.{Some_line, some-split}
 use Rattle.md_outline.specs.Between.{is_between}
 use Rattle.md_outline.specs.Outlined.{IsOutlined, are_parted, are_shallow, begins_line, has_plain_name, is_plain, is_shallow, is_told, is_unparted, parts_by, span_by, tells_between}

@@ -12,13 +12,13 @@ use Rattle.std.proofs.lemmas.List.{drop_all, length-drop, take_all}
 use Rattle.std.proofs.lemmas.List.Sums.{prefix_len_stops}
 use Rattle.std.proofs.lemmas.Str.{IsCharBoundary-after_ascii, IsCharBoundary-before_ascii, IsCharBoundary-end, IsCharBoundary-past_char, IsCharBoundary-start, IsUtf8-between, IsUtf8-drop, IsUtf8-nil, IsUtf8-take}
 use Rattle.md_seam.specs.declared.outline.Word.TheVariants as word
-use Rattle.md_seam.specs.Lines.{begins_with, ends_line, is_ending}
-use Rattle.md_seam.specs.Preamble.{has_mark}
-use Rattle.md_seam.specs.Outline.{Entry, entries, entry_with}
-use Rattle.md_seam.specs.Places.{last_line}
-use Rattle.md_seam.specs.Rest.{is_blank, is_white, trim_start}
-use Rattle.md_seam.specs.Spelled.{without_last}
-use Rattle.md_seam.specs.Texts.{split_lines, trim_each}
+use Rattle.md_seam.specs.Standard.Lines.{begins_with, ends_line, is_ending}
+use Rattle.md_seam.specs.Standard.Preamble.{has_mark}
+use Rattle.md_seam.specs.Standard.Outline.{Entry, entries, entry_with}
+use Rattle.md_seam.specs.Events.Places.{last_line}
+use Rattle.md_seam.specs.Standard.Rest.{is_blank, is_white, trim_start}
+use Rattle.md_seam.specs.Events.Spelled.{without_last}
+use Rattle.md_seam.specs.Standard.Texts.{split_lines, trim_each}
 use Rattle.md_seam.proofs.PlacesLemmas.{Some_line, last-next, some-split}
 use Rattle.md_seam.proofs.PlainSteps.{range-none}
 use Rattle.md_seam.proofs.PreambleLemmas.{mark-bytes}

@@ -7,14 +7,14 @@ use Rattle.md_engine.specs.declared.event.Kind.{Kind}
 use Rattle.md_engine.specs.declared.event.Kind.TheVariants.{Enter, Exit}
 use Rattle.md_engine.specs.declared.event.Point.{Point}
 use Rattle.md_seam.specs.declared.outline.OutlineLine.{OutlineLine}
-use Rattle.md_seam.specs.Lines.{begins_with}
-use Rattle.md_seam.specs.Nested.{Balanced}
-use Rattle.md_seam.specs.Outline.{entries_of, outline}
-use Rattle.md_seam.specs.Places.{last_line}
-use Rattle.md_seam.specs.Rest.{is_blank}
-use Rattle.md_seam.specs.Spelled.{AsHeading, AsMarkers, AsParagraph, Holds, IsEnding, IsPrefix, IsQuiet, OfBreak, OfHeadingAtx, Opens, QuoteShape, Role, Tells, byte_at, role, spelled}
-use Rattle.md_seam.specs.Texts.{split_lines}
-use Rattle.md_seam.specs.Tree.{Block, Blocks, End, Footnote, Heading, Item, ListOf, More, Quote}
+use Rattle.md_seam.specs.Standard.Lines.{begins_with}
+use Rattle.md_seam.specs.Events.Nested.{Balanced}
+use Rattle.md_seam.specs.Standard.Outline.{entries_of, outline}
+use Rattle.md_seam.specs.Events.Places.{last_line}
+use Rattle.md_seam.specs.Standard.Rest.{is_blank}
+use Rattle.md_seam.specs.Events.Spelled.{AsHeading, AsMarkers, AsParagraph, Holds, IsEnding, IsPrefix, IsQuiet, OfBreak, OfHeadingAtx, Opens, QuoteShape, Role, Tells, byte_at, role, spelled}
+use Rattle.md_seam.specs.Standard.Texts.{split_lines}
+use Rattle.md_seam.specs.Standard.Tree.{Block, Blocks, End, Footnote, Heading, Item, ListOf, More, Quote}
 use Rattle.md_outline.specs.Between.{is_between}
 use Rattle.md_outline.specs.declared.outline.Span.{Span}
 

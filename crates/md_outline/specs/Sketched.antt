@@ -8,12 +8,12 @@ use Rattle.md_engine.specs.declared.event.Kind.{Kind}
 use Rattle.md_engine.specs.declared.event.Kind.TheVariants.{Enter, Exit}
 use Rattle.md_engine.specs.declared.event.Point.{Point}
 use Rattle.md_seam.specs.declared.outline.Word.TheVariants as word
-use Rattle.md_seam.specs.Lines.{begins_with, is_ending}
-use Rattle.md_seam.specs.Outline.{Entry, block_entries, entries, entries_of, entry}
-use Rattle.md_seam.specs.Spelled.{AsHeading, AsMarkers, AsParagraph, Holds, IsPrefix, OfBreak, OfHeadingAtx, Opens, QuoteShape, Tells, without_last}
-use Rattle.md_seam.specs.Spelled as spelled
-use Rattle.md_seam.specs.Texts.{split_lines, trim_each}
-use Rattle.md_seam.specs.Tree.{Break}
+use Rattle.md_seam.specs.Standard.Lines.{begins_with, is_ending}
+use Rattle.md_seam.specs.Standard.Outline.{Entry, block_entries, entries, entries_of, entry}
+use Rattle.md_seam.specs.Events.Spelled.{AsHeading, AsMarkers, AsParagraph, Holds, IsPrefix, OfBreak, OfHeadingAtx, Opens, QuoteShape, Tells, without_last}
+use Rattle.md_seam.specs.Events.Spelled as spelled
+use Rattle.md_seam.specs.Standard.Texts.{split_lines, trim_each}
+use Rattle.md_seam.specs.Standard.Tree.{Break}
 use Rattle.md_outline.specs.Between.{is_between}
 use Rattle.md_outline.specs.declared.outline.Leaf.{Leaf}
 use Rattle.md_outline.specs.declared.outline.Leaf.TheVariants as leaf

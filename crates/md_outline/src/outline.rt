@@ -3,11 +3,11 @@
 ghost use Rattle.std.specs.Prelude.{◌≡◌, ◌≤◌, true, ◌+◌, ◌-◌, ◌∷◌, [], ◌++◌, length, slice_range, Option, option_map, IfOk, OnOk};
 ghost use Rattle.std.specs.List.{prefix_len};
 ghost use Rattle.std.specs.Str.{IsUtf8};
-ghost use Rattle.md_seam.specs.Outline.{entries_of, entry_with};
-ghost use Rattle.md_seam.specs.Places.{last_line};
-ghost use Rattle.md_seam.specs.Rest.{is_white, trim_start};
-ghost use Rattle.md_seam.specs.Spelled as spelled;
-ghost use Rattle.md_seam.specs.Texts.{split_lines};
+ghost use Rattle.md_seam.specs.Standard.Outline.{entries_of, entry_with};
+ghost use Rattle.md_seam.specs.Events.Places.{last_line};
+ghost use Rattle.md_seam.specs.Standard.Rest.{is_white, trim_start};
+ghost use Rattle.md_seam.specs.Events.Spelled as spelled;
+ghost use Rattle.md_seam.specs.Standard.Texts.{split_lines};
 ghost use Rattle.md_outline.specs.Between.{is_between};
 ghost use Rattle.md_outline.specs.Outlined.{Outlines};
 ghost use Rattle.md_outline.specs.declared.outline.Span.{Span};

@@ -1,6 +1,6 @@
 -- What the lines of an outline say.
 use Rattle.std.specs.Prelude.{ℕ, List}
-use Rattle.md_seam.specs.Outline.{Entry}
+use Rattle.md_seam.specs.Standard.Outline.{Entry}
 use Rattle.md_seam.specs.declared.outline.Word.{Word}
 
 -- a line with all of its parts

@@ -1,9 +1,9 @@
 -- What the states of the program mean.
 use Rattle.std.specs.Prelude.{◌≡◌, List, [], ◌∷◌, map, Option, Some, None}
 use Rattle.std.specs.Option.{option_copied, option_map}
-use Rattle.md_seam.specs.State as s
-use Rattle.md_seam.specs.Leaves as l
-use Rattle.md_seam.specs.Containers as c
+use Rattle.md_seam.specs.Standard.State as s
+use Rattle.md_seam.specs.Standard.Leaves as l
+use Rattle.md_seam.specs.Standard.Containers as c
 use Rattle.md_plain.specs.declared.state.Container.{Container}
 use Rattle.md_plain.specs.declared.state.Container.TheVariants as container
 use Rattle.md_plain.specs.declared.state.Kept.{Kept}
@@ -15,10 +15,10 @@ use Rattle.md_plain.specs.declared.state.Frame.{Frame}
 use Rattle.md_plain.specs.declared.state.Path.{Path}
 use Rattle.md_plain.specs.declared.state.Came.{Came}
 use Rattle.md_plain.specs.declared.state.Came.TheVariants as came
-use Rattle.md_plain.specs.declared.leaves.Went.{Went}
-use Rattle.md_plain.specs.declared.leaves.Went.TheVariants as went
-use Rattle.md_plain.specs.declared.state.Against.{Against}
-use Rattle.md_plain.specs.declared.state.Against.TheVariants as against
+use Rattle.md_plain.specs.declared.leaves.Transition.{Transition}
+use Rattle.md_plain.specs.declared.leaves.Transition.TheVariants as went
+use Rattle.md_plain.specs.declared.state.ParagraphContext.{ParagraphContext}
+use Rattle.md_plain.specs.declared.state.ParagraphContext.TheVariants as against
 use Rattle.md_plain.specs.declared.state.Taken.{Taken}
 use Rattle.plain_grammars.specs.Kinds.{kind_meaning}
 use Rattle.plain_grammars.specs.Rests.{rest_meaning}
@@ -64,7 +64,7 @@ came_meaning (came.Finished b) = l.Finished (meaning b)
 abbrev pub came_option : Option Came → Option l.Came
 came_option o = option_map came_meaning o
 
-abbrev pub against_meaning : Against → l.Against
+abbrev pub against_meaning : ParagraphContext → l.ParagraphContext
 against_meaning against.NoText = l.NoText
 against_meaning against.Text = l.Text
 against_meaning against.LazyText = l.LazyText
@@ -76,11 +76,11 @@ abbrev pub taken_option : Option Taken → Option c.Taken
 taken_option o = option_map taken_meaning o
 
 -- what a leaf that goes on has come to
-abbrev pub went_option : Went → Option l.Came
+abbrev pub went_option : Transition → Option l.Came
 went_option (went.On c) = Some (came_meaning c)
 went_option (went.Ends x) = None
 
 -- a leaf that ends is handed back
-abbrev pub HandsBack : Went → s.Leaf → Type 0
+abbrev pub HandsBack : Transition → s.Leaf → Type 0
 HandsBack (went.On c) x = Unit {0}
 HandsBack (went.Ends y) x = leaf_meaning y ≡ x

@@ -2,7 +2,7 @@
 
 ghost use Rattle.std.specs.Prelude.{◌≡◌, ◌+◌, ◌≤◌, false, length, IfSome};
 ghost use Rattle.std.specs.List.{prefix_len};
-ghost use Rattle.md_seam.specs.Containers as containers;
+ghost use Rattle.md_seam.specs.Standard.Containers as containers;
 ghost use Rattle.plain_grammars.specs.Rests.{rest_meaning};
 ghost use Rattle.md_plain.specs.States.{container_meaning, taken_option};
 ghost use Rattle.md_plain.specs.Markers.{marker_meaning, marker_option, label_split};

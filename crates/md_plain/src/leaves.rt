@@ -3,15 +3,15 @@
 ghost use Rattle.std.specs.Prelude.{◌≡◌, ◌≤◌, ◌==◌, ◌||◌, not, length, reverse, count_by, if◌then◌else◌, IsFalse, IfOk};
 ghost use Rattle.std.specs.List.{list_all, prefix_len, suffix_len};
 ghost use Rattle.std.specs.Option.{option_copied};
-ghost use Rattle.md_seam.specs.Leaves as leaves;
-ghost use Rattle.md_seam.specs.Rest.{is_white, is_parted};
-ghost use Rattle.md_seam.specs.State.{fence_block, OpenCode};
+ghost use Rattle.md_seam.specs.Standard.Leaves as leaves;
+ghost use Rattle.md_seam.specs.Standard.Rest.{is_white, is_parted};
+ghost use Rattle.md_seam.specs.Standard.State.{fence_block, OpenCode};
 ghost use Rattle.plain_grammars.specs.Rests.{rest_meaning};
 ghost use Rattle.plain_grammars.specs.Trees.{meaning, line_meanings};
 ghost use Rattle.plain_grammars.specs.Kinds.{kind_meaning};
 ghost use Rattle.md_plain.specs.States.{opening_meaning, came_meaning, came_option, against_meaning, leaf_meaning, went_option, HandsBack};
 
-use crate::state::{Against, Came, Leaf, Opening};
+use crate::state::{ParagraphContext, Came, Leaf, Opening};
 use md_engine::configuration::ParseOptions;
 use md_engine::message::Message;
 use plain_grammars::bytes::{is_blank, is_parted, is_white, run_len, trim, trim_end, trim_start};
@@ -127,12 +127,12 @@ fn heading_at<'a>(
 fn code_at<'a>(
     alloc: Global,
     options: &ParseOptions,
-    against: Against,
+    against: ParagraphContext,
     rest: &Rest<'a>,
 ) -> Result<Option<Came<'a>>, Message>
     ensures { IfOk result (λ o. came_option o ≡ leaves.code_at options.now (against_meaning against) (rest_meaning rest.now)) }
 {
-    if !options.constructs.code_indented || against != Against::NoText || rest.indent() < 4 {
+    if !options.constructs.code_indented || against != ParagraphContext::NoText || rest.indent() < 4 {
         return Ok(None);
     }
     let mut lines = Vec::new(alloc);
@@ -280,7 +280,7 @@ fn html_line<'a>(kind: HtmlKind, lines: Vec<Line<'a>>, rest: &Rest<'a>) -> Resul
 fn html_at<'a>(
     alloc: Global,
     options: &ParseOptions,
-    against: Against,
+    against: ParagraphContext,
     rest: &Rest<'a>,
 ) -> Result<Option<Came<'a>>, Message>
     ensures { IfOk result (λ o. came_option o ≡ leaves.html_at options.now (against_meaning against) (rest_meaning rest.now)) }
@@ -291,7 +291,7 @@ fn html_at<'a>(
     let Some(kind) = html_kind(rest.text()) else {
         return Ok(None);
     };
-    if kind == HtmlKind::Complete && against == Against::Text {
+    if kind == HtmlKind::Complete && against == ParagraphContext::Text {
         return Ok(None);
     }
     Ok(Some(html_line(kind, Vec::new(alloc), rest)?))
@@ -302,7 +302,7 @@ fn html_at<'a>(
 pub fn starts<'a>(
     alloc: Global,
     options: &ParseOptions,
-    against: Against,
+    against: ParagraphContext,
     rest: &Rest<'a>,
 ) -> Result<Option<Came<'a>>, Message>
     ensures { IfOk result (λ o. came_option o ≡ leaves.starts options.now (against_meaning against) (rest_meaning rest.now)) }
@@ -324,7 +324,7 @@ pub fn starts<'a>(
 
 /// What an open leaf that is no paragraph comes to with this line: it has come to something, or ends before the line.
 #[derive(Drop)]
-pub enum Went<'a> {
+pub enum Transition<'a> {
     On(Came<'a>),
     Ends(Leaf<'a>),
 }
@@ -336,34 +336,34 @@ pub fn goes_on<'a>(
     options: &ParseOptions,
     leaf: Leaf<'a>,
     rest: &Rest<'a>,
-) -> Result<Went<'a>, Message>
+) -> Result<Transition<'a>, Message>
     ensures value { IfOk result (λ w. went_option w ≡ leaves.goes_on options.now (leaf_meaning leaf.entry) (rest_meaning rest.now)) }
     ensures ends { IfOk result (λ w. HandsBack w (leaf_meaning leaf.entry)) }
 {
     match leaf {
         Leaf::Code(mut lines) => {
             if code_goes_on(&mut lines, rest)? {
-                Ok(Went::On(Came::Opened(Leaf::Code(lines))))
+                Ok(Transition::On(Came::Opened(Leaf::Code(lines))))
             } else {
-                Ok(Went::Ends(Leaf::Code(lines)))
+                Ok(Transition::Ends(Leaf::Code(lines)))
             }
         }
-        Leaf::Fence(opening, lines) => Ok(Went::On(fence_goes_on(options, &opening, lines, rest)?)),
+        Leaf::Fence(opening, lines) => Ok(Transition::On(fence_goes_on(options, &opening, lines, rest)?)),
         Leaf::Html(kind, lines) => {
             if (kind == HtmlKind::Basic || kind == HtmlKind::Complete) && is_blank(rest.bytes) {
-                Ok(Went::Ends(Leaf::Html(kind, lines)))
+                Ok(Transition::Ends(Leaf::Html(kind, lines)))
             } else {
-                Ok(Went::On(html_line(kind, lines, rest)?))
+                Ok(Transition::On(html_line(kind, lines, rest)?))
             }
         }
         Leaf::Table(delimiter, mut rows) => {
-            if is_blank(rest.bytes) || starts(alloc, options, Against::NoText, rest)?.is_some() {
-                Ok(Went::Ends(Leaf::Table(delimiter, rows)))
+            if is_blank(rest.bytes) || starts(alloc, options, ParagraphContext::NoText, rest)?.is_some() {
+                Ok(Transition::Ends(Leaf::Table(delimiter, rows)))
             } else {
                 memory::push(&mut rows, row_cells(alloc, rest.bytes)?)?;
-                Ok(Went::On(Came::Opened(Leaf::Table(delimiter, rows))))
+                Ok(Transition::On(Came::Opened(Leaf::Table(delimiter, rows))))
             }
         }
-        other => Ok(Went::Ends(other)),
+        other => Ok(Transition::Ends(other)),
     }
 }

@@ -2,12 +2,12 @@
 
 ghost use Rattle.std.specs.Prelude.{◌≡◌, ◌+◌, [], ◌∷◌, ◌++◌, map, IfOk, OnOk};
 ghost use Rattle.std.specs.Option.{option_copied, option_map};
-ghost use Rattle.md_seam.specs.Outline as spec;
+ghost use Rattle.md_seam.specs.Standard.Outline as spec;
 ghost use Rattle.md_seam.specs.declared.outline.Word.TheVariants as words;
 ghost use Rattle.plain_grammars.specs.Trees.{meaning, meanings, line_meanings, slices};
 ghost use Rattle.plain_grammars.specs.WholeTrees.{tree_meaning};
 ghost use Rattle.md_plain.specs.Outlined.{entry_as};
-ghost use Rattle.md_seam.specs.Outline.{entries_of};
+ghost use Rattle.md_seam.specs.Standard.Outline.{entries_of};
 
 use md_engine::message::Message;
 use md_seam::outline::{OutlineLine, Word};

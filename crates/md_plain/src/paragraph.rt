@@ -1,14 +1,14 @@
 // Paragraphs, and the lines that turn them into headings and tables.
 
 ghost use Rattle.std.specs.Prelude.{◌≡◌, ◌==◌, length, OnOk, IfOk};
-ghost use Rattle.md_seam.specs.State as state;
-ghost use Rattle.md_seam.specs.Leaves as leaves;
+ghost use Rattle.md_seam.specs.Standard.State as state;
+ghost use Rattle.md_seam.specs.Standard.Leaves as leaves;
 ghost use Rattle.plain_grammars.specs.Definitions.{cut_meaning, defined_meaning};
 ghost use Rattle.plain_grammars.specs.Rests.{rest_meaning};
 ghost use Rattle.plain_grammars.specs.Trees.{meaning, meanings, slices};
 ghost use Rattle.md_plain.specs.States.{kept_meaning, kept_meanings, spot_meaning};
 ghost use Rattle.md_plain.specs.Paragraphs.{block_of, definitions_of, head_of, table_spot};
-ghost use Rattle.md_seam.specs.Table as table;
+ghost use Rattle.md_seam.specs.Standard.Table as table;
 ghost use Rattle.std.specs.List.{list_all};
 ghost use Rattle.std.specs.Option.{option_map};
 

@@ -83,7 +83,7 @@ pub enum Came<'a> {
 
 /// What a line that may start a leaf stands against.
 #[derive(Clone, Copy, Debug, PartialEq, Eq)]
-pub enum Against {
+pub enum ParagraphContext {
     /// No open paragraph.
     NoText,
     /// An open paragraph in the line's own containers.

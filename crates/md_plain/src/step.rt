@@ -1,10 +1,10 @@
 // The step of one line: what is open after it (CommonMark, appendix).
 
 ghost use Rattle.std.specs.Prelude.{◌≡◌, ◌<◌, length, take, drop, is_some, IfOk};
-ghost use Rattle.md_seam.specs.Tree.{End};
-ghost use Rattle.md_seam.specs.State as state;
-ghost use Rattle.md_seam.specs.Leaves.{table_at};
-ghost use Rattle.md_seam.specs.Step as definition;
+ghost use Rattle.md_seam.specs.Standard.Tree.{End};
+ghost use Rattle.md_seam.specs.Standard.State as state;
+ghost use Rattle.md_seam.specs.Standard.Leaves.{table_at};
+ghost use Rattle.md_seam.specs.Standard.Step as definition;
 ghost use Rattle.plain_grammars.specs.Rests.{rest_meaning};
 ghost use Rattle.plain_grammars.specs.Trees.{meanings};
 ghost use Rattle.md_plain.specs.States.{kept_meanings, leaf_meaning, spot_meaning, came_meaning, taken_meaning, path_meaning, within};
@@ -12,11 +12,11 @@ ghost use Rattle.md_plain.specs.Stops.{more_text, stopped_in};
 
 use crate::close::{close_to, shut};
 use crate::containers::{continues, opens};
-use crate::leaves::{Went, goes_on, starts};
+use crate::leaves::{Transition, goes_on, starts};
 use crate::paragraph::{
     head_cells, kept, shut_paragraph, underline_depth, underlined, with_line, with_table,
 };
-use crate::state::{Against, Came, Frame, Kept, Leaf, Path, Spot, Taken};
+use crate::state::{ParagraphContext, Came, Frame, Kept, Leaf, Path, Spot, Taken};
 use md_engine::configuration::ParseOptions;
 use md_engine::message::Message;
 use plain_grammars::blocks::push_block;
@@ -59,7 +59,7 @@ fn fresh_line<'a>(
             leaf: Leaf::None,
         });
     }
-    match starts(alloc, options, Against::NoText, rest)? {
+    match starts(alloc, options, ParagraphContext::NoText, rest)? {
         Some(started) => came(here, started),
         None => with_line(here, Vec::new(alloc), rest),
     }
@@ -107,7 +107,7 @@ fn text_line<'a>(
     if let Some(depth) = underline_depth(options, rest) {
         return underlined(alloc, options, here, lines, rest, depth);
     }
-    if let Some(started) = starts(alloc, options, Against::Text, rest)? {
+    if let Some(started) = starts(alloc, options, ParagraphContext::Text, rest)? {
         shut_paragraph(alloc, options, &mut here, &lines)?;
         return came(here, started);
     }
@@ -128,8 +128,8 @@ fn leaf_line<'a>(
         Leaf::None => fresh_line(alloc, options, here, rest),
         Leaf::Paragraph(lines) => text_line(alloc, options, here, lines, rest),
         leaf => match goes_on(alloc, options, leaf, rest)? {
-            Went::On(went) => came(here, went),
-            Went::Ends(leaf) => {
+            Transition::On(went) => came(here, went),
+            Transition::Ends(leaf) => {
                 let here = shut(alloc, options, Spot { here, leaf })?;
                 fresh_line(alloc, options, here, rest)
             }
@@ -226,7 +226,7 @@ fn takes_lazy<'a>(
 {
     match leaf {
         Leaf::Paragraph(_) => {
-            Ok(!is_blank(rest.bytes) && starts(alloc, options, Against::LazyText, rest)?.is_none())
+            Ok(!is_blank(rest.bytes) && starts(alloc, options, ParagraphContext::LazyText, rest)?.is_none())
         }
         _ => Ok(false),
     }

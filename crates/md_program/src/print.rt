@@ -2,7 +2,7 @@
 ghost use Rattle.std.specs.Prelude.{◌≡◌, ◌++◌, OnOk, IfOk, Bool, List, ℕ, map, codes, string_bytes, encode_utf8};
 ghost use Rattle.std.specs.List.{flat_map, repeat};
 ghost use Rattle.md_program.specs.Listing.{listing_of};
-ghost use Rattle.md_seam.specs.Outline.{entry_of};
+ghost use Rattle.md_seam.specs.Standard.Outline.{entry_of};
 ghost use Rattle.md_program.specs.Printed.{head, open_mark, printed, printed_labels, printed_line};
 
 use crate::body::Outlined;

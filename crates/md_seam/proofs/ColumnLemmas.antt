@@ -4,16 +4,16 @@ use Rattle.std.specs.Prelude.{nat_le, nat_eq}
 use Rattle.std.specs.List.{starts_with}
 use Rattle.std.specs.Option.{option_or, is_some}
 use Rattle.md_engine.specs.declared.configuration.ParseOptions.{ParseOptions}
-use Rattle.md_seam.specs.Containers.{Labelled, Marker, Taken, continues, footnote_by, footnote_continues, footnote_label, item_by, item_continues, item_padding, list_marker, may_interrupt, opens, opens_footnote, opens_item, opens_quote, quote_taken}
-use Rattle.md_seam.specs.Html.{HtmlKind, html_kind}
-use Rattle.md_seam.specs.Leaves.{Against, Came, Finished, LazyText, NoText, Opened, Text, break_at, code_at, code_goes_on, code_line, fence_at, fence_from, fence_goes_on, goes_on, heading_at, heading_lines, heading_text, html_at, html_by, html_goes_on, is_free, is_rule, is_run, starts, table_at, table_by, table_goes_on, underline_depth, underlined, underlined_by, with_line}
-use Rattle.md_seam.specs.Lines.{begins_with}
-use Rattle.md_seam.specs.Preamble.{rest_at}
-use Rattle.md_seam.specs.Rest.{Rest, behind_indent, indent, is_blank, is_parted, is_small, line_of, lose, run_len, trim, trim_start, white_columns}
-use Rattle.md_seam.specs.State.{At, Container, InFootnote, InItem, InQuote, Kept, Leaf, NoLeaf, OpenCode, OpenFence, OpenHtml, OpenParagraph, OpenTable, Opening, Path, Spot, Within, closed, container_block, cut, fence_block, kept, shut, spot, texts, then_block, then_definitions, then_leaf}
-use Rattle.md_seam.specs.Step.{all_continued, all_continued_by, fresh_by, fresh_line, is_concrete, is_open_text, lazy_by, leaf_line_by, on_or_fresh, opened, row_or_text, spot_of, step, stopped, stopped_by, text_by, text_line, underline_or_text, with_lazy}
-use Rattle.md_seam.specs.Table.{delimiter_columns, row_cells}
-use Rattle.md_seam.specs.Tree.{Blocks, Break, End, Heading, Line}
+use Rattle.md_seam.specs.Standard.Containers.{Labelled, Marker, Taken, continues, footnote_by, footnote_continues, footnote_label, item_by, item_continues, item_padding, list_marker, may_interrupt, opens, opens_footnote, opens_item, opens_quote, quote_taken}
+use Rattle.md_seam.specs.Standard.Html.{HtmlKind, html_kind}
+use Rattle.md_seam.specs.Standard.Leaves.{ParagraphContext, Came, Finished, LazyText, NoText, Opened, Text, break_at, code_at, code_goes_on, code_line, fence_at, fence_from, fence_goes_on, goes_on, heading_at, heading_lines, heading_text, html_at, html_by, html_goes_on, is_free, is_rule, is_run, starts, table_at, table_by, table_goes_on, underline_depth, underlined, underlined_by, with_line}
+use Rattle.md_seam.specs.Standard.Lines.{begins_with}
+use Rattle.md_seam.specs.Standard.Preamble.{rest_at}
+use Rattle.md_seam.specs.Standard.Rest.{Rest, behind_indent, indent, is_blank, is_parted, is_small, line_of, lose, run_len, trim, trim_start, white_columns}
+use Rattle.md_seam.specs.Standard.State.{At, Container, InFootnote, InItem, InQuote, Kept, Leaf, NoLeaf, OpenCode, OpenFence, OpenHtml, OpenParagraph, OpenTable, Opening, Path, Spot, Within, closed, container_block, cut, fence_block, kept, shut, spot, texts, then_block, then_definitions, then_leaf}
+use Rattle.md_seam.specs.Standard.Step.{all_continued, all_continued_by, fresh_by, fresh_line, is_concrete, is_open_text, lazy_by, leaf_line_by, on_or_fresh, opened, row_or_text, spot_of, step, stopped, stopped_by, text_by, text_line, underline_or_text, with_lazy}
+use Rattle.md_seam.specs.Standard.Table.{delimiter_columns, row_cells}
+use Rattle.md_seam.specs.Standard.Tree.{Blocks, Break, End, Heading, Line}
 
 -- no byte is a tab
 abbrev pub NoTab : List ℕ → Type 0
@@ -195,10 +195,10 @@ heading_at-any options c d bytes h =
     then Some (Finished (Heading depth (heading_lines (heading_text (drop depth text)))))
     else None) (indent-any c d bytes h)
 
-abbrev code_from : ParseOptions → Against → ℕ → Line → Option Came
+abbrev code_from : ParseOptions → ParagraphContext → ℕ → Line → Option Came
 code_from options against k line = if options.constructs.code_indented && is_free against && nat_le 4 k then Some (Opened (OpenCode (line ∷ []))) else None
 
-code_at-any : (options : ParseOptions) (against : Against) (c d : ℕ) (bytes : List ℕ) → NoTab bytes → code_at options against (rest_at c bytes) ≡ code_at options against (rest_at d bytes)
+code_at-any : (options : ParseOptions) (against : ParagraphContext) (c d : ℕ) (bytes : List ℕ) → NoTab bytes → code_at options against (rest_at c bytes) ≡ code_at options against (rest_at d bytes)
 unfolding code_at
 code_at-any options against c d bytes h = ap (λ (k : ℕ). code_from options against k (code_line (rest_at c bytes))) (indent-any c d bytes h) ∙ ap (code_from options against (indent (rest_at d bytes))) (lost-any 4 c d bytes h)
 
@@ -206,17 +206,17 @@ fence_at-any : (options : ParseOptions) (c d : ℕ) (bytes : List ℕ) → NoTab
 unfolding fence_at
 fence_at-any options c d bytes h = ap (λ (k : ℕ). if is_small options k then fence_from options k (trim_start bytes) else None) (indent-any c d bytes h)
 
-html_by-any : (against : Against) (kind : Option HtmlKind) (c d : ℕ) (bytes : List ℕ) → html_by against (rest_at c bytes) kind ≡ html_by against (rest_at d bytes) kind
+html_by-any : (against : ParagraphContext) (kind : Option HtmlKind) (c d : ℕ) (bytes : List ℕ) → html_by against (rest_at c bytes) kind ≡ html_by against (rest_at d bytes) kind
 html_by-any against None c d bytes = refl
 html_by-any against (Some kind) c d bytes = refl
 
-html_at-any : (options : ParseOptions) (against : Against) (c d : ℕ) (bytes : List ℕ) → NoTab bytes → html_at options against (rest_at c bytes) ≡ html_at options against (rest_at d bytes)
+html_at-any : (options : ParseOptions) (against : ParagraphContext) (c d : ℕ) (bytes : List ℕ) → NoTab bytes → html_at options against (rest_at c bytes) ≡ html_at options against (rest_at d bytes)
 unfolding html_at
 html_at-any options against c d bytes h =
     ap (λ (k : ℕ). if options.constructs.html_flow && is_small options k then html_by against (rest_at c bytes) (html_kind (trim_start bytes)) else None) (indent-any c d bytes h)
     ∙ ap (λ (o : Option Came). if options.constructs.html_flow && is_small options (indent (rest_at d bytes)) then o else None) (html_by-any against (html_kind (trim_start bytes)) c d bytes)
 
-starts-any : (options : ParseOptions) (against : Against) (c d : ℕ) (bytes : List ℕ) → NoTab bytes → starts options against (rest_at c bytes) ≡ starts options against (rest_at d bytes)
+starts-any : (options : ParseOptions) (against : ParagraphContext) (c d : ℕ) (bytes : List ℕ) → NoTab bytes → starts options against (rest_at c bytes) ≡ starts options against (rest_at d bytes)
 unfolding starts
 starts-any options against c d bytes h =
     rw (code_at-any options against c d bytes h, fence_at-any options c d bytes h, html_at-any options against c d bytes h, heading_at-any options c d bytes h, break_at-any options c d bytes h) refl

@@ -3,10 +3,10 @@ use Rattle.std.proofs.Common.{ℕ, zero, suc, ◌+◌, ◌-◌, ◌%◌, ◌<◌
 use Rattle.std.specs.Option.{option_or}
 use Rattle.std.proofs.lemmas.List.{length-drop}
 use Rattle.md_engine.specs.declared.configuration.ParseOptions.{ParseOptions}
-use Rattle.md_seam.specs.Containers.{Labelled, Marker, Taken, footnote_by, footnote_label, item_by, item_padding, list_marker, opens, opens_footnote, opens_item, opens_quote, quote_taken}
-use Rattle.md_seam.specs.Preamble.{rest_at}
-use Rattle.md_seam.specs.Rest.{Rest, behind, behind_indent, indent, lose, without_column}
-use Rattle.md_seam.specs.State.{InQuote}
+use Rattle.md_seam.specs.Standard.Containers.{Labelled, Marker, Taken, footnote_by, footnote_label, item_by, item_padding, list_marker, opens, opens_footnote, opens_item, opens_quote, quote_taken}
+use Rattle.md_seam.specs.Standard.Preamble.{rest_at}
+use Rattle.md_seam.specs.Standard.Rest.{Rest, behind, behind_indent, indent, lose, without_column}
+use Rattle.md_seam.specs.Standard.State.{InQuote}
 use Rattle.md_seam.proofs.ColumnLemmas.{footnote_from, item_from, quote_from}
 use Rattle.md_seam.proofs.FindsLemmas.{Finds, first-found, none-found, some-found, when-found}
 

@@ -3,10 +3,10 @@ use Rattle.std.proofs.Common.{◌≡◌, ℕ, false, List, [], ◌∷◌, ◌++�
 use Rattle.std.specs.Prelude.{Some, None}
 use Rattle.md_engine.specs.declared.event.Event.{Event}
 use Rattle.md_engine.specs.declared.event.Name.TheVariants as n
-use Rattle.md_seam.specs.Tree as t
-use Rattle.md_seam.specs.Spelled.{spelled}
-use Rattle.md_seam.specs.Nested.{pair, around}
-use Rattle.md_seam.specs.Grammar.{keeps_grammar}
+use Rattle.md_seam.specs.Standard.Tree as t
+use Rattle.md_seam.specs.Events.Spelled.{spelled}
+use Rattle.md_seam.specs.Events.Nested.{pair, around}
+use Rattle.md_seam.specs.Events.Grammar.{keeps_grammar}
 use Rattle.md_seam.proofs.EventRowParts.{at, within_tab, chunk, line, Row}
 
 -- a quote whose second line is lazy: "> a\nb"

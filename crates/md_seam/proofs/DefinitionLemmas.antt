@@ -1,10 +1,10 @@
 -- What follows a definition is fewer lines, so there is an end to definitions.
 use Rattle.std.proofs.Common.{◌≡◌, ℕ, zero, suc, ◌<◌, ◌≤◌, Bool, true, false, if◌then◌else◌, List, [], ◌∷◌, length, Option, Some, None, refl, ap, ◌∙◌, arith}
-use Rattle.md_seam.specs.Lines.{begins_with}
-use Rattle.md_seam.specs.Bytes.{after_optional}
-use Rattle.md_seam.specs.Rest.{is_blank, is_parted, trim_start}
-use Rattle.md_seam.specs.Enclosed.{Enclosed, Closed, Open, Broken, enclosed, Lines, with_line, enclosed_lines}
-use Rattle.md_seam.specs.Definition.{Defined, is_label, label_at, after_colon, after_gap, Destination, destination_at, title_closer, alone, title_at, title_after, Cut, with_title, with_destination, definition_at, with_definition, cut_at_most, cut_definitions}
+use Rattle.md_seam.specs.Standard.Lines.{begins_with}
+use Rattle.md_seam.specs.Standard.Bytes.{after_optional}
+use Rattle.md_seam.specs.Standard.Rest.{is_blank, is_parted, trim_start}
+use Rattle.md_seam.specs.Standard.Enclosed.{Enclosed, Closed, Open, Broken, enclosed, Lines, with_line, enclosed_lines}
+use Rattle.md_seam.specs.Standard.Definition.{Defined, is_label, label_at, after_colon, after_gap, Destination, destination_at, title_closer, alone, title_at, title_after, Cut, with_title, with_destination, definition_at, with_definition, cut_at_most, cut_definitions}
 
 with_line-rest : (line : List ℕ) (found : Option Lines) (text : Lines) → with_line line found ≡ Some text → (t : Lines) × (found ≡ Some t) × (t.rest ≡ text.rest)
 with_line-rest line None text e = cc

@@ -7,8 +7,8 @@ use Rattle.md_engine.specs.declared.event.Kind.{Kind}
 use Rattle.md_engine.specs.declared.event.Kind.TheVariants.{Enter, Exit}
 use Rattle.md_engine.specs.declared.event.Name.{Name}
 use Rattle.md_engine.specs.declared.event.Point.{Point}
-use Rattle.md_seam.specs.Endings.{Ends, IsLeaf, IsOther, OnLine, Spot, endings_stand_from, ends_rightly, is_filled, line_start, on_line, spot_behind}
-use Rattle.md_seam.specs.Nested.{around, exit}
+use Rattle.md_seam.specs.Events.Endings.{Ends, IsLeaf, IsOther, OnLine, Spot, endings_stand_from, ends_rightly, is_filled, line_start, on_line, spot_behind}
+use Rattle.md_seam.specs.Events.Nested.{around, exit}
 use Rattle.md_seam.proofs.PlacesLemmas.{all-append}
 
 -- Events that are no ending, and no begin or end of a leaf.

@@ -6,15 +6,15 @@ use Rattle.md_engine.specs.declared.event.Event.{Event}
 use Rattle.md_engine.specs.declared.event.Kind.TheVariants.{Enter}
 use Rattle.md_engine.specs.declared.event.Content.TheVariants as c
 use Rattle.md_engine.specs.declared.event.Name.TheVariants as n
-use Rattle.md_seam.specs.Tree as t
-use Rattle.md_seam.specs.Spelled.{spelled}
-use Rattle.md_seam.specs.Places.{first_point, are_placed}
-use Rattle.md_seam.specs.Nested.{exit, Nested}
-use Rattle.md_seam.specs.Inline.{Part, plain_events, plain_chunks, pieces, Covers, together}
-use Rattle.md_seam.specs.Endings.{endings_stand}
-use Rattle.md_seam.specs.Grammar.{keeps_grammar, plain_text, unread_text}
-use Rattle.md_seam.specs.Pieces.{pieces_stand}
-use Rattle.md_seam.specs.Tiles.{Tiles, EachRead, parts, parts_stand, chunks_stand, end_point, filled}
+use Rattle.md_seam.specs.Standard.Tree as t
+use Rattle.md_seam.specs.Events.Spelled.{spelled}
+use Rattle.md_seam.specs.Events.Places.{first_point, are_placed}
+use Rattle.md_seam.specs.Events.Nested.{exit, Nested}
+use Rattle.md_seam.specs.Events.Inline.{Part, plain_events, plain_chunks, pieces, Covers, together}
+use Rattle.md_seam.specs.Events.Endings.{endings_stand}
+use Rattle.md_seam.specs.Events.Grammar.{keeps_grammar, plain_text, unread_text}
+use Rattle.md_seam.specs.Events.Pieces.{pieces_stand}
+use Rattle.md_seam.specs.Events.Tiles.{Tiles, EachRead, parts, parts_stand, chunks_stand, end_point, filled}
 
 -- a point by its line, its column and its byte
 abbrev pub at : ℕ → ℕ → ℕ → Point

@@ -8,10 +8,10 @@ use Rattle.md_engine.specs.declared.event.Kind.{Kind}
 use Rattle.md_engine.specs.declared.event.Kind.TheVariants.{Enter, Exit}
 use Rattle.md_engine.specs.declared.event.Name.{Name}
 use Rattle.md_engine.specs.declared.event.Name.TheVariants as n
-use Rattle.md_seam.specs.Spelled.{Reading, Text, Purpose, AsParagraph, AsHeading, AsInfo, AsMeta, AsLabel, AsDestination, AsTitle, AsCell, AsFootnoteLabel, Role, Tells, IsQuiet, IsPrefix, role, begun, before_prefix, after_prefix, read_by, read, unread, spelled}
-use Rattle.md_seam.specs.Inline.{is_linked, is_inline}
-use Rattle.md_seam.specs.Tiles.{stands_in_part, is_data, is_part, is_chunk, depth_behind, chunks_stand, first_list, further_lists, filled_from, filled}
-use Rattle.md_seam.specs.Nested.{is_exit}
+use Rattle.md_seam.specs.Events.Spelled.{Reading, Text, Purpose, AsParagraph, AsHeading, AsInfo, AsMeta, AsLabel, AsDestination, AsTitle, AsCell, AsFootnoteLabel, Role, Tells, IsQuiet, IsPrefix, role, begun, before_prefix, after_prefix, read_by, read, unread, spelled}
+use Rattle.md_seam.specs.Events.Inline.{is_linked, is_inline}
+use Rattle.md_seam.specs.Events.Tiles.{stands_in_part, is_data, is_part, is_chunk, depth_behind, chunks_stand, first_list, further_lists, filled_from, filled}
+use Rattle.md_seam.specs.Events.Nested.{is_exit}
 use Rattle.md_seam.proofs.SpelledLemmas.{Roles, QuietOrPrefix, QuietOrEnding, read-append, read-inline}
 
 -- Names.

@@ -6,10 +6,10 @@ use Rattle.md_engine.specs.declared.event.Event.{Event}
 use Rattle.md_engine.specs.declared.event.Name.{Name}
 use Rattle.md_engine.specs.declared.event.Name.TheVariants as n
 use Rattle.md_engine.specs.declared.event.Point.{Point}
-use Rattle.md_seam.specs.Grammar.{Expression, Then, behind, behind_block, blocks, inside, is_whole, keeps_grammar, left_behind, left_of, may_end, one}
-use Rattle.md_seam.specs.Inline.{pair_unless_empty}
-use Rattle.md_seam.specs.Nested.{around, enter, exit, pair}
-use Rattle.md_seam.specs.Places.{same_place}
+use Rattle.md_seam.specs.Events.Grammar.{Expression, Then, behind, behind_block, blocks, inside, is_whole, keeps_grammar, left_behind, left_of, may_end, one}
+use Rattle.md_seam.specs.Events.Inline.{pair_unless_empty}
+use Rattle.md_seam.specs.Events.Nested.{around, enter, exit, pair}
+use Rattle.md_seam.specs.Events.Places.{same_place}
 
 -- Pieces.
 

@@ -1,10 +1,10 @@
 -- Rows that the grammars compute.
 use Rattle.std.proofs.Common.{◌≡◌, ℕ, true, false, List, [], ◌∷◌, ◌++◌, map, replicate, Bool, Option, Some, None, refl, codes}
-use Rattle.md_seam.specs.Html.{HtmlKind, Raw, Comment, Instruction, Declaration, Cdata, Basic, Complete, html_kind, is_raw_end, html_ends, kind_after, is_raw_name, is_basic_name, begins_raw, begins_basic, begins_complete, ends_opening, after_attribute, after_assignment, after_value}
-use Rattle.md_seam.specs.Enclosed.{enclosed, enclosed_lines}
-use Rattle.md_seam.specs.Definition.{Defined, label_at, destination_at, balanced, title_at, definition_at, cut_at_most, cut_definitions}
-use Rattle.md_seam.specs.Table.{pieces, row_cells, delimiter_columns, is_head}
-use Rattle.md_seam.specs.Label.{spaced}
+use Rattle.md_seam.specs.Standard.Html.{HtmlKind, Raw, Comment, Instruction, Declaration, Cdata, Basic, Complete, html_kind, is_raw_end, html_ends, kind_after, is_raw_name, is_basic_name, begins_raw, begins_basic, begins_complete, ends_opening, after_attribute, after_assignment, after_value}
+use Rattle.md_seam.specs.Standard.Enclosed.{enclosed, enclosed_lines}
+use Rattle.md_seam.specs.Standard.Definition.{Defined, label_at, destination_at, balanced, title_at, definition_at, cut_at_most, cut_definitions}
+use Rattle.md_seam.specs.Standard.Table.{pieces, row_cells, delimiter_columns, is_head}
+use Rattle.md_seam.specs.Standard.Label.{spaced}
 
 abbrev kinds_rows : List (List ℕ × Option HtmlKind)
 kinds_rows =

@@ -10,13 +10,13 @@ use Rattle.md_engine.specs.declared.event.Kind.TheVariants.{Enter, Exit}
 use Rattle.md_engine.specs.declared.event.Name.{Name}
 use Rattle.md_engine.specs.declared.event.Name.TheVariants as n
 use Rattle.md_engine.specs.declared.event.Point.{Point}
-use Rattle.md_seam.specs.Held.{Holds, byte_point}
-use Rattle.md_seam.specs.Inline.{Covers, Piece, is_linked, is_one_line, piece_of, pieces, pieces_from}
-use Rattle.md_seam.specs.Nested.{is_exit}
-use Rattle.md_seam.specs.Pieces.{begins_in_tab, ends_in_tab, is_piece_name, piece_rule, piece_stands, piece_text, pieces_stand, stands_over}
-use Rattle.md_seam.specs.Places.{at_or_before, first_point, same_place}
-use Rattle.md_seam.specs.Texts.{split_lines}
-use Rattle.md_seam.specs.Tiles.{chunks_stand, depth_behind, end_point, is_chunk, is_data, is_part, stands_in_part}
+use Rattle.md_seam.specs.Events.Held.{Holds, byte_point}
+use Rattle.md_seam.specs.Events.Inline.{Covers, Piece, is_linked, is_one_line, piece_of, pieces, pieces_from}
+use Rattle.md_seam.specs.Events.Nested.{is_exit}
+use Rattle.md_seam.specs.Events.Pieces.{begins_in_tab, ends_in_tab, is_piece_name, piece_rule, piece_stands, piece_text, pieces_stand, stands_over}
+use Rattle.md_seam.specs.Events.Places.{at_or_before, first_point, same_place}
+use Rattle.md_seam.specs.Standard.Texts.{split_lines}
+use Rattle.md_seam.specs.Events.Tiles.{chunks_stand, depth_behind, end_point, is_chunk, is_data, is_part, stands_in_part}
 
 -- The name of a piece.
 

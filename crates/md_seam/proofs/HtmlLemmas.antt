@@ -3,10 +3,10 @@ use Rattle.std.proofs.Common.{◌≡◌, ℕ, zero, suc, ◌+◌, ◌<◌, ◌�
 use Rattle.std.specs.List.{prefix_len}
 use Rattle.std.proofs.lemmas.List.{length-drop}
 use Rattle.std.proofs.lemmas.Bool.{false≢true}
-use Rattle.md_seam.specs.Rest.{is_white, trim_start}
-use Rattle.md_seam.specs.Lines.{begins_with}
-use Rattle.md_seam.specs.Bytes.{begins, after, after_optional}
-use Rattle.md_seam.specs.Html.{begins_attribute, is_attribute_byte, is_value_byte, after_next, after_value, after_assignment, after_attribute, after_attributes}
+use Rattle.md_seam.specs.Standard.Rest.{is_white, trim_start}
+use Rattle.md_seam.specs.Standard.Lines.{begins_with}
+use Rattle.md_seam.specs.Standard.Bytes.{begins, after, after_optional}
+use Rattle.md_seam.specs.Standard.Html.{begins_attribute, is_attribute_byte, is_value_byte, after_next, after_value, after_assignment, after_attribute, after_attributes}
 
 pub length-after : (test : ℕ → Bool) (xs : List ℕ) → length (after test xs) ≤ length xs
 length-after test xs = omega (arith, length-drop (prefix_len test xs) xs)

@@ -2,8 +2,8 @@
 use Rattle.std.proofs.Common.{◌≡◌, ℕ, Bool, false, cond, not, List, [], ◌∷◌, map, refl, ◌∙◌, ap}
 use Rattle.std.specs.List.{onto_first}
 use Rattle.std.proofs.lemmas.List.Sums.{take_while-cons}
-use Rattle.md_seam.specs.Lines.{is_ending, without_ending}
-use Rattle.md_seam.specs.Preamble.{rest_at, rests_at}
+use Rattle.md_seam.specs.Standard.Lines.{is_ending, without_ending}
+use Rattle.md_seam.specs.Standard.Preamble.{rest_at, rests_at}
 
 pub without_ending-cons : (b : ℕ) (line : List ℕ) → is_ending b ≡ false → without_ending (b ∷ line) ≡ b ∷ without_ending line
 without_ending-cons b line e = take_while-cons (λ (c : ℕ). not (is_ending c)) b line ∙ ap (λ (t : Bool). cond (not t) (b ∷ without_ending line) []) e

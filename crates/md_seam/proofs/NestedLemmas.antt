@@ -7,8 +7,8 @@ use Rattle.md_engine.specs.declared.event.Event.{Event}
 use Rattle.md_engine.specs.declared.event.Kind.{Kind}
 use Rattle.md_engine.specs.declared.event.Kind.TheVariants.{Enter, Exit}
 use Rattle.md_engine.specs.declared.event.Name.{Name}
-use Rattle.md_seam.specs.Places.{first_point, at_or_before}
-use Rattle.md_seam.specs.Nested.{open_behind, open_after, Fits, Matches, Forward, last_point, Balanced, Nested}
+use Rattle.md_seam.specs.Events.Places.{first_point, at_or_before}
+use Rattle.md_seam.specs.Events.Nested.{open_behind, open_after, Fits, Matches, Forward, last_point, Balanced, Nested}
 
 -- Open names.
 

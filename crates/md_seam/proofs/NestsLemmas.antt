@@ -11,10 +11,10 @@ use Rattle.md_engine.specs.declared.event.Kind.TheVariants.{Enter, Exit}
 use Rattle.md_engine.specs.declared.event.Name.{Name}
 use Rattle.md_seam.specs.declared.inline.PartKind.{PartKind}
 use Rattle.md_seam.specs.declared.inline.Chunk.{Chunk}
-use Rattle.md_seam.specs.Places.{first_point, is_placed, are_placed, at_or_before}
-use Rattle.md_seam.specs.Nested.{open_behind, open_after, Fits, Matches, Forward, last_point, Balanced, Nested, is_exit}
-use Rattle.md_seam.specs.Inline.{Part, IsPart, KeepsFrame, Fills, is_linked, together, piece_of, pieces_from, pieces}
-use Rattle.md_seam.specs.Tiles.{stands_in_part, is_data, is_part, is_chunk, depth_behind, chunks_stand, first_list, further_lists, filled_from, parts, part_kind, part_of, part_at, inside_part, chunks, EachRead, Tiles}
+use Rattle.md_seam.specs.Events.Places.{first_point, is_placed, are_placed, at_or_before}
+use Rattle.md_seam.specs.Events.Nested.{open_behind, open_after, Fits, Matches, Forward, last_point, Balanced, Nested, is_exit}
+use Rattle.md_seam.specs.Events.Inline.{Part, IsPart, KeepsFrame, Fills, is_linked, together, piece_of, pieces_from, pieces}
+use Rattle.md_seam.specs.Events.Tiles.{stands_in_part, is_data, is_part, is_chunk, depth_behind, chunks_stand, first_list, further_lists, filled_from, parts, part_kind, part_of, part_at, inside_part, chunks, EachRead, Tiles}
 use Rattle.md_seam.proofs.NestedLemmas.{open_after-append, matches-append, matches-front, matches-rest, matches-under, open_after-under, forward-append, forward-from, at_or_before-trans}
 use Rattle.md_seam.proofs.PlacesLemmas.{all-append}
 use Rattle.md_seam.proofs.FilledLemmas.{data-no_part}

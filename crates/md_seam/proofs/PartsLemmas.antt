@@ -9,11 +9,11 @@ use Rattle.md_engine.specs.declared.event.Kind.{Kind}
 use Rattle.md_engine.specs.declared.event.Kind.TheVariants.{Enter, Exit}
 use Rattle.md_seam.specs.declared.inline.PartKind.{PartKind}
 use Rattle.md_seam.specs.declared.inline.Chunk.{Chunk}
-use Rattle.md_seam.specs.Places.{first_point, is_placed, are_placed, at_or_before}
-use Rattle.md_seam.specs.Nested.{Forward, is_exit}
-use Rattle.md_seam.specs.Spelled.{Role, spelled}
-use Rattle.md_seam.specs.Inline.{Part, Piece, IsPart, KeepsFrame, is_linked, is_inline, together, piece_of, pieces_from, pieces, in_order, chunk_placed, are_lines}
-use Rattle.md_seam.specs.Tiles.{begins_at, is_part, parts, part_kind, part_of, part_at, part_end, is_white_piece, part_stands, parts_stand, inside_part, chunks, IsBlockList, EachRead, Tiles}
+use Rattle.md_seam.specs.Events.Places.{first_point, is_placed, are_placed, at_or_before}
+use Rattle.md_seam.specs.Events.Nested.{Forward, is_exit}
+use Rattle.md_seam.specs.Events.Spelled.{Role, spelled}
+use Rattle.md_seam.specs.Events.Inline.{Part, Piece, IsPart, KeepsFrame, is_linked, is_inline, together, piece_of, pieces_from, pieces, in_order, chunk_placed, are_lines}
+use Rattle.md_seam.specs.Events.Tiles.{begins_at, is_part, parts, part_kind, part_of, part_at, part_end, is_white_piece, part_stands, parts_stand, inside_part, chunks, IsBlockList, EachRead, Tiles}
 use Rattle.md_seam.proofs.NestedLemmas.{at_or_before-refl, at_or_before-trans}
 use Rattle.md_seam.proofs.SpelledLemmas.{Roles, QuietOrEnding}
 use Rattle.md_seam.proofs.FilledLemmas.{EachInline, inline-role, spelled-filled}

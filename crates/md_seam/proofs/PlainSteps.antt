@@ -14,15 +14,15 @@ use Rattle.md_engine.specs.declared.event.Event.{Event}
 use Rattle.md_engine.specs.declared.event.Name.TheVariants as n
 use Rattle.md_engine.specs.World.{World, after, line_begun}
 use Rattle.md_engine.specs.Place.{IsPlaced, IsReached, begun_at, is_pair, next_point, walked}
-use Rattle.md_seam.specs.Lines.{is_ending, begins_with, ends_line, without_ending}
-use Rattle.md_seam.specs.Texts.{split_lines}
-use Rattle.md_seam.specs.Places.{column_past, past_byte, past_text, same_place}
-use Rattle.md_seam.specs.Nested.{enter, exit, pair}
+use Rattle.md_seam.specs.Standard.Lines.{is_ending, begins_with, ends_line, without_ending}
+use Rattle.md_seam.specs.Standard.Texts.{split_lines}
+use Rattle.md_seam.specs.Events.Places.{column_past, past_byte, past_text, same_place}
+use Rattle.md_seam.specs.Events.Nested.{enter, exit, pair}
 use Rattle.md_seam.specs.declared.inline.Chunk.{Chunk}
 use Rattle.md_seam.specs.Parts.{IsChunk}
 use Rattle.md_seam.specs.declared.inline.PartKind.{PartKind}
-use Rattle.md_seam.specs.Inline.{PlainReads, are_lines, chunk_text, ends_whole, is_line, is_none, is_one_line, line_end, pair_unless_empty, plain_chunk, plain_chunks, together}
-use Rattle.md_seam.specs.Went.{entered, exited}
+use Rattle.md_seam.specs.Events.Inline.{PlainReads, are_lines, chunk_text, ends_whole, is_line, is_none, is_one_line, line_end, pair_unless_empty, plain_chunk, plain_chunks, together}
+use Rattle.md_seam.specs.Transition.{entered, exited}
 use Rattle.md_seam.proofs.InlineLemmas.{line-length, line-no_ending, past-index, past-vs, same-refl}
 use Rattle.md_seam.proofs.PlacesLemmas.{Some_line, apart-later, some-split}
 use Rattle.md_engine.proofs.Sound.{placed-next}

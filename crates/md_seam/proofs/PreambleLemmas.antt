@@ -2,7 +2,7 @@
 use Rattle.std.proofs.Common.{◌≡◌, ℕ, ◌≤◌, true, List, [], ◌∷◌, length, drop, refl, ap, arith}
 use Rattle.std.proofs.lemmas.Bool.Decides.{Decides-eqb}
 use Rattle.std.proofs.lemmas.Slice.Eq.{starts_is}
-use Rattle.md_seam.specs.Preamble.{has_mark}
+use Rattle.md_seam.specs.Standard.Preamble.{has_mark}
 
 -- a text with a mark begins with its bytes
 pub mark-bytes : (bytes : List ℕ) → has_mark bytes ≡ true → bytes ≡ 239 ∷ 187 ∷ 191 ∷ drop 3 bytes

@@ -4,17 +4,17 @@ use Rattle.std.specs.List.{concat, list_all}
 use Rattle.std.specs.Option.{option_or}
 use Rattle.std.proofs.lemmas.List.{append-nil}
 use Rattle.md_engine.specs.declared.configuration.ParseOptions.{ParseOptions}
-use Rattle.md_seam.specs.Containers.{Taken, opens, opens_footnote, opens_item, opens_quote, quote_taken}
-use Rattle.md_seam.specs.Grouped.{grouped}
-use Rattle.md_seam.specs.Label.{Labels, both, labels, no_labels}
-use Rattle.md_seam.specs.Lines.{full_lines_of, lines_of}
-use Rattle.md_seam.specs.Meaning.{tree, with_frontmatter}
-use Rattle.md_seam.specs.Preamble.{Preamble, front_by, front_of, has_mark, preamble_by, rest_at}
-use Rattle.md_seam.specs.Rest.{Rest}
-use Rattle.md_seam.specs.State.{At, InQuote, Path, Within, closed}
-use Rattle.md_seam.specs.Step.{all_continued, all_continued_by, opened, spot_of, step, steps}
-use Rattle.md_seam.specs.Tree.{Blocks, End, More, Quote}
-use Rattle.md_seam.specs.Wrapped.{prefixed, quoted}
+use Rattle.md_seam.specs.Standard.Containers.{Taken, opens, opens_footnote, opens_item, opens_quote, quote_taken}
+use Rattle.md_seam.specs.Standard.Grouped.{grouped}
+use Rattle.md_seam.specs.Standard.Label.{Labels, both, labels, no_labels}
+use Rattle.md_seam.specs.Standard.Lines.{full_lines_of, lines_of}
+use Rattle.md_seam.specs.Standard.Meaning.{tree, with_frontmatter}
+use Rattle.md_seam.specs.Standard.Preamble.{Preamble, front_by, front_of, has_mark, preamble_by, rest_at}
+use Rattle.md_seam.specs.Standard.Rest.{Rest}
+use Rattle.md_seam.specs.Standard.State.{At, InQuote, Path, Within, closed}
+use Rattle.md_seam.specs.Standard.Step.{all_continued, all_continued_by, opened, spot_of, step, steps}
+use Rattle.md_seam.specs.Standard.Tree.{Blocks, End, More, Quote}
+use Rattle.md_seam.specs.Standard.Wrapped.{prefixed, quoted}
 use Rattle.md_seam.proofs.ColumnLemmas.{NoTab, opened_by, step-any, step_by}
 use Rattle.md_seam.proofs.ContainerLemmas.{LeavesFewer, opens-leaves}
 use Rattle.md_seam.proofs.QuotedLines.{NoTabs, lines_of-quoted, no_tab-lines, quote_line, some-line}

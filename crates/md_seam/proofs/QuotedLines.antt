@@ -2,8 +2,8 @@
 use Rattle.std.proofs.Common.{◌≡◌, ℕ, Bool, true, false, cond, not, ◌==◌, ◌&&◌, ◌||◌, List, [], ◌∷◌, ◌++◌, map, refl, sym, ap, ◌∙◌, subst}
 use Rattle.std.specs.List.{concat, list_all, onto_first, take_while}
 use Rattle.std.proofs.lemmas.List.Sums.{take_while-cons}
-use Rattle.md_seam.specs.Lines.{begins_with, ends_line, full_lines_of, is_ending, lines_of, without_ending}
-use Rattle.md_seam.specs.Wrapped.{prefixed, quoted}
+use Rattle.md_seam.specs.Standard.Lines.{begins_with, ends_line, full_lines_of, is_ending, lines_of, without_ending}
+use Rattle.md_seam.specs.Standard.Wrapped.{prefixed, quoted}
 use Rattle.md_seam.proofs.ColumnLemmas.{NoTab}
 
 abbrev pub quote_line : List ℕ → List ℕ

@@ -6,13 +6,13 @@ use Rattle.md_engine.specs.declared.event.Point.{Point}
 use Rattle.md_engine.specs.declared.event.Event.{Event}
 use Rattle.md_engine.specs.declared.event.Name.{Name}
 use Rattle.md_engine.specs.declared.event.Name.TheVariants as n
-use Rattle.md_seam.specs.Places.{is_placed}
-use Rattle.md_seam.specs.Nested.{pair, around}
-use Rattle.md_seam.specs.Inline.{pieces}
-use Rattle.md_seam.specs.Endings.{endings_stand}
-use Rattle.md_seam.specs.Grammar.{keeps_grammar, unread_text}
-use Rattle.md_seam.specs.Pieces.{pieces_stand}
-use Rattle.md_seam.specs.Tiles.{parts_stand, chunks_stand}
+use Rattle.md_seam.specs.Events.Places.{is_placed}
+use Rattle.md_seam.specs.Events.Nested.{pair, around}
+use Rattle.md_seam.specs.Events.Inline.{pieces}
+use Rattle.md_seam.specs.Events.Endings.{endings_stand}
+use Rattle.md_seam.specs.Events.Grammar.{keeps_grammar, unread_text}
+use Rattle.md_seam.specs.Events.Pieces.{pieces_stand}
+use Rattle.md_seam.specs.Events.Tiles.{parts_stand, chunks_stand}
 use Rattle.md_seam.proofs.EventRowParts.{at, within_tab, chunk}
 
 -- How the lists are written.

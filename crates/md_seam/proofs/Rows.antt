@@ -2,17 +2,17 @@
 use Rattle.std.proofs.Common.{◌≡◌, ℕ, true, false, List, [], ◌∷◌, ◌++◌, Some, None, refl, codes}
 use Rattle.md_engine.specs.declared.configuration.ParseOptions.{ParseOptions}
 use Rattle.md_engine.specs.declared.configuration.TheConstants.ParseOptions as given
-use Rattle.md_seam.specs.Tree.{Line, Block, Frontmatter, Quote, ListOf, Item, Footnote, Heading, Break, Code, Html, Fence, Math, Definition, Paragraph, Table, Blocks, End, More}
-use Rattle.md_seam.specs.Html.{is_raw_name, is_basic_name, begins_raw, begins_basic, after_value, after_assignment, after_attribute, ends_opening, begins_complete, kind_after, html_kind, is_raw_end, html_ends}
-use Rattle.md_seam.specs.Enclosed.{enclosed, enclosed_lines}
-use Rattle.md_seam.specs.Definition.{label_at, balanced, destination_at, title_at, definition_at, cut_at_most, cut_definitions}
-use Rattle.md_seam.specs.Table.{pieces, row_cells, delimiter_columns, is_head}
-use Rattle.md_seam.specs.State.{shut_paragraph}
-use Rattle.md_seam.specs.Preamble.{front_of}
-use Rattle.md_seam.specs.Containers.{quote_taken, item_continues, footnote_continues, opens_quote, opens_item, opens_footnote}
-use Rattle.md_seam.specs.Leaves.{break_at, heading_at, code_at, code_goes_on, fence_at, fence_goes_on, html_at, html_goes_on, starts, table_goes_on, underline_depth, underlined, table_at}
-use Rattle.md_seam.specs.Step.{fresh_line, text_line, all_continued, stopped}
-use Rattle.md_seam.specs.Meaning.{tree}
+use Rattle.md_seam.specs.Standard.Tree.{Line, Block, Frontmatter, Quote, ListOf, Item, Footnote, Heading, Break, Code, Html, Fence, Math, Definition, Paragraph, Table, Blocks, End, More}
+use Rattle.md_seam.specs.Standard.Html.{is_raw_name, is_basic_name, begins_raw, begins_basic, after_value, after_assignment, after_attribute, ends_opening, begins_complete, kind_after, html_kind, is_raw_end, html_ends}
+use Rattle.md_seam.specs.Standard.Enclosed.{enclosed, enclosed_lines}
+use Rattle.md_seam.specs.Standard.Definition.{label_at, balanced, destination_at, title_at, definition_at, cut_at_most, cut_definitions}
+use Rattle.md_seam.specs.Standard.Table.{pieces, row_cells, delimiter_columns, is_head}
+use Rattle.md_seam.specs.Standard.State.{shut_paragraph}
+use Rattle.md_seam.specs.Standard.Preamble.{front_of}
+use Rattle.md_seam.specs.Standard.Containers.{quote_taken, item_continues, footnote_continues, opens_quote, opens_item, opens_footnote}
+use Rattle.md_seam.specs.Standard.Leaves.{break_at, heading_at, code_at, code_goes_on, fence_at, fence_goes_on, html_at, html_goes_on, starts, table_goes_on, underline_depth, underlined, table_at}
+use Rattle.md_seam.specs.Standard.Step.{fresh_line, text_line, all_continued, stopped}
+use Rattle.md_seam.specs.Standard.Meaning.{tree}
 
 -- CommonMark
 abbrev plain : ParseOptions

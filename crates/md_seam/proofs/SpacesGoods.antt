@@ -18,24 +18,24 @@ use Rattle.md_engine.proofs.Local.{accepts, begins_try, consumes, refuses, turns
 use Rattle.md_engine.proofs.Points.{cells-grow, grown-same, stays, takes}
 use Rattle.md_engine.proofs.Powers.{weighs}
 use Rattle.md_seam.specs.Spaces.{IsRest, after_code, asking, calmed, inside_code, start_code, white_ready, white_scheme, white_then}
-use Rattle.md_seam.specs.Went.{Went, entered, exited}
+use Rattle.md_seam.specs.Transition.{Transition, entered, exited}
 
 -- what a state does keeps what the table needs, and falls; no state changes the setting
-abbrev pub Does : Scheme → StateName → World → Went → Type 0
+abbrev pub Does : Scheme → StateName → World → Transition → Type 0
 Does T n w a = Good T n w a.to a.world × (a.world.setting ≡ w.setting)
 
 -- the same of a state and a world that are known to be those
-pub does-stands : (T : Scheme) (name : StateName) (w : World) (a : Went) (s : State) (w' : World) → s ≡ a.to → w' ≡ a.world → Does T name w a → stands T w' (plain s)
+pub does-stands : (T : Scheme) (name : StateName) (w : World) (a : Transition) (s : State) (w' : World) → s ≡ a.to → w' ≡ a.world → Does T name w a → stands T w' (plain s)
 does-stands T name w a s w' e k d =
     let P : World → Type 0 = λ x. stands T x (plain s) in
     subst P (sym k) (rw e d.0.0)
 
-pub does-fall : (T : Scheme) (name : StateName) (w : World) (a : Went) (s : State) (w' : World) → s ≡ a.to → w' ≡ a.world → Does T name w a → work T w' (plain s) < work T w (Next name)
+pub does-fall : (T : Scheme) (name : StateName) (w : World) (a : Transition) (s : State) (w' : World) → s ≡ a.to → w' ≡ a.world → Does T name w a → work T w' (plain s) < work T w (Next name)
 does-fall T name w a s w' e k d =
     let P : World → Type 0 = λ x. work T x (plain s) < work T w (Next name) in
     subst P (sym k) (rw e d.0.1)
 
-pub does-setting : (T : Scheme) (name : StateName) (w : World) (a : Went) (w' : World) → w' ≡ a.world → Does T name w a → w'.setting ≡ w.setting
+pub does-setting : (T : Scheme) (name : StateName) (w : World) (a : Transition) (w' : World) → w' ≡ a.world → Does T name w a → w'.setting ≡ w.setting
 does-setting T name w a w' k d = ap (λ (x : World). x.setting) k ∙ d.1
 
 -- what stands here may be read, where a test that nothing passes holds of it

@@ -6,8 +6,8 @@ use Rattle.md_engine.specs.declared.event.Event.{Event}
 use Rattle.md_engine.specs.declared.event.Kind.{Kind}
 use Rattle.md_engine.specs.declared.event.Kind.TheVariants.{Enter, Exit}
 use Rattle.md_engine.specs.declared.event.Name.TheVariants as n
-use Rattle.md_seam.specs.Nested.{exit, around}
-use Rattle.md_seam.specs.Spelled.{Reading, Text, OpenLeaf, Role, IsPrefix, IsEnding, IsQuiet, role, byte_at, text_to, before_prefix, after_prefix, at_ending, on_leaf, next_line, read_by, read}
+use Rattle.md_seam.specs.Events.Nested.{exit, around}
+use Rattle.md_seam.specs.Events.Spelled.{Reading, Text, OpenLeaf, Role, IsPrefix, IsEnding, IsQuiet, role, byte_at, text_to, before_prefix, after_prefix, at_ending, on_leaf, next_line, read_by, read}
 
 -- a reader goes on over what is appended
 pub read-append : (bytes : List ℕ) (r : Reading) (xs ys : List Event) → read bytes r (xs ++ ys) ≡ read bytes (read bytes r xs) ys

@@ -2,8 +2,8 @@
 use Rattle.std.proofs.Common.{◌≡◌, ℕ, zero, suc, Bool, true, false, cond, ◌&&◌, ◌||◌, List, [], ◌∷◌, ◌++◌, drop, refl, ap, ◌∙◌}
 use Rattle.std.specs.Prelude.{◌==◌, not}
 use Rattle.std.specs.List.{onto_first}
-use Rattle.md_seam.specs.Lines.{is_ending, begins_with}
-use Rattle.md_seam.specs.Texts.{split_lines}
+use Rattle.md_seam.specs.Standard.Lines.{is_ending, begins_with}
+use Rattle.md_seam.specs.Standard.Texts.{split_lines}
 
 -- a text without line endings
 abbrev pub NoEnding : List ℕ → Type 0

@@ -4,8 +4,8 @@ use Rattle.md_engine.specs.declared.event.Name.TheVariants.{SpaceOrTab}
 use Rattle.md_engine.specs.declared.event.Point.{Point}
 use Rattle.md_engine.specs.declared.state.Name.TheVariants.{SpaceOrTabStart, SpaceOrTabInside, SpaceOrTabAfter}
 use Rattle.md_engine.specs.Meaning.{Accepts, Behaviour, Cell, Here, Outcome, Refuses}
-use Rattle.md_seam.specs.Nested.{enter, exit}
-use Rattle.md_seam.specs.Rest.{is_white}
+use Rattle.md_seam.specs.Events.Nested.{enter, exit}
+use Rattle.md_seam.specs.Standard.Rest.{is_white}
 use Rattle.md_seam.specs.Spaces.{asking, calmed}
 
 -- the cells of the line, without its ending

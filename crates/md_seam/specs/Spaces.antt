@@ -10,8 +10,8 @@ use Rattle.md_engine.specs.declared.tokenizer.TheConstants.Scratch.{REST}
 use Rattle.md_engine.specs.declared.configuration.ParseOptions.{ParseOptions}
 use Rattle.md_engine.specs.World.{World}
 use Rattle.md_engine.specs.Scheme.{Spot, After, Scheme, Ends, EndsLater, cells_before}
-use Rattle.md_seam.specs.Rest.{is_white}
-use Rattle.md_seam.specs.Went.{Went, entered, exited, taken, tried}
+use Rattle.md_seam.specs.Standard.Rest.{is_white}
+use Rattle.md_seam.specs.Transition.{Transition, entered, exited, taken, tried}
 
 -- whether a space or a column of a tab stands here
 abbrev pub sees_white : Option ℕ → Bool
@@ -34,20 +34,20 @@ abbrev pub calmed : Scratch → Scratch
 calmed s = asking 0 0 0 s
 
 -- an attempt at so much whitespace begins
-abbrev pub white_then : World → ℕ → ℕ → State → State → Went
+abbrev pub white_then : World → ℕ → ℕ → State → State → Transition
 white_then w min max ok nok = record { to = Retry SpaceOrTabStart; world = record (tried w ok nok) { scratch = asking min max 0 w.scratch } }
 
 -- by whether whitespace stands here, and there is room for it
-abbrev pub start_code : World → Bool → Went
+abbrev pub start_code : World → Bool → Transition
 start_code w true = record { to = Retry SpaceOrTabInside; world = entered w SpaceOrTab }
 start_code w false = record { to = Retry SpaceOrTabAfter; world = w }
 
-abbrev pub inside_code : World → Bool → Went
+abbrev pub inside_code : World → Bool → Transition
 inside_code w true = record { to = Next SpaceOrTabInside; world = record (taken w) { scratch = asking w.scratch.whitespace.min w.scratch.whitespace.max (w.scratch.whitespace.size + 1) w.scratch } }
 inside_code w false = record { to = Retry SpaceOrTabAfter; world = exited w SpaceOrTab }
 
 -- by whether it is enough
-abbrev pub after_code : World → Bool → Went
+abbrev pub after_code : World → Bool → Transition
 after_code w true = record { to = Ok; world = record w { scratch = calmed w.scratch } }
 after_code w false = record { to = Nok; world = record w { scratch = calmed w.scratch } }
 
@@ -57,14 +57,14 @@ WhiteNeeds SpaceOrTabInside w = w.scratch.whitespace.size ≤ cells_before w.poi
 WhiteNeeds _ w = Unit {0}
 
 -- each state with what it does, where there is memory
-abbrev pub start_went : World → Went
-start_went w = start_code w (sees_white w.current && nat_lt 0 w.scratch.whitespace.max)
+abbrev pub start_transition : World → Transition
+start_transition w = start_code w (sees_white w.current && nat_lt 0 w.scratch.whitespace.max)
 
-abbrev pub inside_went : World → Went
-inside_went w = inside_code w (sees_white w.current && nat_lt w.scratch.whitespace.size w.scratch.whitespace.max)
+abbrev pub inside_transition : World → Transition
+inside_transition w = inside_code w (sees_white w.current && nat_lt w.scratch.whitespace.size w.scratch.whitespace.max)
 
-abbrev pub after_went : World → Went
-after_went w = after_code w (nat_le w.scratch.whitespace.min w.scratch.whitespace.size)
+abbrev pub after_transition : World → Transition
+after_transition w = after_code w (nat_le w.scratch.whitespace.min w.scratch.whitespace.size)
 
 -- whether this byte stands here
 abbrev pub is_current : ℕ → Option ℕ → Bool

@@ -2,7 +2,7 @@
 
 ghost use Rattle.std.specs.Prelude.{ℕ, IfOk, List};
 ghost use Rattle.md_engine.specs.declared.event.Event.{Event};
-ghost use Rattle.md_seam.specs.Inline.{Part};
+ghost use Rattle.md_seam.specs.Events.Inline.{Part};
 ghost use Rattle.md_seam.specs.Parts.{AreChunks, ArePlaced};
 
 use md_engine::event::{Event, Point};

@@ -3,10 +3,10 @@
 ghost use Rattle.std.specs.Prelude.{◌≡◌, ◌≤◌, ◌++◌, IsTrue, OnOk, [], length, slice_range};
 ghost use Rattle.md_engine.specs.World.{world};
 ghost use Rattle.md_engine.specs.declared.event.Name.{Name};
-ghost use Rattle.md_seam.specs.Inline.{PlainReads, ends_whole, is_line, pair_unless_empty, plain_chunk};
-ghost use Rattle.md_seam.specs.Lines.{is_ending, without_ending};
+ghost use Rattle.md_seam.specs.Events.Inline.{PlainReads, ends_whole, is_line, pair_unless_empty, plain_chunk};
+ghost use Rattle.md_seam.specs.Standard.Lines.{is_ending, without_ending};
 ghost use Rattle.md_seam.specs.Parts.{IsChunk};
-ghost use Rattle.md_seam.specs.Places.{past_text};
+ghost use Rattle.md_seam.specs.Events.Places.{past_text};
 
 use crate::inline::{Chunk, Inline, PartKind};
 use md_engine::event::{Event, Name};

@@ -8,8 +8,8 @@ ghost use Rattle.std.specs.Prelude.{◌≡◌, ◌≢◌};
 ghost use Rattle.md_engine.specs.World.{world};
 ghost use Rattle.md_engine.specs.declared.state.Name.{Name as StateName};
 ghost use Rattle.md_engine.specs.declared.state.State.{State};
-ghost use Rattle.md_seam.specs.Spaces.{WhiteNeeds, after_went, any_size, inside_went, sees_white, small_indent, start_went, white_then};
-ghost use Rattle.md_seam.specs.Went.{IsAt};
+ghost use Rattle.md_seam.specs.Spaces.{WhiteNeeds, after_transition, any_size, inside_transition, sees_white, small_indent, start_transition, white_then};
+ghost use Rattle.md_seam.specs.Transition.{IsAt};
 
 use md_engine::event::Name;
 use md_engine::or_error;
@@ -73,8 +73,8 @@ pub fn space_or_tab(tokenizer: &mut Tokenizer, ok: State, nok: State) -> State
 /// ```
 pub fn start(tokenizer: &mut Tokenizer) -> State
     requires { IsAt WhiteNeeds StateName.SpaceOrTabStart (world tokenizer.old) }
-    ensures to { result ≢ State.Error → result ≡ (start_went (world tokenizer.old)).to }
-    ensures world { result ≢ State.Error → world tokenizer.new ≡ (start_went (world tokenizer.old)).world }
+    ensures to { result ≢ State.Error → result ≡ (start_transition (world tokenizer.old)).to }
+    ensures world { result ≢ State.Error → world tokenizer.new ≡ (start_transition (world tokenizer.old)).world }
 {
     if is_space_or_tab(tokenizer.current) && tokenizer.scratch.whitespace.max > 0 {
         or_error!(tokenizer.enter(Name::SpaceOrTab));
@@ -92,8 +92,8 @@ pub fn start(tokenizer: &mut Tokenizer) -> State
 /// ```
 pub fn inside(tokenizer: &mut Tokenizer) -> State
     requires { IsAt WhiteNeeds StateName.SpaceOrTabInside (world tokenizer.old) }
-    ensures to { result ≢ State.Error → result ≡ (inside_went (world tokenizer.old)).to }
-    ensures world { result ≢ State.Error → world tokenizer.new ≡ (inside_went (world tokenizer.old)).world }
+    ensures to { result ≢ State.Error → result ≡ (inside_transition (world tokenizer.old)).to }
+    ensures world { result ≢ State.Error → world tokenizer.new ≡ (inside_transition (world tokenizer.old)).world }
 {
     let Whitespace { max, size, .. } = tokenizer.scratch.whitespace;
     if is_space_or_tab(tokenizer.current) && size < max {
@@ -114,8 +114,8 @@ pub fn inside(tokenizer: &mut Tokenizer) -> State
 /// ```
 pub fn after(tokenizer: &mut Tokenizer) -> State
     requires { IsAt WhiteNeeds StateName.SpaceOrTabAfter (world tokenizer.old) }
-    ensures to { result ≡ (after_went (world tokenizer.old)).to }
-    ensures world { world tokenizer.new ≡ (after_went (world tokenizer.old)).world }
+    ensures to { result ≡ (after_transition (world tokenizer.old)).to }
+    ensures world { world tokenizer.new ≡ (after_transition (world tokenizer.old)).world }
 {
     let Whitespace { min, size, .. } = tokenizer.scratch.whitespace;
     tokenizer.scratch.whitespace = Whitespace {

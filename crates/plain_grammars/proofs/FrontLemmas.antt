@@ -2,9 +2,9 @@
 use Rattle.std.proofs.Common.{◌≡◌, ℕ, zero, suc, ◌+◌, ◌<◌, ◌≤◌, Bool, true, false, cond, not, ◌||◌, List, [], ◌∷◌, map, length, take, drop, Some, None, refl, sym, ◌∙◌, ap, subst, arith}
 use Rattle.std.proofs.lemmas.List.{drop-map, take-map, length-map}
 use Rattle.std.specs.List.{list_any, prefix_len}
-use Rattle.md_seam.specs.Tree as t
-use Rattle.md_seam.specs.Rest as r
-use Rattle.md_seam.specs.Preamble as p
+use Rattle.md_seam.specs.Standard.Tree as t
+use Rattle.md_seam.specs.Standard.Rest as r
+use Rattle.md_seam.specs.Standard.Preamble as p
 use Rattle.plain_grammars.specs.declared.rest.Rest.{Rest}
 use Rattle.plain_grammars.specs.Fronts.{lines_in, IsEnd}
 use Rattle.plain_grammars.specs.Rests.{rest_meaning, rest_meanings}

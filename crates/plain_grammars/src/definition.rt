@@ -2,10 +2,10 @@
 ghost use Rattle.std.specs.Prelude.{◌≡◌, ℕ, ◌+◌, ◌^◌, ◌<◌, ◌≤◌, ◌&&◌, not, false, List, length, drop, nat_le, sum_by, option_map, IfOk};
 ghost use Rattle.std.specs.Borrow.{Bor};
 ghost use Rattle.std.specs.List.{list_all, prefix_len};
-ghost use Rattle.md_seam.specs.Bytes.{is_end};
-ghost use Rattle.md_seam.specs.Definition as definition;
-ghost use Rattle.md_seam.specs.Enclosed as text;
-ghost use Rattle.md_seam.specs.Rest.{is_blank};
+ghost use Rattle.md_seam.specs.Standard.Bytes.{is_end};
+ghost use Rattle.md_seam.specs.Standard.Definition as definition;
+ghost use Rattle.md_seam.specs.Standard.Enclosed as text;
+ghost use Rattle.md_seam.specs.Standard.Rest.{is_blank};
 ghost use Rattle.plain_grammars.specs.Definitions as m;
 
 use crate::ahead::{after_optional, begins_with};

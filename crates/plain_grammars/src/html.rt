@@ -3,8 +3,8 @@ ghost use Rattle.std.specs.Prelude.{◌≡◌, ◌≤◌, length, nat_eq, option
 ghost use Rattle.std.specs.Char.{is_ascii_alphabetic};
 ghost use Rattle.std.specs.List.{prefix_len, starts_with};
 ghost use Rattle.std.specs.Str.{str_eq_ignore_ascii_case};
-ghost use Rattle.md_seam.specs.Bytes.{begins};
-ghost use Rattle.md_seam.specs.Html as h;
+ghost use Rattle.md_seam.specs.Standard.Bytes.{begins};
+ghost use Rattle.md_seam.specs.Standard.Html as h;
 ghost use Rattle.plain_grammars.specs.Kinds.{kind_meaning};
 
 use crate::ahead::{after_optional, begins_white, begins_with};

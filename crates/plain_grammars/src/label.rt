@@ -1,8 +1,8 @@
 // The normal forms of labels (CommonMark 6.3).
 ghost use Rattle.std.specs.Prelude.{◌≡◌, ◌≤◌, not, [], length, string_bytes, IfOk, OnOk};
 ghost use Rattle.std.specs.List.{prefix_len};
-ghost use Rattle.md_seam.specs.Label as label;
-ghost use Rattle.md_seam.specs.Rest.{is_white};
+ghost use Rattle.md_seam.specs.Standard.Label as label;
+ghost use Rattle.md_seam.specs.Standard.Rest.{is_white};
 ghost use Rattle.plain_grammars.specs.Definitions.{texts};
 ghost use Rattle.plain_grammars.specs.Labels.{labels_meaning};
 ghost use Rattle.plain_grammars.specs.Trees.{meaning, meanings};

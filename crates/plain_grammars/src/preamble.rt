@@ -3,7 +3,7 @@
 ghost use Rattle.std.specs.Prelude.{◌≡◌, ◌≤◌, not, length, drop, Some, IfOk, IfSome};
 ghost use Rattle.std.specs.List.{prefix_len};
 ghost use Rattle.std.specs.Option.{option_map};
-ghost use Rattle.md_seam.specs.Preamble as preamble;
+ghost use Rattle.md_seam.specs.Standard.Preamble as preamble;
 ghost use Rattle.plain_grammars.specs.Trees.{slices};
 ghost use Rattle.plain_grammars.specs.Fronts as fronts;
 

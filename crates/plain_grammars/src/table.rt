@@ -1,7 +1,7 @@
 // Tables: the cells of a row, and delimiter rows (GFM 4.10).
 ghost use Rattle.std.specs.Prelude.{◌≡◌, ◌≤◌, false, ◌||◌, ◌==◌, map, length, IfOk};
 ghost use Rattle.std.specs.List.{list_any, list_all};
-ghost use Rattle.md_seam.specs.Table as table;
+ghost use Rattle.md_seam.specs.Standard.Table as table;
 ghost use Rattle.plain_grammars.specs.Pieces.{piece_len};
 
 use crate::ahead::{after_optional, begins_with};

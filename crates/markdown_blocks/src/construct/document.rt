@@ -14,10 +14,10 @@ ghost use Rattle.md_engine.specs.Scheme.{stands};
 ghost use Rattle.md_engine.specs.World.{looks, world};
 ghost use Rattle.md_engine.specs.declared.state.Name.{Name as StateName};
 ghost use Rattle.md_engine.specs.declared.state.State.{State};
-ghost use Rattle.markdown_blocks.specs.Flow.{containers_after_went, existing_after_went, existing_before_went, flow_end_went, goes_on_with, new_after_went, new_before_went};
+ghost use Rattle.markdown_blocks.specs.Flow.{containers_after_transition, existing_after_transition, existing_before_transition, flow_end_transition, goes_on_with, new_after_transition, new_before_transition};
 ghost use Rattle.markdown_blocks.specs.LineFlags.{ending_name, next_container, stays};
-ghost use Rattle.markdown_blocks.specs.Document.{before_frontmatter_went, document_table_scheme, document_went, start_went};
-ghost use Rattle.md_seam.specs.Went.{IsAt, NeedsNothing};
+ghost use Rattle.markdown_blocks.specs.Document.{before_frontmatter_transition, document_table_scheme, document_transition, start_transition};
+ghost use Rattle.md_seam.specs.Transition.{IsAt, NeedsNothing};
 
 use crate::resolve;
 use md_engine::event::Name;
@@ -38,8 +38,8 @@ use md_leaves::partial_bom;
 /// ```
 pub fn start(tokenizer: &mut Tokenizer) -> State
     requires { IsAt NeedsNothing StateName.DocumentStart (world tokenizer.old) }
-    ensures to { result ≢ State.Error → result ≡ (start_went (world tokenizer.old)).to }
-    ensures world { result ≢ State.Error → world tokenizer.new ≡ (start_went (world tokenizer.old)).world }
+    ensures to { result ≢ State.Error → result ≡ (start_transition (world tokenizer.old)).to }
+    ensures world { result ≢ State.Error → world tokenizer.new ≡ (start_transition (world tokenizer.old)).world }
 {
     or_error!(tokenizer.attempt(
         State::Next(StateName::DocumentBeforeFrontmatter),
@@ -56,8 +56,8 @@ pub fn start(tokenizer: &mut Tokenizer) -> State
 /// ```
 pub fn before_frontmatter(_tokenizer: &mut Tokenizer) -> State
     requires { IsAt NeedsNothing StateName.DocumentBeforeFrontmatter (world _tokenizer.old) }
-    ensures to { result ≡ (before_frontmatter_went (world _tokenizer.old)).to }
-    ensures world { world _tokenizer.new ≡ (before_frontmatter_went (world _tokenizer.old)).world }
+    ensures to { result ≡ (before_frontmatter_transition (world _tokenizer.old)).to }
+    ensures world { world _tokenizer.new ≡ (before_frontmatter_transition (world _tokenizer.old)).world }
 {
     State::Ok
 }
@@ -87,8 +87,8 @@ fn goes_on_with(kind: ContainerKind) -> StateName
 /// ```
 pub fn container_existing_before(tokenizer: &mut Tokenizer) -> State
     requires { IsAt NeedsNothing StateName.DocumentContainerExistingBefore (world tokenizer.old) }
-    ensures to { result ≢ State.Error → result ≡ (existing_before_went (world tokenizer.old)).to }
-    ensures world { result ≢ State.Error → world tokenizer.new ≡ (existing_before_went (world tokenizer.old)).world }
+    ensures to { result ≢ State.Error → result ≡ (existing_before_transition (world tokenizer.old)).to }
+    ensures world { result ≢ State.Error → world tokenizer.new ≡ (existing_before_transition (world tokenizer.old)).world }
 {
     match next_container(tokenizer) {
         None => State::Retry(StateName::DocumentContainerNewBefore),
@@ -111,8 +111,8 @@ pub fn container_existing_before(tokenizer: &mut Tokenizer) -> State
 /// ```
 pub fn container_existing_after(tokenizer: &mut Tokenizer) -> State
     requires { IsAt NeedsNothing StateName.DocumentContainerExistingAfter (world tokenizer.old) }
-    ensures to { result ≡ (existing_after_went (world tokenizer.old)).to }
-    ensures world { world tokenizer.new ≡ (existing_after_went (world tokenizer.old)).world }
+    ensures to { result ≡ (existing_after_transition (world tokenizer.old)).to }
+    ensures world { world tokenizer.new ≡ (existing_after_transition (world tokenizer.old)).world }
 {
     if tokenizer.flags.continued < tokenizer.containers.len() {
         tokenizer.flags.continued += 1;
@@ -128,8 +128,8 @@ pub fn container_existing_after(tokenizer: &mut Tokenizer) -> State
 /// ```
 pub fn container_new_before(tokenizer: &mut Tokenizer) -> State
     requires { IsAt NeedsNothing StateName.DocumentContainerNewBefore (world tokenizer.old) }
-    ensures to { result ≢ State.Error → result ≡ (new_before_went (world tokenizer.old)).to }
-    ensures world { result ≢ State.Error → world tokenizer.new ≡ (new_before_went (world tokenizer.old)).world }
+    ensures to { result ≢ State.Error → result ≡ (new_before_transition (world tokenizer.old)).to }
+    ensures world { result ≢ State.Error → world tokenizer.new ≡ (new_before_transition (world tokenizer.old)).world }
 {
     or_error!(tokenizer.attempt(
         State::Next(StateName::DocumentContainerNewAfter),
@@ -146,8 +146,8 @@ pub fn container_new_before(tokenizer: &mut Tokenizer) -> State
 /// ```
 pub fn container_new_after(tokenizer: &mut Tokenizer) -> State
     requires { IsAt NeedsNothing StateName.DocumentContainerNewAfter (world tokenizer.old) }
-    ensures to { result ≢ State.Error → result ≡ (new_after_went (world tokenizer.old)).to }
-    ensures world { result ≢ State.Error → world tokenizer.new ≡ (new_after_went (world tokenizer.old)).world }
+    ensures to { result ≢ State.Error → result ≡ (new_after_transition (world tokenizer.old)).to }
+    ensures world { result ≢ State.Error → world tokenizer.new ≡ (new_after_transition (world tokenizer.old)).world }
 {
     let Flags {
         continued,
@@ -171,8 +171,8 @@ pub fn container_new_after(tokenizer: &mut Tokenizer) -> State
 /// ```
 pub fn containers_after(tokenizer: &mut Tokenizer) -> State
     requires { IsAt NeedsNothing StateName.DocumentContainersAfter (world tokenizer.old) }
-    ensures to { result ≡ (containers_after_went (world tokenizer.old)).to }
-    ensures world { world tokenizer.new ≡ (containers_after_went (world tokenizer.old)).world }
+    ensures to { result ≡ (containers_after_transition (world tokenizer.old)).to }
+    ensures world { world tokenizer.new ≡ (containers_after_transition (world tokenizer.old)).world }
 {
     tokenizer.flags.text_open = tokenizer.flags.interrupt;
     State::Retry(StateName::FlowStart)
@@ -209,8 +209,8 @@ fn ending_name(blank: bool) -> Name
 /// ```
 pub fn flow_end(tokenizer: &mut Tokenizer) -> State
     requires { IsAt NeedsNothing StateName.DocumentFlowEnd (world tokenizer.old) }
-    ensures to { result ≢ State.Error → result ≡ (flow_end_went (world tokenizer.old)).to }
-    ensures world { result ≢ State.Error → world tokenizer.new ≡ (flow_end_went (world tokenizer.old)).world }
+    ensures to { result ≢ State.Error → result ≡ (flow_end_transition (world tokenizer.old)).to }
+    ensures world { result ≢ State.Error → world tokenizer.new ≡ (flow_end_transition (world tokenizer.old)).world }
 {
     let keep = stays(tokenizer);
     let line_end = tokenizer.flags.line_end;
@@ -239,8 +239,8 @@ pub fn flow_end(tokenizer: &mut Tokenizer) -> State
 fn call_state(tokenizer: &mut Tokenizer, name: StateName) -> State
     requires current { (world tokenizer.old).current ≡ looks (world tokenizer.old) }
     requires stands { stands document_table_scheme (world tokenizer.old) (State.Next name) }
-    ensures to { result ≢ State.Error → result ≡ (document_went name (world tokenizer.old)).to }
-    ensures world { result ≢ State.Error → world tokenizer.new ≡ (document_went name (world tokenizer.old)).world }
+    ensures to { result ≢ State.Error → result ≡ (document_transition name (world tokenizer.old)).to }
+    ensures world { result ≢ State.Error → world tokenizer.new ≡ (document_transition name (world tokenizer.old)).world }
 {
     match name {
         StateName::BomStart => partial_bom::start(tokenizer),

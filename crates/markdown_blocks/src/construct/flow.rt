@@ -8,11 +8,11 @@ ghost use Rattle.std.specs.Prelude.{◌≡◌, ◌≢◌};
 ghost use Rattle.md_engine.specs.Scheme.{stands};
 ghost use Rattle.md_engine.specs.World.{looks, world};
 ghost use Rattle.md_engine.specs.declared.resolve.Name.{Name as ResolveName};
-ghost use Rattle.markdown_blocks.specs.States.{flow_table_scheme, flow_went};
+ghost use Rattle.markdown_blocks.specs.States.{flow_table_scheme, flow_transition};
 ghost use Rattle.md_engine.specs.declared.state.Name.{Name as StateName};
 ghost use Rattle.md_engine.specs.declared.state.State.{State};
-ghost use Rattle.markdown_blocks.specs.Flow.{after_went, before_content_went, before_heading_atx_went, before_thematic_break_went, blank_line_after_went, blank_line_before_went, start_went};
-ghost use Rattle.md_seam.specs.Went.{IsAt, NeedsNothing};
+ghost use Rattle.markdown_blocks.specs.Flow.{after_transition, before_content_transition, before_heading_atx_transition, before_thematic_break_transition, blank_line_after_transition, blank_line_before_transition, start_transition};
+ghost use Rattle.md_seam.specs.Transition.{IsAt, NeedsNothing};
 
 use crate::construct::document;
 use crate::resolve;
@@ -36,8 +36,8 @@ use md_seam::space_or_tab;
 /// ```
 pub fn start(_tokenizer: &mut Tokenizer) -> State
     requires { IsAt NeedsNothing StateName.FlowStart (world _tokenizer.old) }
-    ensures to { result ≡ (start_went (world _tokenizer.old)).to }
-    ensures world { world _tokenizer.new ≡ (start_went (world _tokenizer.old)).world }
+    ensures to { result ≡ (start_transition (world _tokenizer.old)).to }
+    ensures world { world _tokenizer.new ≡ (start_transition (world _tokenizer.old)).world }
 {
     State::Retry(StateName::FlowBlankLineBefore)
 }
@@ -50,8 +50,8 @@ pub fn start(_tokenizer: &mut Tokenizer) -> State
 /// ```
 pub fn blank_line_before(tokenizer: &mut Tokenizer) -> State
     requires { IsAt NeedsNothing StateName.FlowBlankLineBefore (world tokenizer.old) }
-    ensures to { result ≢ State.Error → result ≡ (blank_line_before_went (world tokenizer.old)).to }
-    ensures world { result ≢ State.Error → world tokenizer.new ≡ (blank_line_before_went (world tokenizer.old)).world }
+    ensures to { result ≢ State.Error → result ≡ (blank_line_before_transition (world tokenizer.old)).to }
+    ensures world { result ≢ State.Error → world tokenizer.new ≡ (blank_line_before_transition (world tokenizer.old)).world }
 {
     or_error!(tokenizer.attempt(
         State::Next(StateName::FlowBlankLineAfter),
@@ -68,8 +68,8 @@ pub fn blank_line_before(tokenizer: &mut Tokenizer) -> State
 /// ```
 pub fn before_heading_atx(tokenizer: &mut Tokenizer) -> State
     requires { IsAt NeedsNothing StateName.FlowBeforeHeadingAtx (world tokenizer.old) }
-    ensures to { result ≢ State.Error → result ≡ (before_heading_atx_went (world tokenizer.old)).to }
-    ensures world { result ≢ State.Error → world tokenizer.new ≡ (before_heading_atx_went (world tokenizer.old)).world }
+    ensures to { result ≢ State.Error → result ≡ (before_heading_atx_transition (world tokenizer.old)).to }
+    ensures world { result ≢ State.Error → world tokenizer.new ≡ (before_heading_atx_transition (world tokenizer.old)).world }
 {
     or_error!(tokenizer.attempt(
         State::Next(StateName::FlowAfter),
@@ -86,8 +86,8 @@ pub fn before_heading_atx(tokenizer: &mut Tokenizer) -> State
 /// ```
 pub fn before_thematic_break(tokenizer: &mut Tokenizer) -> State
     requires { IsAt NeedsNothing StateName.FlowBeforeThematicBreak (world tokenizer.old) }
-    ensures to { result ≢ State.Error → result ≡ (before_thematic_break_went (world tokenizer.old)).to }
-    ensures world { result ≢ State.Error → world tokenizer.new ≡ (before_thematic_break_went (world tokenizer.old)).world }
+    ensures to { result ≢ State.Error → result ≡ (before_thematic_break_transition (world tokenizer.old)).to }
+    ensures world { result ≢ State.Error → world tokenizer.new ≡ (before_thematic_break_transition (world tokenizer.old)).world }
 {
     or_error!(tokenizer.attempt(
         State::Next(StateName::FlowAfter),
@@ -104,8 +104,8 @@ pub fn before_thematic_break(tokenizer: &mut Tokenizer) -> State
 /// ```
 pub fn before_content(tokenizer: &mut Tokenizer) -> State
     requires { IsAt NeedsNothing StateName.FlowBeforeContent (world tokenizer.old) }
-    ensures to { result ≢ State.Error → result ≡ (before_content_went (world tokenizer.old)).to }
-    ensures world { result ≢ State.Error → world tokenizer.new ≡ (before_content_went (world tokenizer.old)).world }
+    ensures to { result ≢ State.Error → result ≡ (before_content_transition (world tokenizer.old)).to }
+    ensures world { result ≢ State.Error → world tokenizer.new ≡ (before_content_transition (world tokenizer.old)).world }
 {
     or_error!(tokenizer.attempt(State::Next(StateName::FlowAfter), State::Nok));
     State::Retry(StateName::ContentChunkStart)
@@ -119,8 +119,8 @@ pub fn before_content(tokenizer: &mut Tokenizer) -> State
 /// ```
 pub fn blank_line_after(tokenizer: &mut Tokenizer) -> State
     requires { IsAt NeedsNothing StateName.FlowBlankLineAfter (world tokenizer.old) }
-    ensures to { result ≡ (blank_line_after_went (world tokenizer.old)).to }
-    ensures world { world tokenizer.new ≡ (blank_line_after_went (world tokenizer.old)).world }
+    ensures to { result ≡ (blank_line_after_transition (world tokenizer.old)).to }
+    ensures world { world tokenizer.new ≡ (blank_line_after_transition (world tokenizer.old)).world }
 {
     tokenizer.flags.interrupt = false;
     tokenizer.flags.blank = true;
@@ -135,8 +135,8 @@ pub fn blank_line_after(tokenizer: &mut Tokenizer) -> State
 /// ```
 pub fn after(_tokenizer: &mut Tokenizer) -> State
     requires { IsAt NeedsNothing StateName.FlowAfter (world _tokenizer.old) }
-    ensures to { result ≡ (after_went (world _tokenizer.old)).to }
-    ensures world { world _tokenizer.new ≡ (after_went (world _tokenizer.old)).world }
+    ensures to { result ≡ (after_transition (world _tokenizer.old)).to }
+    ensures world { world _tokenizer.new ≡ (after_transition (world _tokenizer.old)).world }
 {
     State::Retry(StateName::DocumentFlowEnd)
 }
@@ -145,8 +145,8 @@ pub fn after(_tokenizer: &mut Tokenizer) -> State
 fn call_state(tokenizer: &mut Tokenizer, name: StateName) -> State
     requires current { (world tokenizer.old).current ≡ looks (world tokenizer.old) }
     requires stands { stands flow_table_scheme (world tokenizer.old) (State.Next name) }
-    ensures to { result ≢ State.Error → result ≡ (flow_went (λ target other. ⟦<ResolveName as PartialEq>⟧.eq other target) name (world tokenizer.old)).to }
-    ensures world { result ≢ State.Error → world tokenizer.new ≡ (flow_went (λ target other. ⟦<ResolveName as PartialEq>⟧.eq other target) name (world tokenizer.old)).world }
+    ensures to { result ≢ State.Error → result ≡ (flow_transition (λ target other. ⟦<ResolveName as PartialEq>⟧.eq other target) name (world tokenizer.old)).to }
+    ensures world { result ≢ State.Error → world tokenizer.new ≡ (flow_transition (λ target other. ⟦<ResolveName as PartialEq>⟧.eq other target) name (world tokenizer.old)).world }
 {
     match name {
         StateName::BlankLineStart => blank_line::start(tokenizer),

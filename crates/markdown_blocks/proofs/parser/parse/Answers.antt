@@ -5,9 +5,9 @@ use Rattle.md_engine.specs.declared.event.Event.{Event}
 use Rattle.md_engine.specs.declared.event.Point.{Point}
 use Rattle.md_engine.specs.Place.{IsPlaced}
 use Rattle.md_engine.specs.World.{Setting}
-use Rattle.md_seam.specs.Inline.{PlainReads}
+use Rattle.md_seam.specs.Events.Inline.{PlainReads}
 use Rattle.md_seam.specs.Parts.{ArePlaced}
-use Rattle.md_seam.specs.On.{are_on}
+use Rattle.md_seam.specs.Events.On.{are_on}
 use Rattle.md_seam.proofs.HeldLemmas.{blocks-held}
 use Rattle.md_seam.proofs.OnLemmas.{tree-on}
 use Rattle.md_seam.proofs.ReachedLemmas.{events-placed}

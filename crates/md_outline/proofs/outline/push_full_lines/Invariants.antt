@@ -1,8 +1,8 @@
 use Rattle.std.proofs.Common.{◌≡◌, ◌++◌, length}
 use Rattle.std.specs.Str.{IsUtf8}
-use Rattle.md_seam.specs.Outline.{entries_of}
-use Rattle.md_seam.specs.Places.{last_line}
-use Rattle.md_seam.specs.Texts.{split_lines}
+use Rattle.md_seam.specs.Standard.Outline.{entries_of}
+use Rattle.md_seam.specs.Events.Places.{last_line}
+use Rattle.md_seam.specs.Standard.Texts.{split_lines}
 use Rattle.md_outline.specs.Sketched.{full_entries}
 use Rattle.md_outline.proofs.outline.push_full_lines.Given as goal
 

@@ -1,4 +1,4 @@
-use Rattle.md_seam.specs.Outline.{entries_of}
+use Rattle.md_seam.specs.Standard.Outline.{entries_of}
 use Rattle.md_outline.proofs.Sketches.{on_ok-map}
 use Rattle.md_outline.proofs.TextCuts.{lines-all}
 use Rattle.md_outline.proofs.outline.push_lines.Goals as goal

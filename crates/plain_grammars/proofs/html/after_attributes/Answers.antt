@@ -1,5 +1,5 @@
 use Rattle.std.proofs.Common.{◌≡◌, ◌∙◌, Some, sym, arith}
-use Rattle.md_seam.specs.Html.{after_attribute}
+use Rattle.md_seam.specs.Standard.Html.{after_attribute}
 use Rattle.md_seam.proofs.HtmlLemmas.{length-after_attribute, after_attributes-some}
 use Rattle.plain_grammars.proofs.html.after_attributes.Goals as goal
 

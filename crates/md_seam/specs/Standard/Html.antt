@@ -3,9 +3,9 @@ use Rattle.std.specs.Prelude.{ℕ, zero, suc, Bool, false, ◌&&◌, ◌||◌, n
 use Rattle.std.specs.List.{list_any, starts_with, take_while}
 use Rattle.std.specs.Char.{is_ascii_alphabetic, is_ascii_alphanumeric}
 use Rattle.std.specs.Str.{str_eq_ignore_ascii_case}
-use Rattle.md_seam.specs.Lines.{begins_with}
-use Rattle.md_seam.specs.Rest.{is_white, is_blank, is_parted, trim_start}
-use Rattle.md_seam.specs.Bytes.{after, begins, after_optional}
+use Rattle.md_seam.specs.Standard.Lines.{begins_with}
+use Rattle.md_seam.specs.Standard.Rest.{is_white, is_blank, is_parted, trim_start}
+use Rattle.md_seam.specs.Standard.Bytes.{after, begins, after_optional}
 
 -- The kinds 1 to 7 of the standard, in its order.
 pub data HtmlKind : Type 0 where

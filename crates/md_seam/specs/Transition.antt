@@ -6,10 +6,10 @@ use Rattle.md_engine.specs.declared.event.Kind.TheVariants.{Enter}
 use Rattle.md_engine.specs.declared.state.Name.{Name as StateName}
 use Rattle.md_engine.specs.declared.state.State.{State}
 use Rattle.md_engine.specs.World.{World, after, looks}
-use Rattle.md_seam.specs.Nested.{enter, exit}
+use Rattle.md_seam.specs.Events.Nested.{enter, exit}
 
 -- the state that it answers, and what the tokenizer is then, where there is memory
-pub record Went : Type 0 where
+pub record Transition : Type 0 where
   pub to : State
   pub world : World
 

@@ -1,9 +1,9 @@
 -- Tables: the cells of a row, and delimiter rows (GFM 4.10).
 use Rattle.std.specs.Prelude.{ℕ, Bool, true, false, ◌&&◌, ◌||◌, not, ◌==◌, if◌then◌else◌, List, [], ◌∷◌, map, length, Option, Some, None}
 use Rattle.std.specs.List.{list_any, list_all, onto_first}
-use Rattle.md_seam.specs.Lines.{begins_with}
-use Rattle.md_seam.specs.Rest.{trim}
-use Rattle.md_seam.specs.Bytes.{is_end, after, after_optional}
+use Rattle.md_seam.specs.Standard.Lines.{begins_with}
+use Rattle.md_seam.specs.Standard.Rest.{trim}
+use Rattle.md_seam.specs.Standard.Bytes.{is_end, after, after_optional}
 
 -- what a byte of a row makes of the pieces behind it: a pipe divides, unless it is the last byte
 abbrev pub with_byte : ℕ → Bool → List (List ℕ) → List (List ℕ)

@@ -1,8 +1,8 @@
 -- A text of several lines, as of a paragraph, a label or a title.
 use Rattle.std.specs.Prelude.{ℕ, if◌then◌else◌, List, [], ◌∷◌, map}
 use Rattle.std.specs.List.{onto_first}
-use Rattle.md_seam.specs.Lines.{is_ending, ends_line}
-use Rattle.md_seam.specs.Rest.{trim_start}
+use Rattle.md_seam.specs.Standard.Lines.{is_ending, ends_line}
+use Rattle.md_seam.specs.Standard.Rest.{trim_start}
 
 -- A text split at its line endings (CommonMark 2.1): one line more than there are endings. The CR of a CR LF is dropped, and
 -- its LF ends the line.

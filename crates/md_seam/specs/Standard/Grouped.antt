@@ -1,6 +1,6 @@
 -- Lists: neighbouring items with the same marker byte (CommonMark 5.3).
 use Rattle.std.specs.Prelude.{ℕ, ◌==◌, if◌then◌else◌}
-use Rattle.md_seam.specs.Tree.{Block, Quote, ListOf, Item, Footnote, Blocks, End, More}
+use Rattle.md_seam.specs.Standard.Tree.{Block, Quote, ListOf, Item, Footnote, Blocks, End, More}
 
 -- this item before these blocks: in their first list if the marker is the same, else in a list of its own
 abbrev pub with_item : ℕ → Block → Blocks → Blocks

@@ -3,10 +3,10 @@ use Rattle.std.specs.Prelude.{ℕ, ◌+◌, Bool, true, false, ◌&&◌, ◌||�
 use Rattle.std.specs.List.{starts_with, take_while}
 use Rattle.std.specs.Option.{option_or}
 use Rattle.md_engine.specs.declared.configuration.ParseOptions.{ParseOptions}
-use Rattle.md_seam.specs.Lines.{begins_with}
-use Rattle.md_seam.specs.Rest.{Rest, is_white, is_blank, is_parted, indent, has_small_indent, lose, behind_indent, behind}
-use Rattle.md_seam.specs.State.{Container, InQuote, InItem, InFootnote}
-use Rattle.md_seam.specs.Leaves.{is_rule}
+use Rattle.md_seam.specs.Standard.Lines.{begins_with}
+use Rattle.md_seam.specs.Standard.Rest.{Rest, is_white, is_blank, is_parted, indent, has_small_indent, lose, behind_indent, behind}
+use Rattle.md_seam.specs.Standard.State.{Container, InQuote, InItem, InFootnote}
+use Rattle.md_seam.specs.Standard.Leaves.{is_rule}
 
 -- a container that continued or opened, and the rest of the line in it
 pub record Taken : Type 0 where

@@ -2,10 +2,10 @@
 use Rattle.std.specs.Prelude.{ℕ, ◌-◌, Bool, false, ◌==◌, if◌then◌else◌, List, [], ◌∷◌, map, length, take, Option}
 use Rattle.std.specs.List.{suffix_len}
 use Rattle.md_engine.specs.declared.configuration.ParseOptions.{ParseOptions}
-use Rattle.md_seam.specs.Tree.{Line, Block, Quote, Item, Footnote, Code, Html, Fence, Math, Definition, Paragraph, Table, Blocks, End, More}
-use Rattle.md_seam.specs.Rest.{Rest, is_blank, indent, trim_start}
-use Rattle.md_seam.specs.Html.{HtmlKind}
-use Rattle.md_seam.specs.Definition.{Defined, cut_definitions}
+use Rattle.md_seam.specs.Standard.Tree.{Line, Block, Quote, Item, Footnote, Code, Html, Fence, Math, Definition, Paragraph, Table, Blocks, End, More}
+use Rattle.md_seam.specs.Standard.Rest.{Rest, is_blank, indent, trim_start}
+use Rattle.md_seam.specs.Standard.Html.{HtmlKind}
+use Rattle.md_seam.specs.Standard.Definition.{Defined, cut_definitions}
 
 -- an open container
 pub data Container : Type 0 where

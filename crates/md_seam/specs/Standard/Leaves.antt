@@ -3,11 +3,11 @@ use Rattle.std.specs.Prelude.{ℕ, ◌-◌, Bool, true, false, ◌&&◌, ◌||�
 use Rattle.std.specs.List.{list_all, list_any, suffix_len, take_while}
 use Rattle.std.specs.Option.{option_or, is_some}
 use Rattle.md_engine.specs.declared.configuration.ParseOptions.{ParseOptions}
-use Rattle.md_seam.specs.Tree.{Line, Block, Heading, Break, Html, Blocks}
-use Rattle.md_seam.specs.Rest.{Rest, is_white, is_blank, is_parted, run_len, trim_start, trim_end, trim, indent, has_small_indent, is_small, lose, line_of}
-use Rattle.md_seam.specs.Html.{HtmlKind, Basic, Complete, html_kind, html_ends}
-use Rattle.md_seam.specs.Table.{delimiter_columns, row_cells, is_head}
-use Rattle.md_seam.specs.State.{Kept, Opening, Leaf, NoLeaf, OpenParagraph, OpenCode, OpenFence, OpenHtml, OpenTable, Spot, then_block, then_definitions, shut_paragraph, kept, texts, cut, fence_block}
+use Rattle.md_seam.specs.Standard.Tree.{Line, Block, Heading, Break, Html, Blocks}
+use Rattle.md_seam.specs.Standard.Rest.{Rest, is_white, is_blank, is_parted, run_len, trim_start, trim_end, trim, indent, has_small_indent, is_small, lose, line_of}
+use Rattle.md_seam.specs.Standard.Html.{HtmlKind, Basic, Complete, html_kind, html_ends}
+use Rattle.md_seam.specs.Standard.Table.{delimiter_columns, row_cells, is_head}
+use Rattle.md_seam.specs.Standard.State.{Kept, Opening, Leaf, NoLeaf, OpenParagraph, OpenCode, OpenFence, OpenHtml, OpenTable, Spot, then_block, then_definitions, shut_paragraph, kept, texts, cut, fence_block}
 
 -- what a leaf has come to with a line: it is open, or finished
 pub data Came : Type 0 where
@@ -15,17 +15,17 @@ pub data Came : Type 0 where
   Finished : Block → Came
 
 -- what a line that may start a leaf stands against: no open paragraph, one of its own containers, or one that it is lazy for
-pub data Against : Type 0 where
-  NoText : Against
-  Text : Against
-  LazyText : Against
+pub data ParagraphContext : Type 0 where
+  NoText : ParagraphContext
+  Text : ParagraphContext
+  LazyText : ParagraphContext
 
-abbrev pub is_text : Against → Bool
+abbrev pub is_text : ParagraphContext → Bool
 is_text NoText = false
 is_text Text = true
 is_text LazyText = false
 
-abbrev pub is_free : Against → Bool
+abbrev pub is_free : ParagraphContext → Bool
 is_free NoText = true
 is_free Text = false
 is_free LazyText = false
@@ -79,7 +79,7 @@ abbrev pub code_line : Rest → Line
 code_line r = line_of (lose 4 r)
 
 -- an indent of 4 columns, and no open paragraph
-unfoldable pub code_at : ParseOptions → Against → Rest → Option Came
+unfoldable pub code_at : ParseOptions → ParagraphContext → Rest → Option Came
 code_at options against r =
     if options.constructs.code_indented && is_free against && nat_le 4 (indent r)
     then Some (Opened (OpenCode (code_line r ∷ [])))
@@ -159,7 +159,7 @@ ends_at_blank Complete = true
 ends_at_blank _ = false
 
 -- one complete tag is the only kind that cannot interrupt a paragraph
-abbrev pub may_start : Against → HtmlKind → Bool
+abbrev pub may_start : ParagraphContext → HtmlKind → Bool
 may_start against Complete = not (is_text against)
 may_start against _ = true
 
@@ -169,12 +169,12 @@ html_line kind lines r =
     let all = lines ++ line_of r ∷ [] in
     if html_ends kind r.bytes then Finished (Html all) else Opened (OpenHtml kind all)
 
-abbrev pub html_by : Against → Rest → Option HtmlKind → Option Came
+abbrev pub html_by : ParagraphContext → Rest → Option HtmlKind → Option Came
 html_by against r None = None
 html_by against r (Some kind) = if may_start against kind then Some (html_line kind [] r) else None
 
 -- a small indent, and then one of the seven beginnings
-unfoldable pub html_at : ParseOptions → Against → Rest → Option Came
+unfoldable pub html_at : ParseOptions → ParagraphContext → Rest → Option Came
 html_at options against r =
     if options.constructs.html_flow && has_small_indent options r then html_by against r (html_kind (trim_start r.bytes)) else None
 
@@ -184,7 +184,7 @@ html_goes_on kind lines r = if ends_at_blank kind && is_blank r.bytes then None 
 -- The order of the trials.
 
 -- the first leaf, other than a paragraph, that starts at this rest
-unfoldable pub starts : ParseOptions → Against → Rest → Option Came
+unfoldable pub starts : ParseOptions → ParagraphContext → Rest → Option Came
 starts options against r =
     option_or (code_at options against r) (option_or (fence_at options r) (option_or (html_at options against r) (option_or (heading_at options r) (break_at options r))))
 

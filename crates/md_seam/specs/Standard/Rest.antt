@@ -2,7 +2,7 @@
 use Rattle.std.specs.Prelude.{ℕ, zero, suc, ◌+◌, ◌-◌, ◌%◌, Bool, true, ◌||◌, ◌==◌, not, nat_le, if◌then◌else◌, List, [], ◌∷◌, length, take, drop}
 use Rattle.std.specs.List.{list_all, prefix_len, suffix_len}
 use Rattle.md_engine.specs.declared.configuration.ParseOptions.{ParseOptions}
-use Rattle.md_seam.specs.Tree.{Line}
+use Rattle.md_seam.specs.Standard.Tree.{Line}
 
 -- the column from 0 at which it begins, the virtual spaces there (columns left of a cut tab), and the bytes behind them
 pub record Rest : Type 0 where

@@ -3,7 +3,7 @@ use Rattle.std.specs.Prelude.{ℕ, ◌+◌, List, [], ◌∷◌, ◌++◌, map, 
 use Rattle.md_seam.specs.declared.outline.OutlineLine.{OutlineLine}
 use Rattle.md_seam.specs.declared.outline.Word.{Word}
 use Rattle.md_seam.specs.declared.outline.Word.TheVariants as word
-use Rattle.md_seam.specs.Tree.{Line, Block, Frontmatter, Quote, ListOf, Item, Footnote, Heading, Break, Code, Html, Fence, Math, Definition, Paragraph, Table, Blocks, End, More}
+use Rattle.md_seam.specs.Standard.Tree.{Line, Block, Frontmatter, Quote, ListOf, Item, Footnote, Heading, Break, Code, Html, Fence, Math, Definition, Paragraph, Table, Blocks, End, More}
 
 -- a line of the outline; the virtual spaces and the text are those of `OutlineLine`
 pub record Entry : Type 0 where

@@ -2,9 +2,9 @@
 use Rattle.std.specs.Prelude.{ℕ, Bool, ◌&&◌, ◌==◌, nat_eq, if◌then◌else◌, List, [], ◌∷◌, map, drop, Option, Some, None}
 use Rattle.std.specs.List.{starts_with, list_any, before_first, after_first}
 use Rattle.md_engine.specs.declared.configuration.ParseOptions.{ParseOptions}
-use Rattle.md_seam.specs.Tree.{Block, Frontmatter}
-use Rattle.md_seam.specs.Lines.{lines_of}
-use Rattle.md_seam.specs.Rest.{Rest, is_blank, run_len}
+use Rattle.md_seam.specs.Standard.Tree.{Block, Frontmatter}
+use Rattle.md_seam.specs.Standard.Lines.{lines_of}
+use Rattle.md_seam.specs.Standard.Rest.{Rest, is_blank, run_len}
 
 -- the bytes EF BB BF at the start of the text
 abbrev pub has_mark : List ℕ → Bool

@@ -10,13 +10,13 @@ use Rattle.md_engine.specs.declared.event.Name.TheVariants as n
 use Rattle.md_seam.specs.declared.inline.PartKind.{PartKind}
 use Rattle.md_seam.specs.declared.inline.PartKind.TheVariants as k
 use Rattle.md_seam.specs.declared.inline.Chunk.{Chunk}
-use Rattle.md_seam.specs.Rest.{is_blank}
-use Rattle.md_seam.specs.Places.{first_point, are_placed, same_place}
-use Rattle.md_seam.specs.Nested.{Nested, is_exit}
-use Rattle.md_seam.specs.Pieces.{pieces_stand}
-use Rattle.md_seam.specs.Endings.{endings_stand}
-use Rattle.md_seam.specs.Grammar.{keeps_grammar, unread_text}
-use Rattle.md_seam.specs.Inline.{Part, Piece, pieces, Covers, Fills, are_lines, is_linked, plain_chunks, together}
+use Rattle.md_seam.specs.Standard.Rest.{is_blank}
+use Rattle.md_seam.specs.Events.Places.{first_point, are_placed, same_place}
+use Rattle.md_seam.specs.Events.Nested.{Nested, is_exit}
+use Rattle.md_seam.specs.Events.Pieces.{pieces_stand}
+use Rattle.md_seam.specs.Events.Endings.{endings_stand}
+use Rattle.md_seam.specs.Events.Grammar.{keeps_grammar, unread_text}
+use Rattle.md_seam.specs.Events.Inline.{Part, Piece, pieces, Covers, Fills, are_lines, is_linked, plain_chunks, together}
 
 -- the point behind the last byte
 abbrev pub end_point : List ℕ → Point

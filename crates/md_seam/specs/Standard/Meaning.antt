@@ -1,11 +1,11 @@
 -- What a text means: its block tree.
 use Rattle.std.specs.Prelude.{ℕ, List, Option, Some, None}
 use Rattle.md_engine.specs.declared.configuration.ParseOptions.{ParseOptions}
-use Rattle.md_seam.specs.Tree.{Block, Blocks, End, More}
-use Rattle.md_seam.specs.State.{At, closed}
-use Rattle.md_seam.specs.Preamble.{preamble}
-use Rattle.md_seam.specs.Step.{spot_of, steps}
-use Rattle.md_seam.specs.Grouped.{grouped}
+use Rattle.md_seam.specs.Standard.Tree.{Block, Blocks, End, More}
+use Rattle.md_seam.specs.Standard.State.{At, closed}
+use Rattle.md_seam.specs.Standard.Preamble.{preamble}
+use Rattle.md_seam.specs.Standard.Step.{spot_of, steps}
+use Rattle.md_seam.specs.Standard.Grouped.{grouped}
 
 abbrev pub with_frontmatter : Option Block → Blocks → Blocks
 with_frontmatter None bs = bs

@@ -2,9 +2,9 @@
 use Rattle.std.specs.Prelude.{ℕ, not, IsTrue, List}
 use Rattle.std.specs.List.{Contains}
 use Rattle.md_engine.specs.declared.event.Point.{Point}
-use Rattle.md_seam.specs.Inline.{Piece}
-use Rattle.md_seam.specs.Pieces.{is_piece_name, piece_stands}
-use Rattle.md_seam.specs.Places.{at_or_before, first_point}
+use Rattle.md_seam.specs.Events.Inline.{Piece}
+use Rattle.md_seam.specs.Events.Pieces.{is_piece_name, piece_stands}
+use Rattle.md_seam.specs.Events.Places.{at_or_before, first_point}
 
 -- where a byte begins; a tab has further columns behind it
 abbrev pub byte_point : ℕ → Point

@@ -2,9 +2,9 @@
 use Rattle.std.specs.Prelude.{ℕ, List, [], ◌∷◌, ◌++◌, flat_map, filter, not, chars, encode_utf8_all}
 use Rattle.std.specs.List.{join_with_byte, slice_split}
 use Rattle.caseless.specs.Caseless.{default_case_fold}
-use Rattle.md_seam.specs.Rest.{is_white}
-use Rattle.md_seam.specs.Bytes.{is_end}
-use Rattle.md_seam.specs.Tree as t
+use Rattle.md_seam.specs.Standard.Rest.{is_white}
+use Rattle.md_seam.specs.Standard.Bytes.{is_end}
+use Rattle.md_seam.specs.Standard.Tree as t
 
 -- the words of a line
 abbrev pub words : List ℕ → List (List ℕ)

@@ -1,7 +1,7 @@
 -- Whole texts in a container: a prefix before each line, all other bytes kept.
 use Rattle.std.specs.Prelude.{ℕ, List, [], ◌∷◌, ◌++◌, map}
 use Rattle.std.specs.List.{concat}
-use Rattle.md_seam.specs.Lines.{full_lines_of}
+use Rattle.md_seam.specs.Standard.Lines.{full_lines_of}
 
 -- the first prefix before the first line, the second before each other
 abbrev pub prefixed : List ℕ → List ℕ → List (List ℕ) → List (List ℕ)

@@ -6,7 +6,7 @@ use Rattle.md_engine.specs.declared.event.Kind.{Kind}
 use Rattle.md_engine.specs.declared.event.Kind.TheVariants.{Enter, Exit}
 use Rattle.md_engine.specs.declared.event.Link.{Link}
 use Rattle.md_engine.specs.declared.event.Name.{Name}
-use Rattle.md_seam.specs.Places.{first_point, at_or_before}
+use Rattle.md_seam.specs.Events.Places.{first_point, at_or_before}
 
 -- the begin and the end of a part
 abbrev pub enter : Name → Point → Event

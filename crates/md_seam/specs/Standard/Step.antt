@@ -2,11 +2,11 @@
 use Rattle.std.specs.Prelude.{ℕ, zero, suc, Bool, true, false, ◌||◌, if◌then◌else◌, List, [], ◌∷◌, ◌++◌, length, Option, Some, None}
 use Rattle.std.specs.Option.{is_some}
 use Rattle.md_engine.specs.declared.configuration.ParseOptions.{ParseOptions}
-use Rattle.md_seam.specs.Tree.{Blocks, End}
-use Rattle.md_seam.specs.Rest.{Rest, is_blank}
-use Rattle.md_seam.specs.State.{Container, Kept, Leaf, NoLeaf, OpenParagraph, OpenFence, OpenHtml, Spot, Path, At, Within, spot, at_spot, then_block, then_leaf, shut, container_block, closed, kept}
-use Rattle.md_seam.specs.Containers.{Taken, continues, opens}
-use Rattle.md_seam.specs.Leaves.{Came, Opened, Finished, NoText, Text, LazyText, starts, goes_on, underline_depth, underlined, table_at, with_line}
+use Rattle.md_seam.specs.Standard.Tree.{Blocks, End}
+use Rattle.md_seam.specs.Standard.Rest.{Rest, is_blank}
+use Rattle.md_seam.specs.Standard.State.{Container, Kept, Leaf, NoLeaf, OpenParagraph, OpenFence, OpenHtml, Spot, Path, At, Within, spot, at_spot, then_block, then_leaf, shut, container_block, closed, kept}
+use Rattle.md_seam.specs.Standard.Containers.{Taken, continues, opens}
+use Rattle.md_seam.specs.Standard.Leaves.{Came, Opened, Finished, NoText, Text, LazyText, starts, goes_on, underline_depth, underlined, table_at, with_line}
 
 abbrev pub spot_of : Blocks → Spot
 spot_of bs = record { here = bs; leaf = NoLeaf }

@@ -9,10 +9,10 @@ use Rattle.md_engine.specs.declared.event.Name.{Name}
 use Rattle.md_engine.specs.declared.event.Name.TheVariants as n
 use Rattle.md_seam.specs.declared.inline.PartKind.{PartKind}
 use Rattle.md_seam.specs.declared.inline.Chunk.{Chunk}
-use Rattle.md_seam.specs.Lines.{without_ending}
-use Rattle.md_seam.specs.Texts.{split_lines}
-use Rattle.md_seam.specs.Places.{first_point, is_placed, are_placed, same_place, at_or_before, past_text}
-use Rattle.md_seam.specs.Nested.{Balanced, Forward, last_point, pair}
+use Rattle.md_seam.specs.Standard.Lines.{without_ending}
+use Rattle.md_seam.specs.Standard.Texts.{split_lines}
+use Rattle.md_seam.specs.Events.Places.{first_point, is_placed, are_placed, same_place, at_or_before, past_text}
+use Rattle.md_seam.specs.Events.Nested.{Balanced, Forward, last_point, pair}
 
 -- A text part: what it may hold, and its chunks, one a line.
 pub record Part : Type 0 where

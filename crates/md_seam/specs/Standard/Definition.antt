@@ -2,10 +2,10 @@
 -- come is a list of lines, of which the first may be the rest of one.
 use Rattle.std.specs.Prelude.{ℕ, zero, suc, ◌+◌, ◌-◌, Bool, true, false, ◌&&◌, ◌||◌, not, nat_lt, nat_le, ◌==◌, if◌then◌else◌, List, [], ◌∷◌, length, sum_by, Option, Some, None}
 use Rattle.std.specs.List.{list_all, take_while}
-use Rattle.md_seam.specs.Rest.{is_blank, is_parted, trim_start}
-use Rattle.md_seam.specs.Lines.{begins_with}
-use Rattle.md_seam.specs.Bytes.{is_end, after, after_optional}
-use Rattle.md_seam.specs.Enclosed.{Closed, Open, Broken, enclosed, Lines, enclosed_lines}
+use Rattle.md_seam.specs.Standard.Rest.{is_blank, is_parted, trim_start}
+use Rattle.md_seam.specs.Standard.Lines.{begins_with}
+use Rattle.md_seam.specs.Standard.Bytes.{is_end, after, after_optional}
+use Rattle.md_seam.specs.Standard.Enclosed.{Closed, Open, Broken, enclosed, Lines, enclosed_lines}
 
 pub record Defined : Type 0 where
   -- the lines of the label, between the brackets
