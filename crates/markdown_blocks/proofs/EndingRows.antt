@@ -1,6 +1,6 @@
 -- The endings of blank lines are told from others, before the text of a document is read and once it is.
-use Rattle.std.proofs.Common.{◌≡◌, ℕ, ◌+◌, ◌<◌, Bool, true, false, cond, List, [], ◌∷◌, ◌++◌, length, take, refl, ap, sym, ◌∙◌, subst, append_assoc, arith}
-use Rattle.std.specs.Prelude.{◌==◌, Option, Some, None}
+use Rattle.std.proofs.Common.{◌≡◌, ℕ, ◌+◌, ◌<◌, Bool, true, false, cond, List, [], ◌∷◌, ◌++◌, length, refl, ap, sym, ◌∙◌, subst, append_assoc, arith}
+use Rattle.std.specs.Prelude.{Option, Some, None}
 use Rattle.std.proofs.lemmas.Bool.Decides.{nat_tests}
 use Rattle.md_engine.specs.declared.configuration.ParseOptions.{ParseOptions}
 use Rattle.md_engine.specs.declared.event.Event.{Event}
@@ -10,27 +10,27 @@ use Rattle.md_engine.specs.declared.event.Point.{Point}
 use Rattle.md_content.specs.Paragraph.{text_link}
 use Rattle.md_leaves.specs.HeadingRule as heading
 use Rattle.md_leaves.specs.HeadingText.{linked_text}
-use Rattle.md_leaves.specs.HeadingTitle.{Title, front_len, line_runs, text_of, title_of, unread_title}
-use Rattle.md_leaves.proofs.TitleLemmas.{title-text}
+use Rattle.md_leaves.specs.HeadingTitle.{line_runs, title_of, unread_title}
 use Rattle.md_seam.specs.declared.inline.Chunk.{Chunk}
 use Rattle.md_seam.specs.Events.Endings.{IsLeaf, Spot, endings_stand, endings_stand_from, is_filled, line_start, on_line}
 use Rattle.md_seam.specs.Events.Inline.{line_end, pair_unless_empty, plain_chunk}
-use Rattle.md_seam.specs.Standard.Lines.{without_ending}
 use Rattle.md_seam.specs.Events.Nested.{around, enter, exit, pair}
-use Rattle.md_seam.specs.Events.Places.{first_point, past_byte, past_text, same_place}
+use Rattle.md_seam.specs.Events.Places.{first_point, past_byte, same_place}
 use Rattle.md_seam.specs.Standard.Preamble.{has_mark}
 use Rattle.md_seam.specs.Standard.State.{Container, InFootnote, InItem, InQuote}
 use Rattle.md_seam.proofs.EndingsLemmas.{AreOthers, Filling, Leads, Stays, behind_leaf, filling-append, in_leaf, leads-append, leaf-leads, others-append, others-lead, stays-append, stays-others}
 use Rattle.md_seam.proofs.InlineLemmas.{same-refl}
 use Rattle.markdown_blocks.specs.Change.{container_name, ends_of}
 use Rattle.markdown_blocks.specs.Document.{body_point, mark_end, mark_events}
-use Rattle.markdown_blocks.specs.Rows.{BlankRow, BreakRow, Group, HeadingRow, Lines, Row, RowKind, Single, TextRow, behind_row, ending_events, goes_on, group_events, groups, groups_events, last_row, onto_groups, read_lines, read_text, read_title, row_events_by, row_line, row_title, single_events_by, tail_events}
+use Rattle.markdown_blocks.specs.Rows.{BlankRow, Group, Lines, Row, RowKind, Single, TextRow, behind_row, ending_events, goes_on, group_events, groups, groups_events, last_row, onto_groups, read_lines, row_events_by, row_line, single_events_by, tail_events}
 use Rattle.markdown_blocks.specs.Unread.{linked_lines, titled_group, titled_groups, titled_row_by}
 use Rattle.markdown_blocks.proofs.FrontFacts.{Behind, Begins, LinePrefix, Goes, IsContinuationPrefix, IsOpeningPrefix, IsPrefix}
-use Rattle.markdown_blocks.proofs.GroupLemmas.{AreGroups, EndsBeforeGroups, HasFront, IsParagraph, IsSingle, IsTitle, groups-are, line_end-alone, rows-end, text-some, title-is, without-none}
+use Rattle.markdown_blocks.proofs.GroupLemmas.{AreGroups, EndsBeforeGroups, HasFront, IsParagraph, IsSingle, groups-are, line_end-alone, rows-end, text-some}
 use Rattle.markdown_blocks.proofs.JoinedLemmas.{EachEnds, EachNoContent, ending-is}
 use Rattle.markdown_blocks.proofs.RowFacts.{AreRows, IsRow}
-use Rattle.markdown_blocks.proofs.TitleNests.{back_bytes, either, text-end-is, text_begin, text_end}
+use Rattle.markdown_blocks.proofs.HeadingAtx.Endings.{linked-others, read-others, title-others}
+use Rattle.markdown_blocks.specs.Leaf.HeadingAtx.{read_text, read_title}
+use Rattle.markdown_blocks.proofs.SpanLemmas.{either}
 
 -- Events that are no ending, and no begin or end of a leaf.
 
@@ -82,19 +82,13 @@ opens-others heading.White p = refl
 opens-others heading.Hashes p = refl
 opens-others heading.Text p = refl
 
-runs-others : (run : heading.Run) (xs : List ℕ) (p : Point) → AreOthers (line_runs run xs p)
+pub runs-others : (run : heading.Run) (xs : List ℕ) (p : Point) → AreOthers (line_runs run xs p)
 runs-others run [] p = closes-others run p
 runs-others run (b ∷ xs) p =
     let rest : List Event = line_runs (heading.begun b) xs (past_byte b p) in
     either AreOthers (heading.goes_on run b) (line_runs run xs (past_byte b p)) ((heading.closes run p ++ heading.opens (heading.begun b) p) ++ rest) (runs-others run xs (past_byte b p))
     (others-append (heading.closes run p ++ heading.opens (heading.begun b) p) rest
     (others-append (heading.closes run p) (heading.opens (heading.begun b) p) (closes-others run p) (opens-others (heading.begun b) p)) (runs-others (heading.begun b) xs (past_byte b p)))
-
--- what stands in a heading, with its text
-title-others : (line : List ℕ) (p : Point) (text : List Event) → AreOthers text → AreOthers ((title_of line p).front ++ text ++ (title_of line p).back)
-title-others line p text h =
-    let title : Title = title_of line p in
-    others-append (title.front ++ text) title.back (others-append title.front text (runs-others heading.Apart (take (front_len line) line) p) h) (runs-others heading.Apart (back_bytes line) (text_end line p))
 
 -- Inside of a leaf.
 
@@ -142,41 +136,6 @@ read-filling options bytes row (next ∷ rows) is =
     filling-next bytes is.3 next.first (plain_chunk bytes chunk) next.front (read_lines bytes next rows) (chunk-stays bytes chunk) is.6 (read-filling options bytes next rows is.7)
 
 -- The text of a heading.
-
--- before it is read
-linked-others : (text : Option Chunk) → AreOthers (linked_text text)
-linked-others None = refl
-linked-others (Some chunk) = refl
-
--- once it is read: it has no ending
-read-others : (options : ParseOptions) (bytes line : List ℕ) (row : Row) → IsRow options bytes line row → AreOthers (read_text bytes (title_of line row.first).text)
-read-others options bytes line row is = go (length (text_of line) == 0)
-  where
-    begin : Point
-    begin = text_begin line row.first
-
-    end : Point
-    end = text_end line row.first
-
-    title : IsTitle bytes line row.first
-    title = title-is options bytes line row is
-
-    ended : line_end bytes (record { first = begin; after = end }) ≡ end
-    ended =
-        ap (λ (l : List ℕ). past_text (without_ending l) begin) title.slice
-        ∙ ap (λ (l : List ℕ). past_text l begin) (without-none (text_of line) title.no_ending ∙ sym (title-text line))
-        ∙ sym (text-end-is line row.first)
-
-    pairs : (x y : Bool) → y ≡ true → AreOthers (around n.HeadingAtxText begin end ((cond x [] (pair n.Data begin end) ++ cond y [] (pair n.LineEnding end end)) ++ []))
-    pairs true true h = refl
-    pairs false true h = refl
-    pairs x false h = cc
-
-    go : (none : Bool) → AreOthers (read_text bytes (cond none None (Some (record { first = begin; after = end }))))
-    go true = refl
-    go false =
-        subst (λ (q : Point). AreOthers (around n.HeadingAtxText begin end ((pair_unless_empty n.Data begin q ++ pair_unless_empty n.LineEnding q end) ++ []))) (sym ended)
-        (pairs (same_place begin end) (same_place end end) (same-refl end))
 
 -- Groups.
 

@@ -50,7 +50,7 @@ use Rattle.markdown_blocks.specs.FlowReads.{FlowReads, has_text, text_cells, tex
 use Rattle.markdown_blocks.specs.LineFlags.{ending_name, next_container, stays}
 use Rattle.markdown_blocks.specs.Resolved.{resolved_as}
 use Rattle.markdown_blocks.specs.FlowRule.{flow_at, flow_behaves}
-use Rattle.markdown_blocks.specs.Rows.{BlankRow, BreakRow, HeadingRow, Row, RowKind, TextRow, is_text, leaf_events, row_events, row_events_by, rows_events, tail_events}
+use Rattle.markdown_blocks.specs.Rows.{BlankRow, Row, RowKind, TextRow, is_text, leaf_events, row_events, row_events_by, rows_events, tail_events}
 use Rattle.markdown_blocks.specs.States.{FlowStep, flow_table_scheme, flow_transition}
 use Rattle.markdown_blocks.proofs.EachEvent.{Each, each-append, each-behind, each-drop, each-front, each-take}
 use Rattle.markdown_blocks.proofs.EachRow.{EachRow}

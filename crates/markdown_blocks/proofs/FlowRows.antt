@@ -32,11 +32,13 @@ use Rattle.md_seam.proofs.SpacesGoods.{rest-calm}
 use Rattle.markdown_blocks.specs.Change.{Change, change_by, container_name, ends_of, interrupts, open_behind, others_of}
 use Rattle.markdown_blocks.specs.FlowRule.{Rule, behind_containers, blank_ended, break_of, content_of, continues_at, ended, ended_to, existing_by, existing_from, flow_at, flow_lines, leaf_of, line_ended, line_then, new_from, new_of, nonblank_of, quote_opened, tried}
 use Rattle.markdown_blocks.specs.LineFlags.{begun_line, ending_name, next_line, stays, went_on}
-use Rattle.markdown_blocks.specs.Rows.{BlankRow, BreakRow, Front, Held, HeadingRow, Passed, Row, RowKind, TextRow, after_ending, break_inside, closes_before, ending_of, goes_at, held_at, held_by, held_of, in_front, inside_of, is_break, is_lazy, is_text, leaf_events, new_front, no_front, opens_at, quote_new, quote_on, row_events, row_kind, row_of, rows_at, rows_events, went_front}
+use Rattle.markdown_blocks.specs.Rows.{BlankRow, Front, Held, Passed, Row, RowKind, TextRow, after_ending, closes_before, ending_of, goes_at, held_at, held_by, held_of, in_front, inside_of, is_lazy, is_text, leaf_events, new_front, no_front, opens_at, quote_new, quote_on, row_events, row_kind, row_of, rows_at, rows_events, went_front}
 use Rattle.markdown_blocks.specs.Stands.{AreOpen, MatchesContainer}
 use Rattle.markdown_blocks.proofs.ContainedLemmas.{lazy-some}
 use Rattle.markdown_blocks.proofs.FlowLemmas.{from_ending-shrinks}
-use Rattle.markdown_blocks.proofs.LeafRows.{blank-refused, blank-took, break-refused, break-took, chunk-took}
+use Rattle.markdown_blocks.proofs.LeafRows.{blank-refused, blank-took, chunk-took}
+use Rattle.markdown_blocks.specs.Leaf.ThematicBreak.{break_inside, is_break}
+use Rattle.markdown_blocks.proofs.ThematicBreak.Trial.{break-refused, break-took}
 
 -- The leaf of a line, by its kind.
 

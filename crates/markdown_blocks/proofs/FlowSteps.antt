@@ -28,14 +28,15 @@ use Rattle.md_seam.specs.Substituted.{Readings, Substituted}
 use Rattle.md_seam.proofs.SpelledLemmas.{Quiet, Roles, roles-append}
 use Rattle.markdown_blocks.specs.Change.{interrupts, open_behind, others_of}
 use Rattle.markdown_blocks.specs.FlowReads.{has_text}
-use Rattle.markdown_blocks.specs.Rows.{BlankRow, BreakRow, Front, HeadingRow, Held, Passed, Row, RowKind, TextRow, ending_of, first_cell, goes_at, held_at, in_front, inside_of, is_text, leaf_events, new_front, no_front, opens_at, quote_new, quote_on, row_events, row_events_by, row_kind, rows_at, rows_by, rows_events, tail_events, went_front}
+use Rattle.markdown_blocks.specs.Rows.{BlankRow, Front, Held, Passed, Row, RowKind, TextRow, ending_of, goes_at, held_at, in_front, inside_of, is_text, leaf_events, new_front, no_front, opens_at, quote_new, quote_on, row_events, row_events_by, row_kind, rows_at, rows_by, rows_events, tail_events, went_front}
 use Rattle.markdown_blocks.proofs.EachEvent.{Each}
 use Rattle.markdown_blocks.proofs.EachRow.{EachRow}
 use Rattle.markdown_blocks.proofs.FrontNames.{AreFront, front-append}
 use Rattle.markdown_blocks.proofs.GroupLemmas.{AreOutside, around-outside, front-outside, outside-append, outside-passes, quiet-outside, tail-outside}
-use Rattle.markdown_blocks.proofs.JoinedLemmas.{EachNoContent, NoContent, events-no_content, front-no_content, joined-passes, no_content-append, no_content-unwanted, nothing}
-use Rattle.markdown_blocks.proofs.RowLemmas.{quiet-runs}
+use Rattle.markdown_blocks.proofs.JoinedLemmas.{EachNoContent, events-no_content, front-no_content, joined-passes}
 use Rattle.markdown_blocks.proofs.SubstitutedLemmas.{keeps, keeps-each}
+use Rattle.markdown_blocks.specs.Leaf.ThematicBreak.{first_cell}
+use Rattle.markdown_blocks.proofs.ContentFacts.{NoContent, no_content-append, no_content-unwanted, nothing}
 
 -- What stands in front of a line that flow reads.
 

@@ -17,7 +17,7 @@ use Rattle.md_seam.proofs.SpelledLemmas.{Roles, roles-append}
 use Rattle.markdown_blocks.specs.Change.{container_name, ends_of}
 use Rattle.markdown_blocks.specs.Stands.{shape_of}
 use Rattle.markdown_blocks.proofs.FrontFacts.{Begins, Behind, LinePrefix, Goes, IsContinuationPrefix, IsOpeningPrefix, IsPrefix}
-use Rattle.markdown_blocks.proofs.TitleNests.{Spans, spans-append}
+use Rattle.markdown_blocks.proofs.SpanLemmas.{Spans, spans-append}
 
 -- Prefixes.
 

@@ -12,8 +12,7 @@ use Rattle.md_seam.specs.Standard.State.{Container, InFootnote, InItem, InQuote}
 use Rattle.md_seam.specs.Events.Tiles.{part_kind}
 use Rattle.markdown_blocks.specs.Change.{container_name, ends_of}
 use Rattle.markdown_blocks.proofs.FrontFacts.{Behind, Begins, LinePrefix, Goes, IsContinuationPrefix, IsOpeningPrefix, IsPrefix}
-use Rattle.markdown_blocks.proofs.PartFacts.{NoParts, no_links-append, no_parts-append}
-use Rattle.markdown_blocks.proofs.TitleFacts.{NoLinks}
+use Rattle.markdown_blocks.proofs.PartFacts.{NoLinks, NoParts, no_links-append, no_parts-append}
 
 -- Nothing of them is read later.
 

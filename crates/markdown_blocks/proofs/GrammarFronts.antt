@@ -9,7 +9,7 @@ use Rattle.md_seam.specs.Events.Nested.{enter, exit, pair}
 use Rattle.md_seam.specs.Standard.State.{Container, InQuote}
 use Rattle.md_seam.proofs.GrammarLemmas.{Leads, leads-append, leads-prefix, leads-rest}
 use Rattle.markdown_blocks.specs.Change.{container_name, ends_of}
-use Rattle.markdown_blocks.specs.Rows.{BlankRow, BreakRow, HeadingRow, RowKind, TextRow, ending_of}
+use Rattle.markdown_blocks.specs.Rows.{BlankRow, RowKind, TextRow, ending_of}
 use Rattle.markdown_blocks.proofs.FrontFacts.{Begins, Behind, LinePrefix, Goes, IsContinuationPrefix, IsOpeningPrefix, IsPrefix}
 use Rattle.markdown_blocks.proofs.FrontLemmas.{open_names}
 

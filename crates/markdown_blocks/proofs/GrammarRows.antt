@@ -1,5 +1,5 @@
 -- The events of a text keep the grammar of events, before its text parts are read and once they are.
-use Rattle.std.proofs.Common.{◌≡◌, ◌≢◌, ◌<◌, ℕ, Bool, true, false, cond, List, [], ◌∷◌, ◌++◌, refl, ap, sym, ◌∙◌, subst, append_assoc, append-nil, arith}
+use Rattle.std.proofs.Common.{◌≡◌, ◌≢◌, ◌<◌, ℕ, Bool, true, false, cond, List, [], ◌∷◌, ◌++◌, refl, ap, sym, ◌∙◌, subst, append_assoc, arith}
 use Rattle.std.specs.Prelude.{Option, Some, None}
 use Rattle.std.proofs.lemmas.Bool.Decides.{nat_tests}
 use Rattle.md_engine.specs.declared.configuration.ParseOptions.{ParseOptions}
@@ -24,7 +24,7 @@ use Rattle.md_seam.proofs.FeedLines.{ending-some}
 use Rattle.md_seam.proofs.GrammarLemmas.{IsWord, Leads, keeps-blocks, keeps-marked, leads-append, leads-around, leads-pair, leads-rest, leads-unless, maybe, word-behind}
 use Rattle.markdown_blocks.specs.Change.{ends_of}
 use Rattle.markdown_blocks.specs.Document.{body_point, mark_end, mark_events}
-use Rattle.markdown_blocks.specs.Rows.{BlankRow, BreakRow, Group, HeadingRow, Lines, Row, RowKind, Single, TextRow, behind_row, ending_events, ending_of, group_events, groups, groups_events, last_row, onto_groups, goes_on, read_lines, read_text, row_events_by, row_line, row_title, single_events_by, tail_events}
+use Rattle.markdown_blocks.specs.Rows.{BlankRow, Group, Lines, Row, RowKind, Single, TextRow, behind_row, ending_events, ending_of, group_events, groups, groups_events, last_row, onto_groups, goes_on, read_lines, row_events_by, row_line, single_events_by, tail_events}
 use Rattle.markdown_blocks.specs.Unread.{linked_lines, titled_group, titled_groups, titled_row_by}
 use Rattle.markdown_blocks.proofs.FrontLemmas.{open_names}
 use Rattle.markdown_blocks.proofs.GrammarFronts.{behind-ends, behinds, behinds-append, blocks_behind, ending-leads, ends-lead, front-leads, front-stays}
@@ -32,8 +32,9 @@ use Rattle.markdown_blocks.proofs.GroupLemmas.{AreGroups, EndsBeforeGroups, IsPa
 use Rattle.markdown_blocks.proofs.JoinedLemmas.{EachEnds, EachNoContent, behind-is, ending-is}
 use Rattle.markdown_blocks.proofs.LineKinds.{heading-kind}
 use Rattle.markdown_blocks.proofs.NestedRows.{ByLines, Ordered, rows-hold}
-use Rattle.markdown_blocks.proofs.RowFacts.{AreRows, IsEnding, IsInside, IsRow}
-use Rattle.markdown_blocks.proofs.WordsInside.{Worded}
+use Rattle.markdown_blocks.proofs.RowFacts.{AreRows, IsEnding, IsRow}
+use Rattle.markdown_blocks.proofs.HeadingAtx.Words.{IsHeadingText, linked-text, read-text}
+use Rattle.markdown_blocks.specs.Leaf.HeadingAtx.{read_text}
 
 -- A line that is no text has an ending if more follows.
 
@@ -192,10 +193,6 @@ abbrev single_by : (Option Chunk → List Event) → List ℕ → RowKind → Ro
 single_by heading bytes HeadingRow row = row.front ++ around n.HeadingAtx row.first row.end ((row_title bytes row).front ++ heading (row_title bytes row).text ++ (row_title bytes row).back) ++ tail_events n.LineEnding row
 single_by heading bytes kind row = row_events_by kind row
 
--- what stands there is a text, or nothing
-abbrev IsHeadingText : Expression → List Event → Type 0
-IsHeadingText text events = (some : Bool) × ((x : Expression) → Leads text (x ∷ []) (maybe some n.HeadingAtxText x ∷ []) events)
-
 -- what stands in the place of such a line
 single-stands : (options : ParseOptions) (bytes line : List ℕ) (text : Expression) (heading : Option Chunk → List Event) (row : Row) →
     ((chunk : Option Chunk) → IsHeadingText text (heading chunk)) → IsRow options bytes line row → row.kind ≢ TextRow →
@@ -223,11 +220,6 @@ single-stands options bytes line text heading row texts is other BreakRow e =
 single-stands options bytes line text heading row texts is other TextRow e = absurd (other e)
 
 -- Before text parts are read.
-
--- the text of a heading is one chunk
-linked-text : (chunk : Option Chunk) → IsHeadingText unread_text (linked_text chunk)
-linked-text None = (false, λ x outer. refl)
-linked-text (Some chunk) = (true, λ x outer. refl)
 
 -- what is left of a text behind its first line
 abbrev unread_rest : Expression
@@ -284,7 +276,7 @@ text_left true = plain_text
 text_left false = behind n.LineEnding plain_text
 
 -- a chunk: its line and its ending, either of which may be empty
-chunk-word : (bytes : List ℕ) (first : Bool) (chunk : Chunk) → IsWord plain_text (text_left first ∷ []) (plain_chunk bytes chunk)
+pub chunk-word : (bytes : List ℕ) (first : Bool) (chunk : Chunk) → IsWord plain_text (text_left first ∷ []) (plain_chunk bytes chunk)
 chunk-word bytes first chunk =
     let end : Point = line_end bytes chunk in
     let line = leads-unless plain_text (text_left first) n.Data chunk.first end refl in
@@ -350,13 +342,6 @@ read-word options bytes first row (next ∷ rows) is =
     word-behind plain_text (text_left first ∷ []) (text_left false ∷ []) (chunk ++ next.front) (read_lines bytes next rows)
     (leads-append plain_text (text_left first ∷ []) (text_left false ∷ []) (text_left false ∷ []) chunk next.front (ended-leads options bytes is.0 first row is.3 is.1 is.4 is.5) front)
     (read-word options bytes false next rows is.7)
-
--- the text of a heading
-read-text : (bytes : List ℕ) (chunk : Option Chunk) → IsHeadingText plain_text (read_text bytes chunk)
-read-text bytes None = (false, λ x outer. refl)
-read-text bytes (Some chunk) =
-    let words : IsWord plain_text (plain_text ∷ []) (plain_chunk bytes chunk ++ []) = subst (IsWord plain_text (plain_text ∷ [])) (sym (append-nil (plain_chunk bytes chunk))) (chunk-word bytes true chunk) in
-    (true, λ x. leads-around plain_text x n.HeadingAtxText chunk.first chunk.after (plain_chunk bytes chunk ++ []) words)
 
 -- the lines that are no text
 read-single : (bytes : List ℕ) (row : Row) (kind : RowKind) → single_events_by bytes kind row ≡ single_by (read_text bytes) bytes kind row

@@ -1,10 +1,10 @@
 -- The events of the lines of a text, joined and read, are those of its blocks.
-use Rattle.std.proofs.Common.{◌≡◌, ◌≢◌, ℕ, ◌+◌, ◌-◌, ◌<◌, ◌≤◌, Bool, true, false, cond, ◌&&◌, List, [], ◌∷◌, ◌++◌, length, take, drop, slice_range, refl, ap, sym, ◌∙◌, subst, append_assoc, append-nil, drop-drop, arith}
-use Rattle.std.specs.Prelude.{◌==◌, not, IsTrue, Option, Some, None}
+use Rattle.std.proofs.Common.{◌≡◌, ◌≢◌, ℕ, ◌+◌, ◌-◌, ◌<◌, ◌≤◌, Bool, true, false, cond, ◌&&◌, List, [], ◌∷◌, ◌++◌, length, drop, slice_range, refl, ap, sym, ◌∙◌, subst, append_assoc, append-nil, drop-drop, arith}
+use Rattle.std.specs.Prelude.{◌==◌, not, Option, Some, None}
 use Rattle.std.specs.List.{list_all}
 use Rattle.std.proofs.lemmas.Bool.{and_from, eq-eqb, and_right}
 use Rattle.std.proofs.lemmas.Bool.Decides.{nat_tests}
-use Rattle.std.proofs.lemmas.List.{length-take-le, take-append-drop}
+use Rattle.std.proofs.lemmas.List.{take-append-drop}
 use Rattle.std.proofs.lemmas.List.Sums.{take_while-cons}
 use Rattle.md_engine.specs.declared.configuration.ParseOptions.{ParseOptions}
 use Rattle.md_engine.specs.declared.event.Content.{Content}
@@ -17,10 +17,8 @@ use Rattle.md_engine.specs.declared.event.Point.{Point}
 use Rattle.md_content.specs.Chunks.{content_link}
 use Rattle.md_content.specs.Joined.{joined}
 use Rattle.md_content.specs.Paragraph.{text_link}
-use Rattle.md_leaves.specs.Heading.{heading_link}
-use Rattle.md_leaves.specs.HeadingText.{Before, Outside, begins, headings_resolved, is_heading, linked_text, resolved}
-use Rattle.md_leaves.specs.HeadingTitle.{Title, front_len, text_of, title_of, unread_title}
-use Rattle.md_leaves.proofs.TitleLemmas.{title-fits, title-text}
+use Rattle.md_leaves.specs.HeadingText.{Before, Outside, begins, headings_resolved, is_heading, resolved}
+use Rattle.md_leaves.specs.HeadingTitle.{Title, title_of, unread_title}
 use Rattle.md_seam.specs.declared.inline.Chunk.{Chunk}
 use Rattle.md_seam.specs.declared.inline.PartKind.TheVariants.{Text}
 use Rattle.md_seam.specs.Events.Inline.{are_lines, is_none, is_one_line, line_end, pair_unless_empty, plain_chunk, plain_events}
@@ -31,25 +29,28 @@ use Rattle.md_seam.specs.Events.Spelled.{role}
 use Rattle.md_seam.specs.Standard.State.{Container}
 use Rattle.md_seam.specs.Substituted.{Readings, Substituted, belongs, chunks_behind}
 use Rattle.md_seam.specs.Standard.Texts.{split_lines}
-use Rattle.md_seam.proofs.InlineLemmas.{past-index}
 use Rattle.md_seam.proofs.SpelledLemmas.{Quiet, Roles}
-use Rattle.md_seam.proofs.TextsLemmas.{Ending, EndsBefore, LineFeed, NoEnding, Return, Both, ending_bytes, split-line, split-next, no_ending-drop}
+use Rattle.md_seam.proofs.TextsLemmas.{Ending, EndsBefore, LineFeed, NoEnding, Return, Both, ending_bytes, split-line, split-next}
 use Rattle.markdown_blocks.specs.Change.{container_name, ends_of}
 use Rattle.markdown_blocks.specs.Change as change
-use Rattle.markdown_blocks.specs.Rows.{BlankRow, BreakRow, Group, HeadingRow, Lines, Row, RowKind, Single, TextRow, behind_row, chunks_of, ending_events, goes_on, group_events, groups, groups_events, is_text, last_row, line_kind, onto_groups, paragraph_events, read_lines, read_text, read_title, row_events, row_events_by, row_title, rows_events, single_events_by, tail_events}
+use Rattle.markdown_blocks.specs.Rows.{BlankRow, Group, Lines, Row, RowKind, Single, TextRow, behind_row, chunks_of, ending_events, goes_on, group_events, groups, groups_events, is_text, last_row, line_kind, onto_groups, paragraph_events, read_lines, row_events, row_events_by, rows_events, single_events_by, tail_events}
 use Rattle.markdown_blocks.specs.Fronted.{contained, rest_from, rest_line}
 use Rattle.markdown_blocks.specs.Unread.{joined_groups, linked, linked_lines, titled_group, titled_groups, titled_row_by, unread_group, unread_groups, unread_paragraph}
-use Rattle.md_seam.proofs.FeedLines.{ending-some, past_text-whole, slice-inside}
+use Rattle.md_seam.proofs.FeedLines.{ending-some, past_text-whole}
 pub use Rattle.markdown_blocks.proofs.FrontNames.{HasFront}
 use Rattle.markdown_blocks.proofs.EachEvent.{Each, each-append}
 use Rattle.markdown_blocks.proofs.FrontNames.{AreFront, ArePrefixes, container-prefix, ends-are, ends-first, front-heading, fronts-are, fronts-prefixes, prefixes-front}
 use Rattle.markdown_blocks.proofs.FrontPlaces.{fronts-grow}
-use Rattle.markdown_blocks.proofs.JoinedLemmas.{EachEnds, EachFront, EachNoContent, HasNoContent, behind-is, ending-is, events-no_content, has_front-no_content, joined-rows, no_content-unwanted, tail-no_content}
-use Rattle.markdown_blocks.proofs.LineKinds.{heading-kind, no_ending-parts}
+use Rattle.markdown_blocks.proofs.JoinedLemmas.{EachEnds, EachFront, EachNoContent, HasNoContent, behind-is, ending-is, events-no_content, has_front-no_content, joined-rows, tail-no_content}
+use Rattle.markdown_blocks.proofs.LineKinds.{heading-kind}
 use Rattle.markdown_blocks.proofs.FrontFacts.{LinePrefix}
 use Rattle.markdown_blocks.proofs.RowFacts.{AreRows, IsEnding, IsLine, IsRow, behind_line, line-text}
-use Rattle.markdown_blocks.proofs.SubstitutedLemmas.{AllBelong, Becomes, CutAt, EachPrefixed, NextBelongs, Rest, Unwanted, becomes-append, becomes-around, becomes-same, behind-exit, line_after, lines-becomes, no_links-unwanted, part-becomes, passes, places}
-use Rattle.markdown_blocks.proofs.TitleFacts.{back-unlinked, front-unlinked, heading-resolved}
+use Rattle.markdown_blocks.proofs.SubstitutedLemmas.{AllBelong, Becomes, CutAt, EachPrefixed, NextBelongs, Rest, Unwanted, becomes-append, becomes-around, becomes-same, behind-exit, line_after, lines-becomes, passes, places}
+use Rattle.markdown_blocks.proofs.HeadingAtx.Facts.{heading-resolved}
+use Rattle.markdown_blocks.proofs.LeafFacts.{ReadsText}
+use Rattle.markdown_blocks.proofs.HeadingAtx.Texts.{title-becomes}
+use Rattle.markdown_blocks.specs.Leaf.HeadingAtx.{read_title}
+use Rattle.markdown_blocks.proofs.ContentFacts.{no_content-unwanted}
 
 -- The groups of a text.
 
@@ -487,87 +488,10 @@ headings-set options bytes open_before going p lines rows are quiet = groups-set
 
 -- The text of headings and paragraphs.
 
--- a reader of text gives for chunks that are lines, none of which ends within a tab, what the plain layer does
-abbrev pub ReadsText : List ℕ → Readings → Type 0
-ReadsText bytes reads =
-    (chunks : List Chunk) (answer : List Event) → reads content.Text chunks answer → (end : Point) → IsTrue (are_lines bytes end chunks) → IsTrue (list_all (λ (chunk : Chunk). chunk.after.vs == 0) chunks) →
-    answer ≡ plain_events bytes (record { kind = Text; chunks = chunks })
-
--- where the text of a heading stands on its line, and in the text
-pub record IsTitle (bytes line : List ℕ) (p : Point) : Type 0 where
-  pub slice : slice_range bytes (past_text (take (front_len line) line) p).index (past_text (take (front_len line + length (text_of line)) line) p).index ≡ text_of line
-  pub no_ending : NoEnding (text_of line)
-
-pub title-is : (options : ParseOptions) (bytes line : List ℕ) (row : Row) → IsRow options bytes line row → IsTitle bytes line row.first
-title-is options bytes line row is =
-    let p : Point = row.first in
-    let first : ℕ = front_len line in
-    let text : List ℕ = text_of line in
-    let size : ℕ = length text in
-    let fits = title-fits line in
-    let from : (past_text (take first line) p).index ≡ p.index + first = past-index (take first line) p ∙ ap (λ (k : ℕ). p.index + k) (length-take-le first line (omega (arith, fits))) in
-    let to : (past_text (take (first + size) line) p).index ≡ p.index + (first + size) = past-index (take (first + size) line) p ∙ ap (λ (k : ℕ). p.index + k) (length-take-le (first + size) line fits) in
-    let sum : p.index + (first + size) ≡ p.index + first + size = omega arith in
-    let parts : drop first line ≡ text ++ drop size (drop first line) = sym (take-append-drop size (drop first line)) ∙ ap (λ (l : List ℕ). l ++ drop size (drop first line)) (title-text line) in
-    let behind : NoEnding (drop first line) = no_ending-drop first line is.no_ending in
-    record {
-      slice =
-          ap (λ (k : ℕ). slice_range bytes k (past_text (take (first + size) line) p).index) from
-          ∙ ap (slice_range bytes (p.index + first)) (to ∙ sum)
-          ∙ slice-inside bytes line p.index row.end.index first size is.text is.size fits
-          ∙ title-text line;
-      no_ending = (no_ending-parts text (drop size (drop first line)) (subst NoEnding parts behind)).0;
-    }
-
--- the text of a heading is a line
-pub title-lines : (options : ParseOptions) (bytes line : List ℕ) (row : Row) → IsRow options bytes line row → 0 < length (text_of line) →
-    are_lines bytes (past_text (take (front_len line + length (text_of line)) line) row.first)
-    (record { first = past_text (take (front_len line) line) row.first; after = past_text (take (front_len line + length (text_of line)) line) row.first } ∷ []) ≡ true
-title-lines options bytes line row is some =
-    let end : Point = past_text (take (front_len line + length (text_of line)) line) row.first in
-    let title : IsTitle bytes line row.first = title-is options bytes line row is in
-    and_from _ _
-    (ap (λ (l : List ℕ). is_one_line (split_lines l) (same_place end end)) title.slice
-    ∙ one-last (text_of line) some title.no_ending (same_place end end) (and_from _ _ (eq-eqb end.index end.index refl) (eq-eqb end.vs end.vs refl)))
-    refl
-
 -- behind some bytes no tab is cut
 pub past-whole : (line : List ℕ) (p : Point) → 0 < length line → (past_text line p).vs ≡ 0
 past-whole [] p h = absurd (omega arith)
 past-whole (b ∷ bs) p h = past_text-whole bs (past_byte b p) refl
-
--- the text of a heading is read
-text-becomes : (options : ParseOptions) (bytes line : List ℕ) (row : Row) (wants : Content → Bool) (reads : Readings) → wants content.Text ≡ true → ReadsText bytes reads →
-    IsRow options bytes line row → Becomes wants reads (linked_text (title_of line row.first).text) (read_text bytes (title_of line row.first).text)
-text-becomes options bytes line row wants reads w rt is = go (length (text_of line) == 0) refl
-  where
-    begin : Point
-    begin = past_text (take (front_len line) line) row.first
-
-    end : Point
-    end = past_text (take (front_len line + length (text_of line)) line) row.first
-
-    chunk : Chunk
-    chunk = record { first = begin; after = end }
-
-    whole : 0 < length (text_of line) → list_all (λ (chunk : Chunk). chunk.after.vs == 0) (chunk ∷ []) ≡ true
-    whole some = and_from (end.vs == 0) true (eq-eqb end.vs 0 (past-whole (take (front_len line + length (text_of line)) line) row.first (let size = length-take-le (front_len line + length (text_of line)) line (title-fits line) in omega arith))) refl
-
-    go : (x : Bool) → (length (text_of line) == 0) ≡ x → Becomes wants reads (linked_text (cond x None (Some chunk))) (read_text bytes (cond x None (Some chunk)))
-    go true e = becomes-same wants reads [] tt
-    go false e =
-        let some : 0 < length (text_of line) = grind (arith, nat_tests) in
-        part-becomes wants reads n.HeadingAtxText n.Data heading_link begin end chunk (plain_events bytes (record { kind = Text; chunks = chunk ∷ [] })) w refl
-        (λ answer r. rt (chunk ∷ []) answer r end (title-lines options bytes line row is some) (whole some))
-
-title-becomes : (options : ParseOptions) (bytes line : List ℕ) (row : Row) (wants : Content → Bool) (reads : Readings) → wants content.Text ≡ true → ReadsText bytes reads →
-    IsRow options bytes line row → Becomes wants reads (unread_title (title_of line row.first)) (read_title bytes (title_of line row.first))
-title-becomes options bytes line row wants reads w rt is =
-    let title : Title = title_of line row.first in
-    becomes-append wants reads (title.front ++ linked_text title.text) (title.front ++ read_text bytes title.text) title.back title.back
-    (becomes-append wants reads title.front title.front (linked_text title.text) (read_text bytes title.text) (becomes-same wants reads title.front (no_links-unwanted wants title.front (front-unlinked line row.first)))
-    (text-becomes options bytes line row wants reads w rt is))
-    (becomes-same wants reads title.back (no_links-unwanted wants title.back (back-unlinked line row.first)))
 
 -- what stands between the front of a line and its tail
 leaf-becomes : (wants : Content → Bool) (reads : Readings) (front leaf read tail : List Event) → Unwanted wants front → Unwanted wants tail → Becomes wants reads leaf read → Becomes wants reads ((front ++ leaf) ++ tail) ((front ++ read) ++ tail)

@@ -1,5 +1,5 @@
 -- Lines of text that follow one another, joined.
-use Rattle.std.proofs.Common.{◌≡◌, ℕ, zero, suc, Bool, true, false, cond, ◌&&◌, nat_eq, List, [], ◌∷◌, ◌++◌, refl, ap, sym, ◌∙◌, subst, append_assoc}
+use Rattle.std.proofs.Common.{◌≡◌, ℕ, zero, suc, Bool, true, false, cond, ◌&&◌, List, [], ◌∷◌, ◌++◌, refl, ap, sym, ◌∙◌, subst, append_assoc}
 use Rattle.std.specs.Prelude.{Option, Some, None}
 use Rattle.std.proofs.lemmas.Bool.{and_right}
 use Rattle.md_engine.specs.declared.configuration.ParseOptions.{ParseOptions}
@@ -12,33 +12,23 @@ use Rattle.md_engine.specs.declared.event.Point.{Point}
 use Rattle.md_engine.specs.Meaning.{Cell}
 use Rattle.md_content.specs.Chunks.{content_link}
 use Rattle.md_content.specs.Joined.{content_behind, goes_on, is_content, joined}
-use Rattle.md_leaves.specs.BreakRule.{Apart, Marks, Run, White, runs}
+use Rattle.md_leaves.specs.BreakRule.{Apart, runs}
 use Rattle.md_leaves.specs.HeadingRule as heading
 use Rattle.md_seam.specs.Ahead.{begins_white, from_ending, line_cells, line_end, white_end, white_rest}
 use Rattle.md_seam.specs.Events.Inline.{is_line_ending}
-use Rattle.md_seam.specs.Events.Nested.{around, enter, enter_link, exit, pair, is_enter, is_exit}
+use Rattle.md_seam.specs.Events.Nested.{around, enter_link, exit, pair, is_enter, is_exit}
 use Rattle.md_seam.specs.Spaces.{small_indent}
 use Rattle.md_seam.specs.Standard.State.{Container, InFootnote, InItem, InQuote}
-use Rattle.md_seam.specs.Substituted.{is_prefix, wanted}
+use Rattle.md_seam.specs.Substituted.{is_prefix}
 use Rattle.markdown_blocks.specs.Change.{container_name, ends_of, is_none, open_behind}
-use Rattle.markdown_blocks.specs.Rows.{BlankRow, BreakRow, Group, HeadingRow, Held, Lines, Row, RowKind, Single, TextRow, behind_row, ending_events, ending_of, first_cell, groups, held_at, inside_of, is_text, last_row, leaf_events, onto_groups, onto_lines, row_events, row_events_by, row_kind, rows_at, rows_by, rows_events, tail_events}
+use Rattle.markdown_blocks.specs.Rows.{BlankRow, Group, Held, Lines, Row, RowKind, Single, TextRow, behind_row, ending_events, ending_of, groups, held_at, inside_of, is_text, last_row, leaf_events, onto_groups, onto_lines, row_events, row_events_by, row_kind, rows_at, rows_by, rows_events, tail_events}
 use Rattle.markdown_blocks.specs.Rows as lines
 use Rattle.markdown_blocks.specs.Unread.{joined_groups, linked_lines}
 use Rattle.markdown_blocks.proofs.FrontNames.{AreFront, HasFront, end-stops, ends-are, ends-first, front-content, fronts-are, fronts-prefixes, fronts-stop, prefixes-content}
-use Rattle.markdown_blocks.proofs.SubstitutedLemmas.{Unwanted, no_link-unwanted}
-
--- events none of which is content, or begins a chunk that the reader wants
-abbrev pub NoContent : (Content → Bool) → List Event → Type 0
-NoContent wants [] = Unit {0}
-NoContent wants (e ∷ es) = (unwanted : wanted wants e ≡ None) × (name : is_content e.name ≡ false) × NoContent wants es
-
-pub no_content-append : (wants : Content → Bool) (xs ys : List Event) → NoContent wants xs → NoContent wants ys → NoContent wants (xs ++ ys)
-no_content-append wants [] ys h k = k
-no_content-append wants (e ∷ xs) ys h k = (h.0, h.1, no_content-append wants xs ys h.2 k)
-
-pub no_content-unwanted : (wants : Content → Bool) (es : List Event) → NoContent wants es → Unwanted wants es
-no_content-unwanted wants [] h = tt
-no_content-unwanted wants (e ∷ es) h = (h.0, no_content-unwanted wants es h.2)
+use Rattle.markdown_blocks.proofs.SubstitutedLemmas.{no_link-unwanted}
+use Rattle.markdown_blocks.proofs.HeadingAtx.Joined.{title-no_content}
+use Rattle.markdown_blocks.specs.Leaf.ThematicBreak.{first_cell}
+use Rattle.markdown_blocks.proofs.ContentFacts.{NoContent, no_content-append, nothing}
 
 -- no content stands inside a line, and a heading alone has links, all to text
 abbrev pub HasNoContent : Row → Type 0
@@ -48,58 +38,7 @@ abbrev pub EachNoContent : List Row → Type 0
 EachNoContent [] = Unit {0}
 EachNoContent (row ∷ rows) = HasNoContent row × EachNoContent rows
 
--- a reader that wants nothing
-abbrev pub nothing : Content → Bool
-nothing _ = false
-
 -- Lines as flow reads them.
-
-runs-no_content : (wants : Content → Bool) (run : Run) (m : ℕ) (cells : List Cell) (p : Point) → NoContent wants (runs run m cells p)
-runs-no_content wants Apart m [] p = tt
-runs-no_content wants Marks m [] p = (refl, refl, tt)
-runs-no_content wants White m [] p = (refl, refl, tt)
-runs-no_content wants Apart m (c ∷ cs) p = go (nat_eq c.byte m) (runs-no_content wants Marks m cs c.after) (runs-no_content wants White m cs c.after)
-  where
-    go : (x : Bool) → NoContent wants (runs Marks m cs c.after) → NoContent wants (runs White m cs c.after) →
-        NoContent wants (cond x (enter n.ThematicBreakSequence p ∷ runs Marks m cs c.after) (enter n.SpaceOrTab p ∷ runs White m cs c.after))
-    go true h k = (refl, refl, h)
-    go false h k = (refl, refl, k)
-runs-no_content wants Marks m (c ∷ cs) p = go (nat_eq c.byte m) (runs-no_content wants Marks m cs c.after) (runs-no_content wants White m cs c.after)
-  where
-    go : (x : Bool) → NoContent wants (runs Marks m cs c.after) → NoContent wants (runs White m cs c.after) →
-        NoContent wants (cond x (runs Marks m cs c.after) (exit n.ThematicBreakSequence p ∷ enter n.SpaceOrTab p ∷ runs White m cs c.after))
-    go true h k = h
-    go false h k = (refl, refl, (refl, refl, k))
-runs-no_content wants White m (c ∷ cs) p = go (nat_eq c.byte m) (runs-no_content wants Marks m cs c.after) (runs-no_content wants White m cs c.after)
-  where
-    go : (x : Bool) → NoContent wants (runs Marks m cs c.after) → NoContent wants (runs White m cs c.after) →
-        NoContent wants (cond x (exit n.SpaceOrTab p ∷ enter n.ThematicBreakSequence p ∷ runs Marks m cs c.after) (runs White m cs c.after))
-    go true h k = (refl, refl, (refl, refl, h))
-    go false h k = k
-
--- the text of a heading is linked to text
-opens-no_content : (wants : Content → Bool) → wants content.Text ≡ false → (run : heading.Run) (p : Point) → NoContent wants (heading.opens run p)
-opens-no_content wants w heading.Apart p = tt
-opens-no_content wants w heading.White p = (refl, refl, tt)
-opens-no_content wants w heading.Hashes p = (refl, refl, tt)
-opens-no_content wants w heading.Text p = (ap (λ (x : Bool). cond x (Some content.Text) None) w, refl, tt)
-
-closes-no_content : (wants : Content → Bool) (run : heading.Run) (p : Point) → NoContent wants (heading.closes run p)
-closes-no_content wants heading.Apart p = tt
-closes-no_content wants heading.White p = (refl, refl, tt)
-closes-no_content wants heading.Hashes p = (refl, refl, tt)
-closes-no_content wants heading.Text p = (refl, refl, tt)
-
-title-no_content : (wants : Content → Bool) → wants content.Text ≡ false → (run : heading.Run) (cells : List Cell) (p : Point) → NoContent wants (heading.runs run cells p)
-title-no_content wants w run [] p = closes-no_content wants run p
-title-no_content wants w run (c ∷ cs) p = go (heading.goes_on run c.byte) (title-no_content wants w run cs c.after) (title-no_content wants w (heading.begun c.byte) cs c.after)
-  where
-    go : (x : Bool) → NoContent wants (heading.runs run cs c.after) → NoContent wants (heading.runs (heading.begun c.byte) cs c.after) →
-        NoContent wants (cond x (heading.runs run cs c.after) ((heading.closes run p ++ heading.opens (heading.begun c.byte) p) ++ heading.runs (heading.begun c.byte) cs c.after))
-    go true h k = h
-    go false h k =
-        no_content-append wants (heading.closes run p ++ heading.opens (heading.begun c.byte) p) (heading.runs (heading.begun c.byte) cs c.after)
-        (no_content-append wants (heading.closes run p) (heading.opens (heading.begun c.byte) p) (closes-no_content wants run p) (opens-no_content wants w (heading.begun c.byte) p)) k
 
 white-no_content : (wants : Content → Bool) (x : Bool) (p q : Point) → NoContent wants (cond x (pair n.SpaceOrTab p q) [])
 white-no_content wants true p q = (refl, refl, (refl, refl, tt))

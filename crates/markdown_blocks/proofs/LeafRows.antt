@@ -1,38 +1,14 @@
 -- The leaf of a line, by the construct that takes it: what it adds to the events and where it ends, or that it refuses the line.
-use Rattle.std.proofs.Common.{◌≡◌, ℕ, Bool, true, false, cond, List, [], ◌∷◌, ◌++◌, refl, sym, ◌∙◌, ap, ap₂, append_assoc}
-use Rattle.std.proofs.lemmas.Bool.{and_parts}
-use Rattle.md_engine.specs.declared.configuration.ParseOptions.{ParseOptions}
+use Rattle.std.proofs.Common.{◌≡◌, Bool, true, false, cond, List, [], ◌∷◌, ◌++◌, ap, append_assoc}
 use Rattle.md_engine.specs.declared.event.Event.{Event}
 use Rattle.md_engine.specs.declared.event.Name.TheVariants as n
-use Rattle.md_engine.specs.declared.event.Point.{Point}
-use Rattle.md_engine.specs.declared.tokenizer.Scratch.{Scratch}
 use Rattle.md_engine.specs.Meaning.{Accepts, Cell, Here, Outcome, Refuses}
 use Rattle.md_content.specs.ChunkRule.{chunk_at, inside_chunk}
 use Rattle.md_content.specs.Chunks.{content_link}
-use Rattle.md_leaves.specs.Break.{without_marker}
 use Rattle.md_leaves.specs.BlankRule.{blank_at, blank_events}
-use Rattle.md_leaves.specs.BreakRule.{Apart, before_marker, break_at, broken, runs}
-use Rattle.md_leaves.proofs.BreakSteps.{at-none, at-off, at-white, entered_here}
-use Rattle.md_seam.specs.Ahead.{begins_white, from_ending, line_bytes, line_cells, line_end, white_end, white_rest}
-use Rattle.md_seam.specs.Standard.Leaves.{is_rule}
-use Rattle.md_seam.specs.Events.Nested.{around, enter, enter_link, exit, pair}
+use Rattle.md_seam.specs.Ahead.{from_ending, line_bytes, line_end}
+use Rattle.md_seam.specs.Events.Nested.{enter_link, exit}
 use Rattle.md_seam.specs.Standard.Rest.{is_blank}
-use Rattle.md_seam.specs.Spaces.{IsRest, calmed, small_indent}
-use Rattle.md_seam.proofs.AheadLemmas.{none-end, none-rest, white-ending, white-line_end}
-use Rattle.md_seam.proofs.WhiteSteps.{behind_white}
-use Rattle.markdown_blocks.specs.Rows.{break_inside, first_cell, is_break}
-
-inside-none : (options : ParseOptions) (cells : List Cell) (p : Point) → begins_white cells ≡ false → break_inside options cells p ≡ runs Apart (first_cell cells) (line_cells cells) p
-inside-none options cells p e =
-    let room = small_indent options in
-    ap (λ (x : Bool). cond x (pair n.SpaceOrTab p (white_end room cells p)) [] ++ runs Apart (first_cell (white_rest room cells)) (line_cells (white_rest room cells)) (white_end room cells p)) e
-    ∙ ap₂ (λ (r : List Cell) (q : Point). runs Apart (first_cell r) (line_cells r) q) (none-rest room cells e) (none-end room cells p e)
-
-inside-white : (options : ParseOptions) (cells : List Cell) (p : Point) → begins_white cells ≡ true →
-    break_inside options cells p ≡ pair n.SpaceOrTab p (white_end (small_indent options) cells p) ++ runs Apart (first_cell (white_rest (small_indent options) cells)) (line_cells (white_rest (small_indent options) cells)) (white_end (small_indent options) cells p)
-inside-white options cells p e =
-    let room = small_indent options in
-    ap (λ (x : Bool). cond x (pair n.SpaceOrTab p (white_end room cells p)) [] ++ runs Apart (first_cell (white_rest room cells)) (line_cells (white_rest room cells)) (white_end room cells p)) e
 
 -- Constructs that take a line or refuse it, where the scratch is at rest.
 
@@ -46,100 +22,9 @@ unfolding blank_at
 blank-refused cells h e =
     ap (λ (x : Bool). cond x (Accepts (record h { events = h.events ++ blank_events cells h.point; point = line_end cells h.point }) (from_ending cells)) (Refuses h.scratch h.flags)) e
 
-marked : (cells : List Cell) (h : Here) → is_rule (line_bytes cells) ≡ true → before_marker cells h ≡ broken Apart (first_cell cells) cells h
-unfolding before_marker
-marked [] h e = cc
-marked (c ∷ cs) h e = ap (λ (x : Bool). cond x (broken Apart c.byte (c ∷ cs) h) (Refuses (without_marker h.scratch) h.flags)) e
-
-unmarked : (cells : List Cell) (h : Here) → is_rule (line_bytes cells) ≡ false → before_marker cells h ≡ Refuses (without_marker h.scratch) h.flags
-unfolding before_marker
-unmarked [] h e = refl
-unmarked (c ∷ cs) h e = ap (λ (x : Bool). cond x (broken Apart c.byte (c ∷ cs) h) (Refuses (without_marker h.scratch) h.flags)) e
-
-regroup : (es rs : List Event) (a d : Event) → (es ++ a ∷ []) ++ rs ++ d ∷ [] ≡ es ++ (a ∷ rs ++ d ∷ [])
-regroup es rs a d = ap (λ (xs : List Event). xs ++ d ∷ []) (append_assoc es (a ∷ []) rs) ∙ append_assoc es (a ∷ rs) (d ∷ [])
-
-regroup-white : (es rs : List Event) (a b c d : Event) → (es ++ a ∷ []) ++ b ∷ c ∷ [] ++ rs ++ d ∷ [] ≡ es ++ (a ∷ b ∷ c ∷ rs ++ d ∷ [])
-regroup-white es rs a b c d = ap (λ (xs : List Event). xs ++ d ∷ []) (append_assoc (es ++ a ∷ []) (b ∷ c ∷ []) rs) ∙ regroup es (b ∷ c ∷ rs) a d
-
-rest-marker : (s : Scratch) → IsRest s → without_marker s ≡ s
-rest-marker s e = ap without_marker e ∙ sym e
-
-rest-white : (s : Scratch) → IsRest s → without_marker (calmed s) ≡ s
-rest-white s e = ap (λ (t : Scratch). without_marker (calmed t)) e ∙ sym e
-
 -- a line that ends with what was added, where no paragraph is open
 abbrev shut_line : List Event → List Cell → Here → Outcome
 shut_line added cells h = Accepts (record h { events = h.events ++ added; point = line_end cells h.point; flags = record h.flags { interrupt = false } }) (from_ending cells)
-
-pub break-took : (options : ParseOptions) (cells : List Cell) (h : Here) → IsRest h.scratch → is_break options cells ≡ true →
-    break_at options cells h ≡ shut_line (around n.ThematicBreak h.point (line_end cells h.point) (break_inside options cells h.point)) cells h
-break-took options cells h is e = go (begins_white cells) refl
-  where
-    room : ℕ
-    room = small_indent options
-
-    p : Point
-    p = line_end cells h.point
-
-    q : Point
-    q = white_end (small_indent options) cells h.point
-
-    left : List Cell
-    left = white_rest (small_indent options) cells
-
-    on : options.constructs.thematic_break ≡ true
-    on = (and_parts options.constructs.thematic_break (is_rule (line_bytes (white_rest (small_indent options) cells))) e).0
-
-    rule : is_rule (line_bytes (white_rest (small_indent options) cells)) ≡ true
-    rule = (and_parts options.constructs.thematic_break (is_rule (line_bytes (white_rest (small_indent options) cells))) e).1
-
-    -- what it is up to its scratch, its events and its point
-    new : List Event → Point → Scratch → List Cell → Outcome
-    new es x s rest = Accepts (record { events = es; point = x; scratch = s; flags = record h.flags { interrupt = false } }) rest
-
-    go : (x : Bool) → begins_white cells ≡ x → break_at options cells h ≡ shut_line (around n.ThematicBreak h.point (line_end cells h.point) (break_inside options cells h.point)) cells h
-    go true s =
-        let at : Here = behind_white room cells (entered_here h) in
-        let end : line_end left q ≡ p = white-line_end room cells h.point in
-        let es : List Event = at.events ++ runs Apart (first_cell left) (line_cells left) q ++ exit n.ThematicBreak (line_end left q) ∷ [] in
-        let same : es ≡ h.events ++ around n.ThematicBreak h.point p (break_inside options cells h.point) =
-        regroup-white h.events (runs Apart (first_cell left) (line_cells left) q) (enter n.ThematicBreak h.point) (enter n.SpaceOrTab h.point) (exit n.SpaceOrTab q) (exit n.ThematicBreak (line_end left q))
-        ∙ ap₂ (λ (x : Point) (es : List Event). h.events ++ (enter n.ThematicBreak h.point ∷ es ++ exit n.ThematicBreak x ∷ [])) end (sym (inside-white options cells h.point s)) in
-        at-white options cells h on s ∙ marked left at rule
-        ∙ ap₂ (λ (x : Point) (t : Scratch). new es x t (from_ending left)) end (rest-white h.scratch is)
-        ∙ ap₂ (λ (xs : List Event) (rest : List Cell). new xs p h.scratch rest) same (white-ending room cells)
-    go false s =
-        let at : Here = entered_here h in
-        let here' : is_rule (line_bytes cells) ≡ true = sym (ap (λ (r : List Cell). is_rule (line_bytes r)) (none-rest room cells s)) ∙ rule in
-        let es : List Event = at.events ++ runs Apart (first_cell cells) (line_cells cells) h.point ++ exit n.ThematicBreak p ∷ [] in
-        let same : es ≡ h.events ++ around n.ThematicBreak h.point p (break_inside options cells h.point) =
-        regroup h.events (runs Apart (first_cell cells) (line_cells cells) h.point) (enter n.ThematicBreak h.point) (exit n.ThematicBreak p)
-        ∙ ap (λ (es : List Event). h.events ++ (enter n.ThematicBreak h.point ∷ es ++ exit n.ThematicBreak p ∷ [])) (sym (inside-none options cells h.point s)) in
-        at-none options cells h on s ∙ marked cells at here'
-        ∙ ap₂ (λ (xs : List Event) (t : Scratch). new xs p t (from_ending cells)) same (rest-marker h.scratch is)
-
-pub break-refused : (options : ParseOptions) (cells : List Cell) (h : Here) → IsRest h.scratch → is_break options cells ≡ false → break_at options cells h ≡ Refuses h.scratch h.flags
-break-refused options cells h is e = by options.constructs.thematic_break refl
-  where
-    room : ℕ
-    room = small_indent options
-
-    left : List Cell
-    left = white_rest (small_indent options) cells
-
-    go : options.constructs.thematic_break ≡ true → is_rule (line_bytes left) ≡ false → (x : Bool) → begins_white cells ≡ x → break_at options cells h ≡ Refuses h.scratch h.flags
-    go on rule true s =
-        at-white options cells h on s ∙ unmarked left (behind_white room cells (entered_here h)) rule
-        ∙ ap (λ (t : Scratch). Refuses t h.flags) (rest-white h.scratch is)
-    go on rule false s =
-        let here' : is_rule (line_bytes cells) ≡ false = sym (ap (λ (r : List Cell). is_rule (line_bytes r)) (none-rest room cells s)) ∙ rule in
-        at-none options cells h on s ∙ unmarked cells (entered_here h) here'
-        ∙ ap (λ (t : Scratch). Refuses t h.flags) (rest-marker h.scratch is)
-
-    by : (x : Bool) → options.constructs.thematic_break ≡ x → break_at options cells h ≡ Refuses h.scratch h.flags
-    by true on = go on (rw on at e) (begins_white cells) refl
-    by false off = at-off options cells h off
 
 pub chunk-took : (cells : List Cell) (h : Here) →
     chunk_at cells h ≡ Accepts (record h { events = h.events ++ (enter_link n.Content h.point content_link ∷ exit n.Content (line_end cells h.point) ∷ []); point = line_end cells h.point; flags = record h.flags { interrupt = true } }) (from_ending cells)

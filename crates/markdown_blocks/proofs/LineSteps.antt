@@ -17,10 +17,10 @@ use Rattle.md_seam.proofs.ContainerLemmas.{LeavesFewer, opens-leaves}
 use Rattle.markdown_blocks.specs.Change.{Change, change_by, interrupts, is_none, open_behind, others_of}
 use Rattle.markdown_blocks.specs.Fronted.{Contained, Prefixed, contained, cut_tab, no_prefix, one_more, prefixes_new, prefixes_on, rest_line}
 use Rattle.markdown_blocks.specs.Parsed.{IsBuilt}
-use Rattle.markdown_blocks.specs.Rows.{BlankRow, BreakRow, HeadingRow, RowKind, TextRow, is_lazy, is_text, line_kind}
-use Rattle.markdown_blocks.specs.Sections.{heading_block}
+use Rattle.markdown_blocks.specs.Rows.{BlankRow, RowKind, TextRow, is_lazy, is_text, line_kind}
 use Rattle.markdown_blocks.specs.Stands.{IsPlain, IsPlainLeaf, containers_of, is_going}
 use Rattle.markdown_blocks.proofs.ContainedLemmas.{change-opens, contained-size, lazy-opens, lazy-some}
+use Rattle.markdown_blocks.specs.Leaf.HeadingAtx.{heading_block}
 
 code-off : (options : ParseOptions) (against : ParagraphContext) (r : Rest) → options.constructs.code_indented ≡ false → code_at options against r ≡ None
 unfolding code_at

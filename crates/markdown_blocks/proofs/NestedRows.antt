@@ -1,6 +1,6 @@
 -- The events of a text nest, where only headings and breaks are on, in containers.
 use Rattle.std.proofs.Common.{◌≡◌, ◌≢◌, ℕ, suc, ◌+◌, Bool, true, false, cond, List, [], ◌∷◌, ◌++◌, length, refl, ap, sym, ◌∙◌, subst, append_assoc, append-nil, arith}
-use Rattle.std.specs.Prelude.{◌==◌, IsTrue, Option, Some, None}
+use Rattle.std.specs.Prelude.{IsTrue, Option, Some, None}
 use Rattle.std.proofs.lemmas.Bool.{and_parts}
 use Rattle.std.proofs.lemmas.Bool.Decides.{nat_tests}
 use Rattle.md_engine.specs.declared.configuration.ParseOptions.{ParseOptions}
@@ -8,95 +8,41 @@ use Rattle.md_engine.specs.declared.event.Event.{Event}
 use Rattle.md_engine.specs.declared.event.Name.{Name}
 use Rattle.md_engine.specs.declared.event.Name.TheVariants as n
 use Rattle.md_engine.specs.declared.event.Point.{Point}
-use Rattle.md_leaves.specs.HeadingTitle.{Title, text_of, title_of}
 use Rattle.md_seam.specs.declared.inline.Chunk.{Chunk}
-use Rattle.md_seam.specs.Events.Inline.{line_end, pair_unless_empty, plain_chunk}
-use Rattle.md_seam.specs.Events.Nested.{Balanced, Forward, Matches, around, enter, exit, last_point, open_after, pair}
-use Rattle.md_seam.specs.Events.Places.{at_or_before, past_text, same_place}
+use Rattle.md_seam.specs.Events.Inline.{plain_chunk}
+use Rattle.md_seam.specs.Events.Nested.{Balanced, Forward, Matches, around, enter, exit, last_point, open_after}
+use Rattle.md_seam.specs.Events.Places.{at_or_before, past_text}
 use Rattle.md_seam.specs.Standard.State.{Container}
-use Rattle.md_seam.proofs.InlineLemmas.{balanced-pair, end-before, end-behind, before-text}
-use Rattle.md_seam.proofs.NestedLemmas.{at_or_before-refl, at_or_before-trans, balanced-append, balanced-around, balanced-none, balanced-open, forward-append, forward-from, forward-front, forward-rest, matches-append, matches-before, matches-rest, open_after-append, open_after-before}
+use Rattle.md_seam.proofs.InlineLemmas.{before-text}
+use Rattle.md_seam.proofs.NestedLemmas.{at_or_before-refl, at_or_before-trans, balanced-append, balanced-none, balanced-open, forward-append, forward-from, forward-front, forward-rest, matches-append, matches-before, matches-rest, open_after-append, open_after-before}
 use Rattle.md_seam.proofs.TextsLemmas.{Both, Ending, LineFeed, Return, ending_bytes}
 use Rattle.markdown_blocks.specs.Change.{Change, ends_of, is_none, open_behind}
 use Rattle.markdown_blocks.specs.Fronted.{contained, rest_from, rest_line}
-use Rattle.markdown_blocks.specs.Rows.{BlankRow, BreakRow, Group, HeadingRow, Lines, Row, RowKind, Single, TextRow, behind_row, closes_before, ending_events, goes_on, groups, groups_events, is_text, last_row, onto_groups, read_lines, read_text, row_line, row_title, single_events_by, tail_events}
+use Rattle.markdown_blocks.specs.Rows.{LeafRow, ending_of, leaf_done, BlankRow, Group, Lines, Row, RowKind, Single, TextRow, behind_row, closes_before, ending_events, goes_on, groups, groups_events, is_text, last_row, onto_groups, read_lines, row_line, tail_events}
 use Rattle.markdown_blocks.proofs.ContainedLemmas.{contained-shapes, none-nil}
 use Rattle.markdown_blocks.proofs.FrontFacts.{LinePrefix}
 use Rattle.markdown_blocks.proofs.FrontLemmas.{Turns, ends-spans, ends-turn, fronts-balanced, fronts-spans, fronts-turn, names-append, open_names, shapes-names, turns-balanced}
 use Rattle.markdown_blocks.proofs.JoinedLemmas.{behind-is, behind-none}
-use Rattle.markdown_blocks.proofs.RowFacts.{AreRows, IsEnding, IsInside, IsLine, IsRow, behind_line}
-use Rattle.markdown_blocks.proofs.TitleNests.{Spans, back-balanced, back-span, blank-no_heading, break-no_heading, front-balanced, front-span, spans-append, text-order, text_begin, text_end}
+use Rattle.markdown_blocks.proofs.RowLeaf.{IsLeaf, row-leaf}
+use Rattle.markdown_blocks.proofs.RowFacts.{AreRows, IsEnding, IsLine, IsRow, behind_line}
+use Rattle.markdown_blocks.proofs.SpanLemmas.{Nested_in, Spans, around-nested, chunk-nested}
 
 -- Chunks.
 
-chunk-balanced : (bytes : List ℕ) (chunk : Chunk) → Balanced (plain_chunk bytes chunk)
-chunk-balanced bytes chunk =
-    let end : Point = line_end bytes chunk in
-    balanced-append (pair_unless_empty n.Data chunk.first end) (pair_unless_empty n.LineEnding end chunk.after) (balanced-pair n.Data chunk.first end) (balanced-pair n.LineEnding end chunk.after)
-
--- the events of a chunk go from its first point forward, and no further than to its end
-chunk-forward : (bytes : List ℕ) (chunk : Chunk) → IsTrue (at_or_before chunk.first chunk.after) →
-    Forward chunk.first (plain_chunk bytes chunk) × IsTrue (at_or_before (last_point chunk.first (plain_chunk bytes chunk)) chunk.after)
-chunk-forward bytes chunk h = go chunk.first (line_end bytes chunk) chunk.after (end-behind bytes chunk) (end-before bytes chunk h) (same_place chunk.first (line_end bytes chunk)) (same_place (line_end bytes chunk) chunk.after)
-  where
-    go : (p q r : Point) → IsTrue (at_or_before p q) → IsTrue (at_or_before q r) → (x y : Bool) →
-        Forward p (cond x [] (pair n.Data p q) ++ cond y [] (pair n.LineEnding q r)) × IsTrue (at_or_before (last_point p (cond x [] (pair n.Data p q) ++ cond y [] (pair n.LineEnding q r))) r)
-    go p q r h k true true = (tt, at_or_before-trans p q r h k)
-    go p q r h k true false = ((h, (k, tt)), at_or_before-refl r)
-    go p q r h k false true = ((at_or_before-refl p, (h, tt)), k)
-    go p q r h k false false = ((at_or_before-refl p, (h, (at_or_before-refl q, (k, tt)))), at_or_before-refl r)
-
 -- Headings.
-
--- events that nest between two points
-abbrev pub Nested_in : Point → Point → List Event → Type 0
-Nested_in p q es = Balanced es × Spans p q es
-
-pub nested_in-append : (p q r : Point) (xs ys : List Event) → Nested_in p q xs → Nested_in q r ys → Nested_in p r (xs ++ ys)
-nested_in-append p q r xs ys h k = (balanced-append xs ys h.0 k.0, spans-append p q r xs ys h.1 k.1)
-
--- the events of a chunk
-chunk-nested : (bytes : List ℕ) (chunk : Chunk) → IsTrue (at_or_before chunk.first chunk.after) → Nested_in chunk.first chunk.after (plain_chunk bytes chunk)
-chunk-nested bytes chunk h = (chunk-balanced bytes chunk, chunk-forward bytes chunk h)
-
-pub around-nested : (name : Name) (p q : Point) (inside : List Event) → Nested_in p q inside → Nested_in p q (around name p q inside)
-around-nested name p q inside h =
-    let ended : Spans p q (inside ++ exit name q ∷ []) = spans-append p q q inside (exit name q ∷ []) h.1 ((at_or_before-refl q, tt), at_or_before-refl q) in
-    (balanced-around (enter name p) (exit name q) inside refl refl refl h.0, ((at_or_before-refl p, ended.0), ended.1))
-
--- the text of a heading, if there is one
-text-nested : (bytes line : List ℕ) (p : Point) → Nested_in (text_begin line p) (text_end line p) (read_text bytes (title_of line p).text)
-text-nested bytes line p = go (length (text_of line) == 0)
-  where
-    chunk : Chunk
-    chunk = record { first = text_begin line p; after = text_end line p }
-
-    go : (none : Bool) → Nested_in (text_begin line p) (text_end line p) (read_text bytes (cond none None (Some chunk)))
-    go true = (balanced-none, (tt, text-order line p))
-    go false =
-        around-nested n.HeadingAtxText chunk.first chunk.after (plain_chunk bytes chunk ++ []) (subst (Nested_in chunk.first chunk.after) (sym (append-nil (plain_chunk bytes chunk))) (chunk-nested bytes chunk (text-order line p)))
-
--- what stands in a heading, whatever stands in the place of its text
-title-nested : (line : List ℕ) (p : Point) (text : List Event) → Nested_in (text_begin line p) (text_end line p) text → Nested_in p (past_text line p) ((title_of line p).front ++ text ++ (title_of line p).back)
-title-nested line p text h =
-    let title : Title = title_of line p in
-    let begin : Point = text_begin line p in
-    let end : Point = text_end line p in
-    nested_in-append p end (past_text line p) (title.front ++ text) title.back
-    (nested_in-append p begin end title.front text (front-balanced line p, front-span line p) h) (back-balanced line p, back-span line p)
 
 -- Lines.
 
 -- What stands on a line that begins at a point, and its ending: the points never go back.
 pub record Ordered (bytes : List ℕ) (p : Point) (row : Row) : Type 0 where
   pub front : LinePrefix bytes row.change.opens p row.first row.front
-  pub inside : row.kind ≢ HeadingRow → IsInside row
+  pub leaf : row.kind ≢ TextRow → IsLeaf bytes row
   pub end : row.end ≡ past_text (row_line bytes row) row.first
   pub ends : IsTrue (at_or_before row.end (behind_row row))
 
 -- the line of a text that a row tells of
 ordered : (options : ParseOptions) (bytes line : List ℕ) (p : Point) (row : Row) → LinePrefix bytes row.change.opens p row.first row.front → IsRow options bytes line row → IsTrue (at_or_before row.end (behind_row row)) → Ordered bytes p row
-ordered options bytes line p row front is ends = record { front = front; inside = is.inside; end = is.end ∙ ap (λ (l : List ℕ). past_text l row.first) (sym is.text); ends = ends }
+ordered options bytes line p row front is ends = record { front = front; leaf = row-leaf options bytes line row is; end = is.end ∙ ap (λ (l : List ℕ). past_text l row.first) (sym is.text); ends = ends }
 
 -- the ends of a line, and of the line with its ending
 pub line-order : (bytes : List ℕ) (p : Point) (row : Row) → Ordered bytes p row → IsTrue (at_or_before row.first row.end)
@@ -111,22 +57,6 @@ ending-nested name row = go row.after
     go : (after : Option Point) → IsTrue (at_or_before row.end (behind_row (record row { after = after }))) → Nested_in row.end (behind_row (record row { after = after })) (ending_events name (record row { after = after }))
     go None h = (balanced-none, (tt, h))
     go (Some q) h = (record { matches = (tt, (refl, tt)); closed = refl }, ((at_or_before-refl row.end, (h, tt)), at_or_before-refl q))
-
-inside-nested : (row : Row) → IsInside row → Nested_in row.first row.end row.inside
-inside-nested row is = (is.balanced, (is.forward, is.within))
-
--- what stands in a line behind its front: a blank line, a break and a heading
-pub blank-nested : (bytes : List ℕ) (p : Point) (row : Row) → Ordered bytes p row → row.kind ≡ BlankRow → Nested_in row.first row.end row.inside
-blank-nested bytes p row o e = inside-nested row (o.inside (blank-no_heading row.kind e))
-
-pub break-nested : (bytes : List ℕ) (p : Point) (row : Row) → Ordered bytes p row → row.kind ≡ BreakRow → Nested_in row.first row.end (around n.ThematicBreak row.first row.end row.inside)
-break-nested bytes p row o e = around-nested n.ThematicBreak row.first row.end row.inside (inside-nested row (o.inside (break-no_heading row.kind e)))
-
-pub heading-nested : (bytes : List ℕ) (p : Point) (row : Row) (text : List Event) → Ordered bytes p row → Nested_in (text_begin (row_line bytes row) row.first) (text_end (row_line bytes row) row.first) text →
-    Nested_in row.first row.end (around n.HeadingAtx row.first row.end ((row_title bytes row).front ++ text ++ (row_title bytes row).back))
-heading-nested bytes p row text o h =
-    let inside : List Event = (row_title bytes row).front ++ text ++ (row_title bytes row).back in
-    around-nested n.HeadingAtx row.first row.end inside (subst (λ (q : Point). Nested_in row.first q inside) (sym o.end) (title-nested (row_line bytes row) row.first text h))
 
 -- Groups.
 
@@ -218,8 +148,7 @@ Begun bytes p (Lines row rows ∷ gs) = Ordered bytes p row
 
 onto-begun : (bytes : List ℕ) (p : Point) (row : Row) (gs : List Group) (kind : RowKind) → Ordered bytes p row → Begun bytes p (onto_groups row kind gs)
 onto-begun bytes p row gs BlankRow o = o
-onto-begun bytes p row gs HeadingRow o = o
-onto-begun bytes p row gs BreakRow o = o
+onto-begun bytes p row gs (LeafRow l) o = o
 onto-begun bytes p row [] TextRow o = o
 onto-begun bytes p row (Single below ∷ gs) TextRow o = o
 onto-begun bytes p row (Lines below rows ∷ gs) TextRow o = go (goes_on row below)
@@ -232,8 +161,7 @@ onto-begun bytes p row (Lines below rows ∷ gs) TextRow o = go (goes_on row bel
 onto-holds : (bytes : List ℕ) (P : List Name → Point → List Group → Type 0) → ByLines bytes P → (names kept : List Name) (p : Point) (row : Row) (gs : List Group) → Ordered bytes p row → Keeps names row kept → Begun bytes (behind_row row) gs → P kept (behind_row row) gs →
     (kind : RowKind) → row.kind ≡ kind → P names p (onto_groups row kind gs)
 onto-holds bytes P by names kept p row gs o keeps begun h BlankRow e = by.single names kept p row gs o keeps (λ k. cc) h
-onto-holds bytes P by names kept p row gs o keeps begun h HeadingRow e = by.single names kept p row gs o keeps (λ k. cc) h
-onto-holds bytes P by names kept p row gs o keeps begun h BreakRow e = by.single names kept p row gs o keeps (λ k. cc) h
+onto-holds bytes P by names kept p row gs o keeps begun h (LeafRow l) e = by.single names kept p row gs o keeps (λ k. cc) h
 onto-holds bytes P by names kept p row [] o keeps begun h TextRow e = by.alone names kept p row [] o keeps h
 onto-holds bytes P by names kept p row (Single below ∷ gs) o keeps begun h TextRow e = by.alone names kept p row (Single below ∷ gs) o keeps h
 onto-holds bytes P by names kept p row (Lines below rows ∷ gs) o keeps begun h TextRow e = go (goes_on row below) refl
@@ -328,18 +256,10 @@ Nests bytes p gs = Onward p (groups_events bytes gs)
 abbrev NestsUnder : List ℕ → List Name → Point → List Group → Type 0
 NestsUnder bytes names p gs = Under names p (groups_events bytes gs)
 
-single-nested : (bytes : List ℕ) (names kept : List Name) (p : Point) (row : Row) (events : List Event) → Ordered bytes p row → Keeps names row kept → row.kind ≢ TextRow → Under kept (behind_row row) events → (kind : RowKind) → row.kind ≡ kind → Under names p (single_events_by bytes kind row ++ events)
-single-nested bytes names kept p row events o keeps other on BlankRow e = under-line bytes names kept p row n.BlankLineEnding row.inside events o keeps (blank-nested bytes p row o e) on
-single-nested bytes names kept p row events o keeps other on HeadingRow e =
-    let inside : List Event = (row_title bytes row).front ++ read_text bytes (row_title bytes row).text ++ (row_title bytes row).back in
-    under-line bytes names kept p row n.LineEnding (around n.HeadingAtx row.first row.end inside) events o keeps (heading-nested bytes p row (read_text bytes (row_title bytes row).text) o (text-nested bytes (row_line bytes row) row.first)) on
-single-nested bytes names kept p row events o keeps other on BreakRow e = under-line bytes names kept p row n.LineEnding (around n.ThematicBreak row.first row.end row.inside) events o keeps (break-nested bytes p row o e) on
-single-nested bytes names kept p row events o keeps other on TextRow e = absurd (other e)
-
 nests-by_lines : (bytes : List ℕ) → ByLines bytes (NestsUnder bytes)
 nests-by_lines bytes = record {
   none = λ p. record { matches = tt; closed = refl; forward = tt };
-  single = λ names kept p row gs o keeps other on. single-nested bytes names kept p row (groups_events bytes gs) o keeps other on row.kind refl;
+  single = λ names kept p row gs o keeps other on. under-line bytes names kept p row (ending_of row.kind) (leaf_done bytes row.kind row) (groups_events bytes gs) o keeps (o.leaf other).1.nested on;
   alone = λ names kept p row gs o keeps on.
       let chunk : Chunk = record { first = row.first; after = row.end } in
       let inside : List Event = plain_chunk bytes chunk in

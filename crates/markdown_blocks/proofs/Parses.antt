@@ -32,12 +32,11 @@ use Rattle.markdown_blocks.specs.Unread.{titled_groups, unread_groups}
 use Rattle.markdown_blocks.proofs.BetweenRows.{rows-between}
 use Rattle.markdown_blocks.proofs.EndingRows.{blocks-endings, events-endings}
 use Rattle.markdown_blocks.proofs.GrammarRows.{blocks-grammar, events-grammar}
-use Rattle.markdown_blocks.proofs.GroupLemmas.{ReadsText, content-read, headings-set, text-read}
+use Rattle.markdown_blocks.proofs.GroupLemmas.{content-read, headings-set, text-read}
 use Rattle.markdown_blocks.proofs.JoinedLemmas.{EachNoContent, rows_at-no_content}
 use Rattle.markdown_blocks.proofs.MarkLemmas.{body-between, body-column, body-index, body-vs, mark-nested, mark-outlined, mark-spelled}
 use Rattle.markdown_blocks.proofs.NestedRows.{Nests, rows-nest}
 use Rattle.markdown_blocks.proofs.ParagraphReads.{content-reads}
-use Rattle.markdown_blocks.proofs.PartFacts.{EachUnlinked, rows_at-unlinked}
 use Rattle.markdown_blocks.proofs.PieceRows.{blocks-pieces, events-pieces}
 use Rattle.markdown_blocks.proofs.PlainEvents.{groups-outlined}
 use Rattle.markdown_blocks.proofs.RowFacts.{AreRows}
@@ -46,6 +45,7 @@ use Rattle.markdown_blocks.proofs.TileCovers.{blocks-cover}
 use Rattle.markdown_blocks.proofs.TileParts.{blocks-chunks, blocks-nested, blocks-stand}
 use Rattle.markdown_blocks.proofs.TileReads.{groups-empty, text-filled}
 use Rattle.markdown_blocks.proofs.TreeRows.{tree-rows, tree-shallow}
+use Rattle.markdown_blocks.proofs.LeafFacts.{ReadsText}
 
 -- the lines of a text, behind its mark
 abbrev lines_of : List ℕ → List (List ℕ)

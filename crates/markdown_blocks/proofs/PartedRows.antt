@@ -1,5 +1,5 @@
 -- Prefixes part no text but that of a paragraph, and that at the begins of its lines.
-use Rattle.std.proofs.Common.{◌≡◌, ◌⊎◌, inl, inr, ℕ, zero, suc, ◌+◌, ◌-◌, ◌<◌, ◌≤◌, Bool, true, false, cond, ◌&&◌, ◌||◌, List, [], ◌∷◌, ◌++◌, length, get_or, take, drop, slice_range, refl, ap, sym, ◌∙◌, subst, append_assoc, append-nil, arith}
+use Rattle.std.proofs.Common.{◌≡◌, ◌⊎◌, inl, inr, ℕ, zero, suc, ◌+◌, ◌-◌, ◌<◌, ◌≤◌, Bool, true, false, cond, ◌&&◌, ◌||◌, List, [], ◌∷◌, ◌++◌, length, get_or, take, drop, slice_range, refl, ap, sym, ◌∙◌, subst, append_assoc, arith}
 use Rattle.std.specs.Prelude.{◌==◌, IsTrue, not, slice_index, Option, Some, None}
 use Rattle.std.specs.List.{onto_first}
 use Rattle.std.proofs.lemmas.Bool.{and_from, and_parts, true≢false}
@@ -8,70 +8,41 @@ use Rattle.std.proofs.lemmas.List.{get_or-drop, get_or-take}
 use Rattle.std.proofs.lemmas.List.Folds.{list_all-append}
 use Rattle.md_engine.specs.declared.configuration.ParseOptions.{ParseOptions}
 use Rattle.md_engine.specs.declared.event.Event.{Event}
-use Rattle.md_engine.specs.declared.event.Kind.{Kind}
-use Rattle.md_engine.specs.declared.event.Kind.TheVariants.{Enter, Exit}
 use Rattle.md_engine.specs.declared.event.Name.{Name}
 use Rattle.md_engine.specs.declared.event.Name.TheVariants as n
 use Rattle.md_engine.specs.declared.event.Point.{Point}
-use Rattle.md_leaves.specs.HeadingRule.{Apart, Hashes, Run, Text as TextRun, White, begun, closes, goes_on as runs_on, is_heading, opens}
-use Rattle.md_leaves.specs.HeadingTitle.{Title, chunk_unless_empty, front_len, line_runs, text_of, title_of}
+use Rattle.md_leaves.specs.HeadingRule.{is_heading, opens}
 use Rattle.md_seam.specs.declared.inline.Chunk.{Chunk}
 use Rattle.md_seam.specs.Events.Inline.{plain_chunk}
 use Rattle.md_seam.specs.Standard.Leaves.{is_rule}
 use Rattle.md_seam.specs.Standard.Lines.{begins_with, ends_line, is_ending}
 use Rattle.md_seam.specs.Events.Nested.{around, enter, exit, pair}
-use Rattle.md_seam.specs.Events.Places.{at_or_before, last_line, past_byte, same_place}
+use Rattle.md_seam.specs.Events.Places.{at_or_before, last_line, same_place}
 use Rattle.md_seam.specs.Standard.Rest.{Rest, is_blank, is_white, trim_start}
-use Rattle.md_seam.specs.Events.Spelled.{IsEnding as EndingRole, IsPrefix as PrefixRole, IsQuiet, Role, Tells, byte_at, role}
+use Rattle.md_seam.specs.Events.Spelled.{byte_at, role}
 use Rattle.md_seam.specs.Standard.State.{Container, InFootnote, InItem, InQuote}
 use Rattle.md_seam.specs.Standard.Texts.{split_lines}
 use Rattle.md_seam.proofs.RestCells.{Cut}
-use Rattle.md_seam.proofs.SpelledLemmas.{Quiet, QuietOrEnding, Roles, roles-append}
+use Rattle.md_seam.proofs.SpelledLemmas.{Roles, roles-append}
 use Rattle.md_seam.proofs.TextsLemmas.{Both, Ending, EndsBefore, LineFeed, NoEnding, Return, ending_bytes, split-line, split-next}
 use Rattle.md_outline.specs.Between.{is_between}
-use Rattle.md_outline.specs.Outlined.{TextSpan as Span, are_parted, begins_line, is_unparted, parts_by, span_by}
+use Rattle.md_outline.specs.Outlined.{TextSpan as Span, are_parted, begins_line}
 use Rattle.markdown_blocks.specs.Change.{container_name, ends_of, is_none}
 use Rattle.markdown_blocks.specs.Fronted.{contained, cut_tab, rest_from, rest_line}
-use Rattle.markdown_blocks.specs.Rows.{BlankRow, BreakRow, Group, HeadingRow, Lines, Row, RowKind, Single, TextRow, behind_row, ending_events, goes_on, groups, groups_events, is_text, last_row, line_kind, onto_groups, read_lines, read_text, read_title, row_line, row_title, single_events_by, tail_events}
-use Rattle.markdown_blocks.proofs.BetweenRows.{between-behind, ending-behind, further-between, is_low, white-at}
+use Rattle.markdown_blocks.specs.Rows.{BlankRow, Group, Lines, Row, RowKind, Single, TextRow, behind_row, ending_events, goes_on, groups, groups_events, is_text, last_row, line_kind, onto_groups, read_lines, row_line, single_events_by, tail_events}
+use Rattle.markdown_blocks.proofs.BetweenRows.{further-between}
 use Rattle.markdown_blocks.proofs.ContainedLemmas.{none-nil}
 use Rattle.markdown_blocks.proofs.FrontFacts.{Begins, Behind, LinePrefix, Goes, IsContinuationPrefix, IsOpeningPrefix, IsPrefix}
 use Rattle.markdown_blocks.proofs.FrontLemmas.{ends-roles, fronts-roles}
 use Rattle.markdown_blocks.proofs.FrontPlaces.{byte-order}
-use Rattle.markdown_blocks.proofs.PlainRoles.{chunk-roles}
-use Rattle.markdown_blocks.proofs.RowFacts.{AreRows, IsEnding, IsInside, IsLine, behind_line, slice-split}
-use Rattle.markdown_blocks.proofs.TitleNests.{blank-no_heading, break-no_heading, text_begin, text_end}
+use Rattle.markdown_blocks.proofs.RowFacts.{AreRows, IsEnding, IsLine, behind_line, slice-split}
+use Rattle.markdown_blocks.proofs.HeadingAtx.Places.{blank-no_heading, break-no_heading}
+use Rattle.markdown_blocks.proofs.PartedFacts.{Sits, Still, around-sits, byte-from, clear, clear-between, low-clear, passes-chunk, quiets-still, sits-append, sits-still}
+use Rattle.markdown_blocks.proofs.HeadingAtx.Parted.{title-sits}
+use Rattle.markdown_blocks.specs.Leaf.HeadingAtx.{read_title}
+use Rattle.markdown_blocks.proofs.BetweenFacts.{ending-behind, is_low, white-at}
 
 -- Points that cut a tab.
-
--- a point that cuts no tab, or one behind whose tab is a place between characters
-abbrev pub clear : List ℕ → Point → Bool
-clear bytes p = (p.vs == 0) || is_between bytes (byte_at p)
-
-pub clear-between : (bytes : List ℕ) (p : Point) → clear bytes p ≡ true → is_between bytes p.index ≡ true → is_between bytes (byte_at p) ≡ true
-clear-between bytes p h k = go (p.vs == 0) h
-  where
-    go : (x : Bool) → (x || is_between bytes (cond x p.index (p.index + 1))) ≡ true → is_between bytes (cond x p.index (p.index + 1)) ≡ true
-    go true h = k
-    go false h = h
-
--- behind a byte of ASCII
-low-clear : (bytes : List ℕ) (p : Point) → ((p.vs == 0) ≡ false → is_low (slice_index bytes p.index) ≡ true) → clear bytes p ≡ true
-low-clear bytes p h = go (p.vs == 0) refl
-  where
-    same : p.index + 1 - 1 ≡ p.index
-    same = omega arith
-
-    go : (x : Bool) → (p.vs == 0) ≡ x → (x || is_between bytes (cond x p.index (p.index + 1))) ≡ true
-    go true e = refl
-    go false e = between-behind bytes (p.index + 1) (subst (λ (i : ℕ). is_low (slice_index bytes i) ≡ true) (sym same) (h e))
-
-byte-from : (p : Point) → p.index ≤ byte_at p
-byte-from p = go (p.vs == 0)
-  where
-    go : (x : Bool) → p.index ≤ cond x p.index (p.index + 1)
-    go true = omega arith
-    go false = omega arith
 
 -- a prefix begins at such a point, and so does what stands in front of a line whose rest does
 prefix-clear : (bytes : List ℕ) (p q : Point) (es : List Event) → IsPrefix bytes p q es → clear bytes p ≡ true
@@ -244,69 +215,11 @@ fronts-parted bytes _ p r _ span rest (Begins c opens _ q _ es fs is more) e bet
 
 -- Events outside of texts.
 
--- no text begins in them that does not end
-abbrev Sits : List ℕ → List Event → Type 0
-Sits bytes xs = (ys : List Event) → are_parted bytes None ys ≡ true → are_parted bytes None (xs ++ ys) ≡ true
-
-sits-append : (bytes : List ℕ) (xs ys : List Event) → Sits bytes xs → Sits bytes ys → Sits bytes (xs ++ ys)
-sits-append bytes xs ys h k zs z = ap (are_parted bytes None) (append_assoc xs ys zs) ∙ h (ys ++ zs) (k zs z)
-
--- what is no text
-abbrev Still : Role → Type 0
-Still (Tells purpose) = ⊥
-Still _ = Unit {0}
-
 -- so is the name of a container
 container-still : (c : Container) → Still (role (container_name c))
 container-still InQuote = tt
 container-still (InItem digits marker width starts_blank) = tt
 container-still (InFootnote label) = tt
-
-still-span : (kind : Kind) (x : Role) (p : Point) → Still x → span_by kind x p None ≡ None
-still-span Enter (Tells purpose) p h = absurd h
-still-span Exit (Tells purpose) p h = absurd h
-still-span Enter PrefixRole p h = refl
-still-span Exit PrefixRole p h = refl
-still-span Enter _ p h = refl
-still-span Exit _ p h = refl
-
-sits-still : (bytes : List ℕ) (xs : List Event) → Roles Still xs → Sits bytes xs
-sits-still bytes [] h ys k = k
-sits-still bytes (e ∷ xs) h ys k = ap (λ (s : Option Span). are_parted bytes s (xs ++ ys)) (still-span e.kind (role e.name) e.point h.0) ∙ sits-still bytes xs h.1 ys k
-
-quiet-still : (x : Role) → Quiet x → Still x
-quiet-still IsQuiet h = tt
-quiet-still _ h = absurd h
-
-quiets-still : (es : List Event) → Roles Quiet es → Roles Still es
-quiets-still [] h = tt
-quiets-still (e ∷ es) h = (quiet-still (role e.name) h.0, quiets-still es h.1)
-
--- what stands in a text and parts it not
-parts-quiet : (bytes : List ℕ) (kind : Kind) (x : Role) (p : Point) (s : Option Span) → QuietOrEnding x → parts_by bytes kind x p s ≡ true
-parts-quiet bytes kind x p None h = refl
-parts-quiet bytes Enter IsQuiet p (Some span) h = refl
-parts-quiet bytes Exit IsQuiet p (Some span) h = refl
-parts-quiet bytes Enter EndingRole p (Some span) h = refl
-parts-quiet bytes Exit EndingRole p (Some span) h = refl
-parts-quiet bytes kind _ p (Some span) h = absurd h
-
-span-quiet : (kind : Kind) (x : Role) (p : Point) (s : Option Span) → QuietOrEnding x → span_by kind x p s ≡ s
-span-quiet Enter IsQuiet p s h = refl
-span-quiet Exit IsQuiet p s h = refl
-span-quiet Enter EndingRole p s h = refl
-span-quiet Exit EndingRole p s h = refl
-span-quiet kind _ p s h = absurd h
-
-passes : (bytes : List ℕ) (s : Option Span) (xs ys : List Event) → Roles QuietOrEnding xs → are_parted bytes s (xs ++ ys) ≡ are_parted bytes s ys
-passes bytes s [] ys h = refl
-passes bytes s (e ∷ xs) ys h =
-    ap (λ (x : Bool). x && are_parted bytes (span_by e.kind (role e.name) e.point s) (xs ++ ys)) (parts-quiet bytes e.kind (role e.name) e.point s h.0)
-    ∙ ap (λ (t : Option Span). are_parted bytes t (xs ++ ys)) (span-quiet e.kind (role e.name) e.point s h.0)
-    ∙ passes bytes s xs ys h.1
-
-passes-chunk : (bytes : List ℕ) (s : Option Span) (chunk : Chunk) (ys : List Event) → are_parted bytes s (plain_chunk bytes chunk ++ ys) ≡ are_parted bytes s ys
-passes-chunk bytes s chunk ys = passes bytes s (plain_chunk bytes chunk) ys (chunk-roles QuietOrEnding bytes chunk tt tt)
 
 -- the ends of containers, and an ending
 sits-tail : (bytes : List ℕ) (name : Name) (row : Row) → Still (role name) → Sits bytes (tail_events name row)
@@ -317,65 +230,6 @@ sits-tail bytes name row h = sits-still bytes (tail_events name row) (roles-appe
     go (Some q) = (h, (h, tt))
 
 -- Headings.
-
--- which text is read in a run
-abbrev InRun : Run → Option Span → Type 0
-InRun Hashes s = is_unparted s ≡ true
-InRun Apart s = s ≡ None
-InRun White s = s ≡ None
-InRun TextRun s = s ≡ None
-
-from-none : (bytes : List ℕ) (s : Option Span) (es : List Event) → s ≡ None → are_parted bytes None es ≡ true → are_parted bytes s es ≡ true
-from-none bytes s es e h = ap (λ (t : Option Span). are_parted bytes t es) e ∙ h
-
-closes-sit : (bytes : List ℕ) (run : Run) (p : Point) (s : Option Span) (ys : List Event) → InRun run s → are_parted bytes None ys ≡ true → are_parted bytes s (closes run p ++ ys) ≡ true
-closes-sit bytes Apart p s ys h k = from-none bytes s ys h k
-closes-sit bytes White p s ys h k = from-none bytes s (exit n.SpaceOrTab p ∷ ys) h k
-closes-sit bytes TextRun p s ys h k = from-none bytes s (exit n.Data p ∷ ys) h k
-closes-sit bytes Hashes p None ys h k = k
-closes-sit bytes Hashes p (Some span) ys h k = and_from (not span.is_parted) (are_parted bytes None ys) h k
-
-opens-sit : (bytes : List ℕ) (run : Run) (p : Point) (ys : List Event) → ((s : Option Span) → InRun run s → are_parted bytes s ys ≡ true) → are_parted bytes None (opens run p ++ ys) ≡ true
-opens-sit bytes Apart p ys f = f None refl
-opens-sit bytes White p ys f = f None refl
-opens-sit bytes TextRun p ys f = f None refl
-opens-sit bytes Hashes p ys f = f (Some (record { from = byte_at p; is_parted = false })) refl
-
-runs-sit : (bytes : List ℕ) (run : Run) (xs : List ℕ) (p : Point) (s : Option Span) (ys : List Event) → InRun run s → are_parted bytes None ys ≡ true → are_parted bytes s (line_runs run xs p ++ ys) ≡ true
-runs-sit bytes run [] p s ys h k = closes-sit bytes run p s ys h k
-runs-sit bytes run (b ∷ xs) p s ys h k = go (runs_on run b) (runs-sit bytes run xs (past_byte b p) s ys h k) (λ t i. runs-sit bytes (begun b) xs (past_byte b p) t ys i k)
-  where
-    go : (more : Bool) → are_parted bytes s (line_runs run xs (past_byte b p) ++ ys) ≡ true → ((t : Option Span) → InRun (begun b) t → are_parted bytes t (line_runs (begun b) xs (past_byte b p) ++ ys) ≡ true) →
-        are_parted bytes s (cond more (line_runs run xs (past_byte b p)) ((closes run p ++ opens (begun b) p) ++ line_runs (begun b) xs (past_byte b p)) ++ ys) ≡ true
-    go true same next = same
-    go false same next =
-        let rest : List Event = line_runs (begun b) xs (past_byte b p) in
-        let apart : ((closes run p ++ opens (begun b) p) ++ rest) ++ ys ≡ closes run p ++ (opens (begun b) p ++ (rest ++ ys)) = simp append_assoc in
-        ap (are_parted bytes s) apart ∙ closes-sit bytes run p s (opens (begun b) p ++ (rest ++ ys)) h (opens-sit bytes (begun b) p (rest ++ ys) next)
-
-text-sits : (bytes : List ℕ) (size : ℕ) (p q : Point) → Sits bytes (read_text bytes (chunk_unless_empty size p q))
-text-sits bytes size p q = go (size == 0)
-  where
-    go : (none : Bool) → Sits bytes (read_text bytes (cond none None (Some (record { first = p; after = q }))))
-    go true ys h = h
-    go false ys h =
-        let chunk : Chunk = record { first = p; after = q } in
-        let events : List Event = plain_chunk bytes chunk in
-        let apart : ((events ++ []) ++ exit n.HeadingAtxText q ∷ []) ++ ys ≡ events ++ (exit n.HeadingAtxText q ∷ ys) = simp (append_assoc, append-nil) in
-        let span : Option Span = Some (record { from = byte_at p; is_parted = false }) in
-        ap (are_parted bytes span) apart ∙ passes-chunk bytes span chunk (exit n.HeadingAtxText q ∷ ys) ∙ h
-
-title-sits : (bytes line : List ℕ) (p : Point) → Sits bytes (read_title bytes (title_of line p))
-title-sits bytes line p =
-    let title : Title = title_of line p in
-    let size : ℕ = length (text_of line) in
-    sits-append bytes (title.front ++ read_text bytes title.text) title.back
-    (sits-append bytes title.front (read_text bytes title.text) (λ ys h. runs-sit bytes Apart (take (front_len line) line) p None ys refl h) (text-sits bytes size (text_begin line p) (text_end line p)))
-    (λ ys h. runs-sit bytes Apart (drop (front_len line + size) line) (text_end line p) None ys refl h)
-
-around-sits : (bytes : List ℕ) (name : Name) (p q : Point) (inside : List Event) → Still (role name) → Sits bytes inside → Sits bytes (around name p q inside)
-around-sits bytes name p q inside h k =
-    sits-append bytes (enter name p ∷ []) (inside ++ exit name q ∷ []) (sits-still bytes (enter name p ∷ []) (h, tt)) (sits-append bytes inside (exit name q ∷ []) k (sits-still bytes (exit name q ∷ []) (h, tt)))
 
 -- Lines that are no text.
 

@@ -1,34 +1,27 @@
 -- What stands inside a blank line and a break is over its bytes.
-use Rattle.std.proofs.Common.{◌≡◌, ◌≢◌, ℕ, ◌^◌, ◌<◌, ◌≤◌, Bool, true, false, cond, ◌&&◌, List, [], ◌∷◌, ◌++◌, length, drop, refl, ap, sym, ◌∙◌, subst, append_assoc, arith}
-use Rattle.std.specs.List.{prefix_len}
-use Rattle.std.proofs.lemmas.List.{take-append-drop}
+use Rattle.std.proofs.Common.{◌≡◌, ◌≢◌, ℕ, ◌^◌, ◌<◌, ◌≤◌, Bool, true, false, cond, ◌&&◌, List, [], ◌∷◌, ◌++◌, length, drop, refl, ap, ◌∙◌, arith}
 use Rattle.std.proofs.lemmas.List.Sums.{list_all-from_AllPass}
 use Rattle.md_engine.specs.declared.configuration.ParseOptions.{ParseOptions}
-use Rattle.md_engine.specs.declared.event.Event.{Event}
 use Rattle.md_engine.specs.declared.event.Name.TheVariants as n
 use Rattle.md_engine.specs.declared.event.Point.{Point}
 use Rattle.md_engine.specs.declared.tokenizer.Line.{Line}
 use Rattle.md_engine.specs.Meaning.{Cell}
 use Rattle.md_leaves.specs.BlankRule.{blank_events}
-use Rattle.md_leaves.specs.BreakRule.{Apart, runs}
 use Rattle.md_leaves.specs.HeadingRule.{is_heading}
 use Rattle.md_leaves.proofs.TitleTexts.{front-passes}
-use Rattle.md_seam.specs.Ahead.{begins_white, line_cells, line_end, white_rest}
+use Rattle.md_seam.specs.Ahead.{begins_white, line_end}
 use Rattle.md_seam.specs.Events.Inline.{pieces}
 use Rattle.md_seam.specs.Standard.Leaves.{is_rule}
 use Rattle.md_seam.specs.Events.Nested.{pair}
 use Rattle.md_seam.specs.Events.Pieces.{pieces_stand}
 use Rattle.md_seam.specs.Events.Places.{past_byte, past_text}
 use Rattle.md_seam.specs.Standard.Rest.{is_blank, is_white, trim_start}
-use Rattle.md_seam.specs.Spaces.{small_indent}
-use Rattle.md_seam.proofs.FeedLines.{Stops, byte-one, drop-past, past_text-column, spread, stops-white}
-use Rattle.md_seam.proofs.InlineLemmas.{past-index, past-vs}
+use Rattle.md_seam.proofs.FeedLines.{Stops, byte-one, spread, stops-white}
 use Rattle.md_seam.proofs.TextsLemmas.{NoEnding}
-use Rattle.markdown_blocks.specs.Rows.{BlankRow, BreakRow, HeadingRow, RowKind, TextRow, break_inside, first_cell, inside_of, line_kind}
-use Rattle.markdown_blocks.proofs.LineKinds.{front-white, no_ending-trim, small-end, small-rest, spread-line, spread-line_end, white_front}
-use Rattle.markdown_blocks.proofs.PieceFacts.{CutsFirst, Stood, begins-cut, over-front, over-stands, pieces-both, stood-none, stood-pair, whole-first}
-use Rattle.markdown_blocks.proofs.PieceRuns.{rule-stand}
-use Rattle.markdown_blocks.proofs.PiecesLemmas.{pieces-ended}
+use Rattle.markdown_blocks.specs.Rows.{BlankRow, RowKind, TextRow, inside_of, line_kind}
+use Rattle.markdown_blocks.proofs.LineKinds.{front-white, spread-line_end, white_front}
+use Rattle.markdown_blocks.proofs.PieceFacts.{CutsFirst, Stood, begins-cut, over-front, over-stands, stood-none, stood-pair}
+use Rattle.markdown_blocks.proofs.ThematicBreak.Runs.{break-stand, kind-rule}
 
 -- The whitespace at the begin of a line.
 
@@ -71,57 +64,6 @@ blank-stand bytes line behind said p stop blank h k one e =
 
 -- A break.
 
--- its indent, and its runs
-break-stand : (options : ParseOptions) (bytes line behind : List ℕ) (said : Line) (p : Point) (stop : List Cell) → options.constructs.code_indented ≡ false → length (spread said line p ++ stop) < 2 ^ 63 → is_rule (trim_start line) ≡ true →
-    NoEnding line → Stops stop → 1 ≤ p.column → CutsFirst p line → drop p.index bytes ≡ line ++ behind → pieces_stand bytes (pieces (break_inside options (spread said line p ++ stop) p)) ≡ true
-break-stand options bytes line behind said p stop off short rule h k one cut e =
-    subst (λ (r : Point). Done (white_rest (small_indent options) cells) r) (sym (small-end options said line p stop off short k one))
-    (subst (λ (l : List Cell). Done l q) (sym (small-rest options said line p stop off short k one))
-    (ap (pieces_stand bytes) (pieces-ended white (marks (left ++ stop) q) indent.ends) ∙ pieces-both bytes (pieces white) (pieces (marks (left ++ stop) q)) indent.stand stand))
-  where
-    cells : List Cell
-    cells = spread said line p ++ stop
-
-    front : List ℕ
-    front = white_front line
-
-    q : Point
-    q = past_text (white_front line) p
-
-    left : List Cell
-    left = spread said (trim_start line) q
-
-    white : List Event
-    white = cond (begins_white cells) (pair n.SpaceOrTab p q) []
-
-    marks : List Cell → Point → List Event
-    marks l r = runs Apart (first_cell l) (line_cells l) r
-
-    Done : List Cell → Point → Type 0
-    Done l r = pieces_stand bytes (pieces (cond (begins_white cells) (pair n.SpaceOrTab p r) [] ++ marks l r)) ≡ true
-
-    parts : front ++ trim_start line ≡ line
-    parts = take-append-drop (prefix_len is_white line) line
-
-    apart : drop p.index bytes ≡ front ++ (trim_start line ++ behind)
-    apart = e ∙ ap (λ (l : List ℕ). l ++ behind) (sym parts) ∙ append_assoc front (trim_start line) behind
-
-    indent : Stood bytes white
-    indent = white-stood bytes cells p q front (trim_start line ++ behind) apart (front-blank line) refl (white-some said line p stop k)
-
-    at : drop q.index bytes ≡ trim_start line ++ behind
-    at = ap (λ (i : ℕ). drop i bytes) (past-index front p) ∙ drop-past bytes p.index front (trim_start line ++ behind) apart
-
-    -- a tab that is cut is taken with the indent
-    first : (front : List ℕ) → front ++ trim_start line ≡ line → CutsFirst (past_text front p) (trim_start line)
-    first [] same = subst (CutsFirst p) (sym same) cut
-    first (b ∷ front) same = whole-first (past_text (b ∷ front) p) (trim_start line) (past-vs b front p)
-
-    stand : pieces_stand bytes (pieces (marks (left ++ stop) q)) ≡ true
-    stand =
-        ap (λ (l : List Cell). pieces_stand bytes (pieces (runs Apart (first_cell (left ++ stop)) l q))) (spread-line said (trim_start line) q stop (no_ending-trim line h) k)
-        ∙ rule-stand bytes (trim_start line) behind said q stop rule at (first front parts) (past_text-column front p one)
-
 -- What a line is by its kind.
 
 -- a blank line
@@ -133,17 +75,6 @@ kind-blank options line e = go (is_blank line) (options.constructs.heading_atx &
     go false true z e = cc
     go false false true e = cc
     go false false false e = cc
-
--- a break
-kind-rule : (options : ParseOptions) (line : List ℕ) → line_kind options line ≡ BreakRow → is_rule (trim_start line) ≡ true
-kind-rule options line e = go (is_blank line) (options.constructs.heading_atx && is_heading (trim_start line)) options.constructs.thematic_break (is_rule (trim_start line)) e
-  where
-    go : (w x y z : Bool) → cond w BlankRow (cond x HeadingRow (cond (y && z) BreakRow TextRow)) ≡ BreakRow → z ≡ true
-    go true x y z e = cc
-    go false true y z e = cc
-    go false false true true e = refl
-    go false false true false e = cc
-    go false false false z e = cc
 
 -- What stands inside a line that is no heading.
 pub inside-stand : (options : ParseOptions) (bytes line behind : List ℕ) (said : Line) (p : Point) (stop : List Cell) → options.constructs.code_indented ≡ false → length (spread said line p ++ stop) < 2 ^ 63 →

@@ -19,17 +19,18 @@ use Rattle.md_seam.proofs.TextsLemmas.{Both, Ending, LineFeed, Return, ending_by
 use Rattle.markdown_blocks.specs.Change.{container_name, ends_of}
 use Rattle.markdown_blocks.specs.Document.{body_point, mark_end, mark_events}
 use Rattle.markdown_blocks.specs.Fronted.{contained, rest_from, rest_line}
-use Rattle.markdown_blocks.specs.Rows.{BlankRow, BreakRow, Group, HeadingRow, Lines, Row, RowKind, Single, TextRow, behind_row, ending_events, goes_on, group_events, groups, groups_events, is_text, last_row, line_kind, onto_groups, read_lines, read_title, row_events_by, row_title, single_events_by, tail_events}
+use Rattle.markdown_blocks.specs.Rows.{BlankRow, Group, Lines, Row, RowKind, Single, TextRow, behind_row, ending_events, goes_on, group_events, groups, groups_events, is_text, last_row, line_kind, onto_groups, read_lines, row_events_by, single_events_by, tail_events}
 use Rattle.markdown_blocks.specs.Unread.{linked_lines, titled_group, titled_groups, titled_row_by}
 use Rattle.markdown_blocks.proofs.EachRow.{EachRow, last-each}
 use Rattle.markdown_blocks.proofs.FrontFacts.{Behind, Begins, LinePrefix, Goes, IsContinuationPrefix, IsOpeningPrefix, IsPrefix}
 use Rattle.markdown_blocks.proofs.GroupLemmas.{text-some}
 use Rattle.md_seam.proofs.PreambleLemmas.{mark-bytes}
 use Rattle.markdown_blocks.proofs.PieceFacts.{Starts, Stood, begins-cut, begins-whole, chunk_span, over-stands, piece-stands, span, starts-append, stood-append, stood-around, stood-exit, stood-none, stood-pair}
-use Rattle.markdown_blocks.proofs.PieceTitles.{Chunked, Titled, chunked-alone, chunked-ended, ending-stands, line-ending, starts-tiled, titled}
+use Rattle.markdown_blocks.proofs.HeadingAtx.Pieces.{Chunked, Titled, chunked-alone, chunked-ended, ending-stands, line-ending, starts-tiled, titled}
 use Rattle.markdown_blocks.proofs.PiecesLemmas.{pieces-before}
 use Rattle.markdown_blocks.proofs.RowFacts.{AreRows, IsEnding, IsLine, IsRow, behind_line}
-use Rattle.markdown_blocks.proofs.TitleNests.{blank-no_heading, break-no_heading}
+use Rattle.markdown_blocks.proofs.HeadingAtx.Places.{blank-no_heading, break-no_heading}
+use Rattle.markdown_blocks.specs.Leaf.HeadingAtx.{read_title}
 
 -- Containers.
 

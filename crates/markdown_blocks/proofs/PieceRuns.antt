@@ -1,8 +1,8 @@
 -- The runs of a heading and of a break are over their bytes: whitespace, and one marker.
-use Rattle.std.proofs.Common.{◌≡◌, ◌≢◌, ℕ, zero, suc, ◌<◌, ◌≤◌, Bool, true, false, cond, ◌&&◌, ◌||◌, List, [], ◌∷◌, ◌++◌, length, drop, refl, ap, ap₂, sym, ◌∙◌, subst, append_assoc, arith}
-use Rattle.std.specs.Prelude.{◌==◌, nat_le, count_by}
-use Rattle.std.specs.List.{AllPass, list_all}
-use Rattle.std.proofs.lemmas.Bool.{and_from, and_parts, eq-eqb, eqb-true, or_left, or_right}
+use Rattle.std.proofs.Common.{◌≡◌, ◌≢◌, ℕ, ◌<◌, Bool, true, false, cond, ◌&&◌, ◌||◌, List, [], ◌∷◌, ◌++◌, length, drop, refl, ap, sym, ◌∙◌, append_assoc, arith}
+use Rattle.std.specs.Prelude.{◌==◌}
+use Rattle.std.specs.List.{list_all}
+use Rattle.std.proofs.lemmas.Bool.{and_from, eqb-true}
 use Rattle.std.proofs.lemmas.Bool.Decides.{nat_tests}
 use Rattle.std.proofs.lemmas.List.{length-append}
 use Rattle.std.proofs.lemmas.List.Folds.{list_all-append}
@@ -10,22 +10,14 @@ use Rattle.md_engine.specs.declared.event.Event.{Event}
 use Rattle.md_engine.specs.declared.event.Name.{Name}
 use Rattle.md_engine.specs.declared.event.Name.TheVariants as n
 use Rattle.md_engine.specs.declared.event.Point.{Point}
-use Rattle.md_engine.specs.declared.tokenizer.Line.{Line}
-use Rattle.md_engine.specs.Meaning.{Cell}
-use Rattle.md_leaves.specs.BreakRule.{Apart, Marks, Run, White, runs}
-use Rattle.md_leaves.specs.HeadingRule as heading
-use Rattle.md_leaves.specs.HeadingTitle.{line_runs}
-use Rattle.md_leaves.proofs.TitleLemmas.{is_mark}
-use Rattle.md_leaves.proofs.TitleRuns.{pass-first, pass-rest}
+use Rattle.md_leaves.specs.BreakRule.{Apart, Marks, Run, White}
 use Rattle.md_seam.specs.Events.Inline.{pieces, pieces_from}
-use Rattle.md_seam.specs.Standard.Leaves.{is_rule, is_rule_marker}
 use Rattle.md_seam.specs.Events.Nested.{enter, exit}
-use Rattle.md_seam.specs.Events.Pieces.{begins_in_tab, is_run, piece_stands, pieces_stand, stands_over}
+use Rattle.md_seam.specs.Events.Pieces.{begins_in_tab, piece_stands, pieces_stand, stands_over}
 use Rattle.md_seam.specs.Events.Places.{past_byte, past_text}
 use Rattle.md_seam.specs.Standard.Rest.{is_white}
-use Rattle.md_seam.proofs.FeedLines.{byte-one, byte_cells, cell, columns_more, drop-past, next_column, spread, tab_cells, tab_end, tab_end-last, tab_end-next, tab_end-stop}
+use Rattle.md_seam.proofs.FeedLines.{drop-past}
 use Rattle.md_seam.proofs.InlineLemmas.{past-index, past_text-append}
-use Rattle.markdown_blocks.specs.Rows.{first_cell}
 use Rattle.markdown_blocks.proofs.PieceFacts.{CutsFirst, Over, begins-cut, begins-whole, over-front, over-stands, span}
 
 -- The runs of a marker and of whitespace that are left of some bytes, where the marker's are of this name.
@@ -160,170 +152,4 @@ runs-stand bytes name m (b ∷ xs) rest p is apart marks e cut = go (b == m) ref
 
 -- Headings.
 
--- the runs of a heading, where the marker is `#`
-abbrev heading_run : Run → heading.Run
-heading_run Apart = heading.Apart
-heading_run Marks = heading.Hashes
-heading_run White = heading.White
-
--- where no text stands, the runs of a heading are of `#` and whitespace
-hashes-are : (run : Run) (xs : List ℕ) (p : Point) → AreMarks 35 xs → line_runs (heading_run run) xs p ≡ mark_runs n.HeadingAtxSequence run 35 xs p
-hashes-are Apart [] p h = refl
-hashes-are Marks [] p h = refl
-hashes-are White [] p h = refl
-hashes-are run (b ∷ xs) p h = go (b == 35) refl (hashes-are Marks xs (past_byte b p) h.1) (hashes-are White xs (past_byte b p) h.1)
-  where
-    q : Point
-    q = past_byte b p
-
-    hash : (b == 35) ≡ true → is_white b ≡ false
-    hash e = grind (arith, nat_tests)
-
-    go : (x : Bool) → (b == 35) ≡ x → line_runs heading.Hashes xs q ≡ mark_runs n.HeadingAtxSequence Marks 35 xs q → line_runs heading.White xs q ≡ mark_runs n.HeadingAtxSequence White 35 xs q →
-        line_runs (heading_run run) (b ∷ xs) p ≡ mark_runs n.HeadingAtxSequence run 35 (b ∷ xs) p
-    go true e marks white = by run
-      where
-        black : is_white b ≡ false
-        black = hash e
-
-        by : (run : Run) → line_runs (heading_run run) (b ∷ xs) p ≡ mark_runs n.HeadingAtxSequence run 35 (b ∷ xs) p
-        by Apart = rw (e, black) (ap (λ (es : List Event). enter n.HeadingAtxSequence p ∷ es) marks)
-        by Marks = rw e marks
-        by White = rw (e, black) (ap (λ (es : List Event). exit n.SpaceOrTab p ∷ enter n.HeadingAtxSequence p ∷ es) marks)
-    go false e marks white = by run
-      where
-        here : is_white b ≡ true
-        here = other-run 35 b h.0 e
-
-        by : (run : Run) → line_runs (heading_run run) (b ∷ xs) p ≡ mark_runs n.HeadingAtxSequence run 35 (b ∷ xs) p
-        by Apart = rw (e, here) (ap (λ (es : List Event). enter n.SpaceOrTab p ∷ es) white)
-        by Marks = rw (e, here) (ap (λ (es : List Event). exit n.HeadingAtxSequence p ∷ enter n.SpaceOrTab p ∷ es) white)
-        by White = rw (e, here) white
-
--- the bytes around the text of a heading
-marks-are : (bytes : List ℕ) → AllPass is_mark bytes → AreMarks 35 bytes
-marks-are [] h = tt
-marks-are (b ∷ bs) h = (turned (is_white b) (b == 35) (pass-first is_mark b bs h), marks-are bs (pass-rest is_mark b bs h))
-  where
-    turned : (x y : Bool) → (x || y) ≡ true → (y || x) ≡ true
-    turned true true e = refl
-    turned true false e = refl
-    turned false true e = refl
-    turned false false e = cc
-
--- a run of `#`
-hash-marker : IsMarker n.HeadingAtxSequence 35
-hash-marker ys some all = and_from (nat_le 1 (length ys)) (list_all (λ b. b == 35) ys) (grind (arith, nat_tests)) all
-
--- The runs around the text of a heading stand.
-pub hashes-stand : (bytes xs rest : List ℕ) (p : Point) → AllPass is_mark xs → drop p.index bytes ≡ xs ++ rest → CutsFirst p xs → pieces_stand bytes (pieces (line_runs heading.Apart xs p)) ≡ true
-hashes-stand bytes xs rest p marks e cut =
-    ap (λ (es : List Event). pieces_stand bytes (pieces es)) (hashes-are Apart xs p (marks-are xs marks)) ∙ runs-stand bytes n.HeadingAtxSequence 35 xs rest p hash-marker refl (marks-are xs marks) e cut
-
 -- Breaks, by the cells of their lines.
-
--- a tab lies in whitespace as a whole
-tab-white : (line : Line) (m k byte : ℕ) (p q : Point) (ys : List Cell) → (byte == m) ≡ false → (32 == m) ≡ false → runs White m (tab_cells line k byte p ++ ys) q ≡ runs White m ys (tab_end k p)
-tab-white line m zero byte p q ys e f = rw e (ap (runs White m ys) (tab_end-last p))
-tab-white line m (suc k) byte p q ys e f = rw e (tab-white line m k 32 (next_column p) (next_column p) ys f f ∙ ap (runs White m ys) (tab_end-next k p))
-
--- behind another run it begins whitespace
-tab-apart : (line : Line) (m k : ℕ) (p : Point) (ys : List Cell) → (9 == m) ≡ false → runs Apart m (tab_cells line k 9 p ++ ys) p ≡ enter n.SpaceOrTab p ∷ runs White m (tab_cells line k 9 p ++ ys) p
-tab-apart line m zero p ys e = rw e refl
-tab-apart line m (suc k) p ys e = rw e refl
-
--- behind a run of markers
-tab-marks : (line : Line) (m k : ℕ) (p : Point) (ys : List Cell) → (9 == m) ≡ false → runs Marks m (tab_cells line k 9 p ++ ys) p ≡ exit n.ThematicBreakSequence p ∷ enter n.SpaceOrTab p ∷ runs White m (tab_cells line k 9 p ++ ys) p
-tab-marks line m zero p ys e = rw e refl
-tab-marks line m (suc k) p ys e = rw e refl
-
--- the runs of cells are those of bytes
-abbrev Same : Run → ℕ → List Cell → List ℕ → Point → Type 0
-Same run m ys bs p = runs run m ys p ≡ mark_runs n.ThematicBreakSequence run m bs p
-
--- those of a tab
-tab-same : (run : Run) (line : Line) (m : ℕ) (p : Point) (ys : List Cell) (bs : List ℕ) → is_white m ≡ false → 1 ≤ p.column → Same White m ys bs (past_byte 9 p) → Same run m (tab_cells line (columns_more p) 9 p ++ ys) (9 ∷ bs) p
-tab-same run line m p ys bs black one more = go run
-  where
-    tab : (9 == m) ≡ false
-    tab = grind (arith, nat_tests, black)
-
-    space : (32 == m) ≡ false
-    space = grind (arith, nat_tests, black)
-
-    white : runs White m (tab_cells line (columns_more p) 9 p ++ ys) p ≡ mark_runs n.ThematicBreakSequence White m bs (past_byte 9 p)
-    white = tab-white line m (columns_more p) 9 p p ys tab space ∙ ap (runs White m ys) (tab_end-stop p one) ∙ more
-
-    go : (run : Run) → Same run m (tab_cells line (columns_more p) 9 p ++ ys) (9 ∷ bs) p
-    go Apart = rw tab (tab-apart line m (columns_more p) p ys tab ∙ ap (λ (es : List Event). enter n.SpaceOrTab p ∷ es) white)
-    go Marks = rw tab (tab-marks line m (columns_more p) p ys tab ∙ ap (λ (es : List Event). exit n.ThematicBreakSequence p ∷ enter n.SpaceOrTab p ∷ es) white)
-    go White = rw tab white
-
--- those of a byte
-byte-same : (run : Run) (line : Line) (m b : ℕ) (p : Point) (ys : List Cell) (bs : List ℕ) → is_white m ≡ false → 1 ≤ p.column → ((run : Run) → Same run m ys bs (past_byte b p)) → Same run m (byte_cells line b p ++ ys) (b ∷ bs) p
-byte-same run line m b p ys bs black one = go (b == 9) refl
-  where
-    P : ℕ → Type 0
-    P c = ((run : Run) → Same run m ys bs (past_byte c p)) → Same run m (byte_cells line c p ++ ys) (c ∷ bs) p
-
-    whole : (run : Run) → ((run : Run) → Same run m ys bs (past_byte b p)) → Same run m (cell b (past_byte b p) line ∷ ys) (b ∷ bs) p
-    whole Apart more = ap₂ (λ (xs zs : List Event). cond (b == m) (enter n.ThematicBreakSequence p ∷ xs) (enter n.SpaceOrTab p ∷ zs)) (more Marks) (more White)
-    whole Marks more = ap₂ (λ (xs zs : List Event). cond (b == m) xs (exit n.ThematicBreakSequence p ∷ enter n.SpaceOrTab p ∷ zs)) (more Marks) (more White)
-    whole White more = ap₂ (λ (xs zs : List Event). cond (b == m) (exit n.SpaceOrTab p ∷ enter n.ThematicBreakSequence p ∷ xs) zs) (more Marks) (more White)
-
-    go : (t : Bool) → (b == 9) ≡ t → P b
-    go true e = subst P (sym (eqb-true b 9 e)) (λ more. tab-same run line m p ys bs black one (more White))
-    go false e = λ more. ap (λ (t : Bool). runs run m (cond t (tab_cells line (columns_more p) 9 p) (cell b (past_byte b p) line ∷ []) ++ ys) p) e ∙ whole run more
-
--- those of a line
-spread-same : (run : Run) (line : Line) (m : ℕ) (bytes : List ℕ) (p : Point) → is_white m ≡ false → 1 ≤ p.column → Same run m (spread line bytes p) bytes p
-spread-same Apart line m [] p black one = refl
-spread-same Marks line m [] p black one = refl
-spread-same White line m [] p black one = refl
-spread-same run line m (b ∷ bs) p black one =
-    byte-same run line m b p (spread line bs (past_byte b p)) bs black one (λ (r : Run). spread-same r line m bs (past_byte b p) black (omega arith))
-
--- a marker of breaks
-rule-marker : (m : ℕ) → is_rule_marker m ≡ true → IsMarker n.ThematicBreakSequence m
-rule-marker m e ys some all = go (m == 42) refl (m == 45) refl (m == 95) refl e
-  where
-    least : nat_le 1 (length ys) ≡ true
-    least = grind (arith, nat_tests, some)
-
-    run : (c : ℕ) → (m == c) ≡ true → is_run 1 c ys ≡ true
-    run c f = and_from (nat_le 1 (length ys)) (list_all (λ b. b == c) ys) least (subst (λ (d : ℕ). list_all (λ b. b == d) ys ≡ true) (eqb-true m c f) all)
-
-    go : (x : Bool) → (m == 42) ≡ x → (y : Bool) → (m == 45) ≡ y → (z : Bool) → (m == 95) ≡ z → (x || y || z) ≡ true → stands_over n.ThematicBreakSequence ys ≡ true
-    go true f y g z h e = or_left (is_run 1 42 ys || is_run 1 45 ys) (is_run 1 95 ys) (or_left (is_run 1 42 ys) (is_run 1 45 ys) (run 42 f))
-    go false f true g z h e = or_left (is_run 1 42 ys || is_run 1 45 ys) (is_run 1 95 ys) (or_right (is_run 1 42 ys) (is_run 1 45 ys) (run 45 g))
-    go false f false g true h e = or_right (is_run 1 42 ys || is_run 1 45 ys) (is_run 1 95 ys) (run 95 h)
-    go false f false g false h e = cc
-
--- the bytes of a rule
-rule-marks : (m : ℕ) (bs : List ℕ) → list_all (λ b. (b == m) || is_white b) bs ≡ true → AreMarks m bs
-rule-marks m [] h = tt
-rule-marks m (b ∷ bs) h = let both : (((b == m) || is_white b) ≡ true) × (list_all (λ b. (b == m) || is_white b) bs ≡ true) = and_parts ((b == m) || is_white b) (list_all (λ b. (b == m) || is_white b) bs) h in (both.0, rule-marks m bs both.1)
-
--- The runs of a break stand.
-pub rule-stand : (bytes text rest : List ℕ) (said : Line) (p : Point) (stop : List Cell) → is_rule text ≡ true → drop p.index bytes ≡ text ++ rest → CutsFirst p text → 1 ≤ p.column →
-    pieces_stand bytes (pieces (runs Apart (first_cell (spread said text p ++ stop)) (spread said text p) p)) ≡ true
-rule-stand bytes [] rest said p stop rule e cut one = cc
-rule-stand bytes (m ∷ text) rest said p stop rule e cut one =
-    ap (λ (c : ℕ). pieces_stand bytes (pieces (runs Apart c (spread said (m ∷ text) p) p))) first
-    ∙ ap (λ (es : List Event). pieces_stand bytes (pieces es)) (spread-same Apart said m (m ∷ text) p black one)
-    ∙ runs-stand bytes n.ThematicBreakSequence m (m ∷ text) rest p (rule-marker m marker) black (rule-marks m (m ∷ text) (and_from ((m == m) || is_white m) (list_all (λ b. (b == m) || is_white b) text) (ap (λ (x : Bool). x || is_white m) (eq-eqb m m refl)) all)) e cut
-  where
-    both : (is_rule_marker m && list_all (λ b. (b == m) || is_white b) text) ≡ true
-    both = (and_parts (is_rule_marker m && list_all (λ b. (b == m) || is_white b) text) (nat_le 2 (count_by (λ b. b == m) text)) rule).0
-
-    marker : is_rule_marker m ≡ true
-    marker = (and_parts (is_rule_marker m) (list_all (λ b. (b == m) || is_white b) text) both).0
-
-    all : list_all (λ b. (b == m) || is_white b) text ≡ true
-    all = (and_parts (is_rule_marker m) (list_all (λ b. (b == m) || is_white b) text) both).1
-
-    black : is_white m ≡ false
-    black = grind (arith, nat_tests, marker)
-
-    first : first_cell (spread said (m ∷ text) p ++ stop) ≡ m
-    first = ap (λ (l : List Cell). first_cell ((l ++ spread said text (past_byte m p)) ++ stop)) (byte-one said m p black)

@@ -1,98 +1,38 @@
 -- The events of a text where only quotes, headings and breaks are on are those that an outline can be made of.
-use Rattle.std.proofs.Common.{◌≡◌, ◌≢◌, ℕ, ◌+◌, Bool, true, false, cond, ◌||◌, ◌==◌, not, List, [], ◌∷◌, ◌++◌, length, map, take, drop, refl, sym, ◌∙◌, ap, subst}
+use Rattle.std.proofs.Common.{◌≡◌, ◌≢◌, ℕ, ◌+◌, Bool, true, false, cond, ◌||◌, ◌==◌, not, List, [], ◌∷◌, ◌++◌, map, refl, sym, ap, subst}
 use Rattle.std.specs.Prelude.{Option, Some, None}
 use Rattle.std.specs.List.{list_all}
 use Rattle.std.specs.Str.{IsUtf8}
 use Rattle.std.proofs.lemmas.Bool.{and_from, and_parts}
-use Rattle.std.proofs.lemmas.List.Folds.{list_all-append}
 use Rattle.md_engine.specs.declared.configuration.ParseOptions.{ParseOptions}
 use Rattle.md_engine.specs.declared.event.Event.{Event}
 use Rattle.md_engine.specs.declared.event.Name.{Name}
 use Rattle.md_engine.specs.declared.event.Name.TheVariants as n
 use Rattle.md_engine.specs.declared.event.Point.{Point}
-use Rattle.md_leaves.specs.HeadingRule.{Apart, Hashes, Run, Text as TextRun, White, begun, closes, goes_on, opens}
-use Rattle.md_leaves.specs.HeadingTitle.{Title, chunk_unless_empty, front_len, line_runs, text_of, title_of}
+use Rattle.md_leaves.specs.HeadingRule.{closes, opens}
 use Rattle.md_seam.specs.declared.inline.Chunk.{Chunk}
-use Rattle.md_seam.specs.Events.Inline.{line_end, plain_chunk}
+use Rattle.md_seam.specs.Events.Inline.{plain_chunk}
 use Rattle.md_seam.specs.Events.Nested.{Balanced, around, enter, exit, pair}
-use Rattle.md_seam.specs.Events.Places.{past_byte, past_text, same_place}
-use Rattle.md_seam.specs.Events.Spelled.{Holds, IsQuiet, Role, Shape, byte_at, role, spelled}
+use Rattle.md_seam.specs.Events.Places.{same_place}
+use Rattle.md_seam.specs.Events.Spelled.{Holds, Shape, byte_at, role, spelled}
 use Rattle.md_seam.specs.Standard.State.{Container, InFootnote, InItem, InQuote}
-use Rattle.md_seam.proofs.SpelledLemmas.{Quiet, Roles, roles-append}
+use Rattle.md_seam.proofs.SpelledLemmas.{Roles, roles-append}
 use Rattle.md_outline.specs.Between.{is_between}
-use Rattle.md_outline.specs.Outlined.{IsOutlined, are_shallow, has_plain_name, is_plain, is_told, tells_between}
+use Rattle.md_outline.specs.Outlined.{IsOutlined, are_shallow, is_plain, is_told, tells_between}
 use Rattle.markdown_blocks.specs.Change.{Change, container_name, ends_of}
 use Rattle.markdown_blocks.specs.Fronted.{contained, rest_from}
-use Rattle.markdown_blocks.specs.Rows.{BlankRow, BreakRow, Group, HeadingRow, Lines, Row, RowKind, Single, TextRow, behind_row, ending_events, group_events, groups, groups_events, is_text, last_row, read_lines, read_text, read_title, row_line, row_title, single_events_by, tail_events}
+use Rattle.markdown_blocks.specs.Rows.{BlankRow, Group, Lines, Row, RowKind, Single, TextRow, behind_row, ending_events, group_events, groups, groups_events, is_text, last_row, read_lines, row_line, single_events_by, tail_events}
 use Rattle.markdown_blocks.specs.Stands.{shape_of}
 use Rattle.markdown_blocks.proofs.ContainedLemmas.{contained-shapes}
 use Rattle.markdown_blocks.proofs.EachRow.{EachGroup, EachRow, OfGroup, groups-each, last-each}
 use Rattle.markdown_blocks.proofs.FrontFacts.{Begins, Behind, LinePrefix, Goes, IsContinuationPrefix, IsOpeningPrefix, IsPrefix}
-use Rattle.markdown_blocks.proofs.PartedRows.{clear, clear-between, rest-clear, rows-parted}
-use Rattle.markdown_blocks.proofs.RowFacts.{AreRows, IsInside, IsLine, behind_line}
-use Rattle.markdown_blocks.proofs.TitleNests.{blank-no_heading, break-no_heading, text_begin, text_end}
-
--- whether a text begins or ends at such a point
-abbrev pub is_clear : List ℕ → Event → Bool
-is_clear bytes e = not (is_told (role e.name)) || clear bytes e.point
-
--- what is known of the names and the points of events
-pub record ArePlain (bytes : List ℕ) (events : List Event) : Type 0 where
-  pub names : list_all has_plain_name events ≡ true
-  pub texts : list_all (is_clear bytes) events ≡ true
-
-plain-nil : (bytes : List ℕ) → ArePlain bytes []
-plain-nil bytes = record { names = refl; texts = refl }
-
-plain-append : (bytes : List ℕ) (xs ys : List Event) → ArePlain bytes xs → ArePlain bytes ys → ArePlain bytes (xs ++ ys)
-plain-append bytes xs ys h k = record {
-  names = list_all-append has_plain_name xs ys ∙ and_from (list_all has_plain_name xs) (list_all has_plain_name ys) h.names k.names;
-  texts = list_all-append (is_clear bytes) xs ys ∙ and_from (list_all (is_clear bytes) xs) (list_all (is_clear bytes) ys) h.texts k.texts;
-}
-
-plain-cons : (bytes : List ℕ) (e : Event) (es : List Event) → has_plain_name e ≡ true → is_clear bytes e ≡ true → ArePlain bytes es → ArePlain bytes (e ∷ es)
-plain-cons bytes e es h w k = record {
-  names = and_from (has_plain_name e) (list_all has_plain_name es) h k.names;
-  texts = and_from (is_clear bytes e) (list_all (is_clear bytes) es) w k.texts;
-}
-
--- a role that is plain, and no text
-abbrev Untold : Role → Type 0
-Untold x = (is_plain x ≡ true) × (not (is_told x) ≡ true)
-
-plain-untold : (bytes : List ℕ) (es : List Event) → Roles Untold es → ArePlain bytes es
-plain-untold bytes [] h = plain-nil bytes
-plain-untold bytes (e ∷ es) h = plain-cons bytes e es h.0.0 (ap (λ (x : Bool). x || clear bytes e.point) h.0.1) (plain-untold bytes es h.1)
-
-quiet-untold : (x : Role) → Quiet x → Untold x
-quiet-untold IsQuiet h = (refl, refl)
-quiet-untold _ h = absurd h
-
-quiets-untold : (es : List Event) → Roles Quiet es → Roles Untold es
-quiets-untold [] h = tt
-quiets-untold (e ∷ es) h = (quiet-untold (role e.name) h.0, quiets-untold es h.1)
-
--- what the tree does not show
-plain-quiet : (bytes : List ℕ) (es : List Event) → Roles Quiet es → ArePlain bytes es
-plain-quiet bytes es h = plain-untold bytes es (quiets-untold es h)
-
--- a part of such a name around such events, which begins and ends clear if the tree shows its text
-plain-around : (bytes : List ℕ) (name : Name) (p q : Point) (inside : List Event) → is_plain (role name) ≡ true → (not (is_told (role name)) || clear bytes p) ≡ true → (not (is_told (role name)) || clear bytes q) ≡ true → ArePlain bytes inside →
-    ArePlain bytes (around name p q inside)
-plain-around bytes name p q inside plain begin end h =
-    plain-cons bytes (enter name p) (inside ++ exit name q ∷ []) plain begin (plain-append bytes inside (exit name q ∷ []) h (plain-cons bytes (exit name q) [] plain end (plain-nil bytes)))
-
--- what the plain layer gives
-chunk-plain : (bytes : List ℕ) (chunk : Chunk) → ArePlain bytes (plain_chunk bytes chunk)
-chunk-plain bytes chunk = plain-append bytes _ _ (line (same_place chunk.first (line_end bytes chunk))) (ending (same_place (line_end bytes chunk) chunk.after))
-  where
-    line : (b : Bool) → ArePlain bytes (cond b [] (pair n.Data chunk.first (line_end bytes chunk)))
-    line true = record { names = refl; texts = refl }
-    line false = record { names = refl; texts = refl }
-
-    ending : (b : Bool) → ArePlain bytes (cond b [] (pair n.LineEnding (line_end bytes chunk) chunk.after))
-    ending true = record { names = refl; texts = refl }
-    ending false = record { names = refl; texts = refl }
+use Rattle.markdown_blocks.proofs.PartedRows.{rest-clear, rows-parted}
+use Rattle.markdown_blocks.proofs.RowFacts.{AreRows, IsLine, behind_line}
+use Rattle.markdown_blocks.proofs.HeadingAtx.Places.{blank-no_heading, break-no_heading}
+use Rattle.markdown_blocks.proofs.PlainFacts.{ArePlain, Untold, chunk-plain, is_clear, plain-append, plain-around, plain-cons, plain-nil, plain-quiet, plain-untold}
+use Rattle.markdown_blocks.proofs.HeadingAtx.Plain.{plain-title}
+use Rattle.markdown_blocks.specs.Leaf.HeadingAtx.{read_title}
+use Rattle.markdown_blocks.proofs.PartedFacts.{clear, clear-between}
 
 -- Containers.
 
@@ -168,54 +108,6 @@ plain-front bytes _ p r _ (Begins c opens _ q _ es fs is more) =
     plain-append bytes (enter (container_name c) p ∷ []) (es ++ fs) (plain-untold bytes (enter (container_name c) p ∷ []) (begin, tt)) (plain-append bytes es fs (plain-opening bytes c p q es is) (plain-front bytes opens q r fs more))
 
 -- Headings.
-
--- behind a piece of a line
-past-clear : (bytes xs : List ℕ) (p : Point) → clear bytes p ≡ true → clear bytes (past_text xs p) ≡ true
-past-clear bytes [] p h = h
-past-clear bytes (b ∷ xs) p h = past-clear bytes xs (past_byte b p) refl
-
--- the begin and the end of a run
-plain-closes : (bytes : List ℕ) (run : Run) (p : Point) → clear bytes p ≡ true → ArePlain bytes (closes run p)
-plain-closes bytes Apart p h = plain-nil bytes
-plain-closes bytes White p h = record { names = refl; texts = refl }
-plain-closes bytes Hashes p h = plain-cons bytes (exit n.HeadingAtxSequence p) [] refl h (plain-nil bytes)
-plain-closes bytes TextRun p h = record { names = refl; texts = refl }
-
-plain-opens : (bytes : List ℕ) (run : Run) (p : Point) → clear bytes p ≡ true → ArePlain bytes (opens run p)
-plain-opens bytes Apart p h = plain-nil bytes
-plain-opens bytes White p h = record { names = refl; texts = refl }
-plain-opens bytes Hashes p h = plain-cons bytes (enter n.HeadingAtxSequence p) [] refl h (plain-nil bytes)
-plain-opens bytes TextRun p h = record { names = refl; texts = refl }
-
-plain-runs : (bytes : List ℕ) (run : Run) (xs : List ℕ) (p : Point) → clear bytes p ≡ true → ArePlain bytes (line_runs run xs p)
-plain-runs bytes run [] p h = plain-closes bytes run p h
-plain-runs bytes run (b ∷ xs) p h = go (goes_on run b) (plain-runs bytes run xs (past_byte b p) refl) (plain-runs bytes (begun b) xs (past_byte b p) refl)
-  where
-    go : (more : Bool) → ArePlain bytes (line_runs run xs (past_byte b p)) → ArePlain bytes (line_runs (begun b) xs (past_byte b p)) →
-        ArePlain bytes (cond more (line_runs run xs (past_byte b p)) ((closes run p ++ opens (begun b) p) ++ line_runs (begun b) xs (past_byte b p)))
-    go true same next = same
-    go false same next =
-        plain-append bytes (closes run p ++ opens (begun b) p) (line_runs (begun b) xs (past_byte b p))
-        (plain-append bytes (closes run p) (opens (begun b) p) (plain-closes bytes run p h) (plain-opens bytes (begun b) p h)) next
-
-plain-text : (bytes : List ℕ) (size : ℕ) (p q : Point) → clear bytes p ≡ true → clear bytes q ≡ true → ArePlain bytes (read_text bytes (chunk_unless_empty size p q))
-plain-text bytes size p q hp hq = go (size == 0)
-  where
-    go : (none : Bool) → ArePlain bytes (read_text bytes (cond none None (Some (record { first = p; after = q }))))
-    go true = plain-nil bytes
-    go false =
-        let chunk : Chunk = record { first = p; after = q } in
-        plain-around bytes n.HeadingAtxText p q (plain_chunk bytes chunk ++ []) refl hp hq (plain-append bytes (plain_chunk bytes chunk) [] (chunk-plain bytes chunk) (plain-nil bytes))
-
-plain-title : (bytes line : List ℕ) (p : Point) → clear bytes p ≡ true → ArePlain bytes (read_title bytes (title_of line p))
-plain-title bytes line p h =
-    let title : Title = title_of line p in
-    let size : ℕ = length (text_of line) in
-    let begin : clear bytes (text_begin line p) ≡ true = past-clear bytes (take (front_len line) line) p h in
-    let end : clear bytes (text_end line p) ≡ true = past-clear bytes (take (front_len line + size) line) p h in
-    plain-append bytes (title.front ++ read_text bytes title.text) title.back
-    (plain-append bytes title.front (read_text bytes title.text) (plain-runs bytes Apart (take (front_len line) line) p h) (plain-text bytes size (text_begin line p) (text_end line p) begin end))
-    (plain-runs bytes Apart (drop (front_len line + size) line) (text_end line p) end)
 
 -- Rows.
 

@@ -20,9 +20,10 @@ use Rattle.md_seam.proofs.FeedLines.{Stops, behind_last, cell, columns_more, nex
 use Rattle.md_seam.proofs.RestCells.{Cut, RestAt, cells_by, past_cut, past_rest, rest_cells}
 use Rattle.md_seam.proofs.TextsLemmas.{NoEnding}
 use Rattle.markdown_blocks.specs.Fronted.{cut_tab, rest_line}
-use Rattle.markdown_blocks.specs.Rows.{BlankRow, BreakRow, HeadingRow, Row, RowKind, TextRow, first_cell, inside_of, line_kind, row_kind}
+use Rattle.markdown_blocks.specs.Rows.{BlankRow, Row, RowKind, TextRow, inside_of, line_kind, row_kind}
 use Rattle.markdown_blocks.proofs.LineKinds.{kind-spread, spread-rest}
 use Rattle.markdown_blocks.proofs.PieceFacts.{CutsFirst, whole-first}
+use Rattle.markdown_blocks.specs.Leaf.ThematicBreak.{first_cell}
 
 -- What does not tell a space from a tab in the first cell has the same value on the rest of a line and on its bytes.
 

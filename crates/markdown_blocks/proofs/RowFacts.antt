@@ -1,42 +1,27 @@
 -- What the lines of a text are, as flow reads them: facts that the lemmas on the tree rest on.
-use Rattle.std.proofs.Common.{◌≡◌, ◌≢◌, ℕ, ◌+◌, ◌≤◌, Bool, List, [], ◌∷◌, ◌++◌, length, slice_range, ap, ◌∙◌, arith}
-use Rattle.std.specs.Prelude.{IsTrue, Some, None}
+use Rattle.std.proofs.Common.{◌≡◌, ℕ, ◌+◌, ◌≤◌, Bool, List, [], ◌∷◌, ◌++◌, length, slice_range, ap, ◌∙◌, arith}
+use Rattle.std.specs.Prelude.{Some, None}
 use Rattle.md_engine.specs.declared.configuration.ParseOptions.{ParseOptions}
 use Rattle.md_engine.specs.declared.event.Point.{Point}
-use Rattle.md_leaves.specs.HeadingRule.{Apart}
-use Rattle.md_leaves.specs.HeadingTitle.{line_runs}
-use Rattle.md_seam.specs.Events.Inline.{pieces}
-use Rattle.md_seam.specs.Events.Nested.{Balanced, Forward, last_point}
-use Rattle.md_seam.specs.Events.Pieces.{pieces_stand}
-use Rattle.md_seam.specs.Events.Places.{at_or_before, past_text}
-use Rattle.md_seam.proofs.EndingsLemmas.{AreOthers}
+use Rattle.md_seam.specs.Events.Places.{past_text}
 pub use Rattle.md_seam.proofs.FeedLines.{IsEnding, slice-split}
 use Rattle.md_seam.proofs.RestCells.{Cut}
-use Rattle.md_seam.proofs.SpelledLemmas.{Roles, Quiet}
 use Rattle.md_seam.proofs.TextsLemmas.{NoEnding, ending_bytes}
 use Rattle.md_seam.specs.Standard.State.{Container}
+use Rattle.markdown_blocks.specs.Registry.{LeafName, leaf}
 use Rattle.markdown_blocks.specs.Change.{open_behind}
+use Rattle.markdown_blocks.proofs.LeafFacts.{LineAt}
+use Rattle.md_seam.specs.Standard.Rest.{Rest}
 use Rattle.markdown_blocks.specs.Fronted.{contained, rest_from, rest_line}
-use Rattle.markdown_blocks.specs.Rows.{HeadingRow, Row, TextRow, is_text, line_kind}
+use Rattle.markdown_blocks.specs.Rows.{BlankRow, LeafRow, Row, TextRow, blank_line, is_text, line_kind}
 use Rattle.markdown_blocks.proofs.FrontFacts.{LinePrefix}
 use Rattle.markdown_blocks.proofs.PieceFacts.{CutsFirst}
-use Rattle.markdown_blocks.proofs.PiecesLemmas.{Tiled}
-use Rattle.markdown_blocks.proofs.WordsInside.{Worded}
-
--- what stands in a line that is no heading: nothing that the tree shows, and no ending
-pub record IsInside (row : Row) : Type 0 where
-  pub quiet : Roles Quiet row.inside
-  pub others : AreOthers row.inside
-  pub balanced : Balanced row.inside
-  pub forward : Forward row.first row.inside
-  pub within : IsTrue (at_or_before (last_point row.first row.inside) row.end)
-  pub covers : row.kind ≢ TextRow → Tiled row.first row.end row.inside
-  -- as the grammar of events wants it
-  pub words : Worded row.kind row.inside
 
 -- the rest of a line without its ending, behind the prefixes of its containers, as a row
 pub record IsRow (options : ParseOptions) (bytes line : List ℕ) (row : Row) : Type 0 where
-  pub kind : row.kind ≡ line_kind options line
+  pub rest : Rest
+  pub line_is : line ≡ rest_line rest
+  pub kind : row.kind ≡ line_kind options rest
   pub no_ending : NoEnding line
   -- it stands between the first point and the end; a tab that a prefix has cut is its first byte
   pub text : slice_range bytes row.first.index row.end.index ≡ line
@@ -45,19 +30,31 @@ pub record IsRow (options : ParseOptions) (bytes line : List ℕ) (row : Row) : 
   pub first_column : 1 ≤ row.first.column
   pub end_whole : row.end.vs ≡ 0
   pub cut_first : CutsFirst row.first line
-  -- what stands inside
-  pub inside : row.kind ≢ HeadingRow → IsInside row
+  pub cut : Cut rest.spaces row.first
+  -- what flow adds for it
+  pub blank : row.kind ≡ BlankRow → row.inside ≡ blank_line line row.first
+  pub leaf_is : (l : LeafName) → row.kind ≡ LeafRow l → row.inside ≡ (leaf l).added line row.first
   pub no_inside : row.kind ≡ TextRow → row.inside ≡ []
-  pub pieces_are : row.kind ≢ HeadingRow → IsTrue (pieces_stand bytes (pieces row.inside))
-  -- in a heading, its runs
-  pub heading : row.kind ≡ HeadingRow → row.inside ≡ line_runs Apart line row.first
+
+-- where it stands
+pub line-at : (options : ParseOptions) (bytes line : List ℕ) (row : Row) → (is : IsRow options bytes line row) → LineAt bytes is.rest line row.first row.end
+line-at options bytes line row is = record {
+  line_is = is.line_is;
+  no_ending = is.no_ending;
+  text = is.text;
+  size = is.size;
+  end = is.end;
+  first_column = is.first_column;
+  end_whole = is.end_whole;
+  cut_first = is.cut_first;
+  cut = is.cut;
+}
 
 -- a line from a point on, where these containers are open, and a paragraph or none: what it does to the containers, and its rest as
 -- a row
 pub record IsLine (options : ParseOptions) (bytes : List ℕ) (open_before : List Container) (going : Bool) (p : Point) (line : List ℕ) (row : Row) : Type 0 where
   pub is : IsRow options bytes (rest_line (contained options open_before going (rest_from p line)).rest) row
-  -- a tab that is cut at the begin of the rest, if there is one
-  pub cut : Cut (contained options open_before going (rest_from p line)).rest.spaces row.first
+  pub rest_is : is.rest ≡ (contained options open_before going (rest_from p line)).rest
   pub front : LinePrefix bytes row.change.opens p row.first row.front
   pub change : row.change ≡ (contained options open_before going (rest_from p line)).change
   -- where the line begins no tab is cut

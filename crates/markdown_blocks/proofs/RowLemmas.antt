@@ -6,8 +6,6 @@ use Rattle.std.proofs.lemmas.Bool.{and_parts, eqb-true, or_from}
 use Rattle.std.proofs.lemmas.List.{length-append, take-append-drop}
 use Rattle.md_engine.specs.declared.configuration.ParseOptions.{ParseOptions}
 use Rattle.md_engine.specs.declared.event.Event.{Event}
-use Rattle.md_engine.specs.declared.event.Kind.TheVariants.{Enter}
-use Rattle.md_engine.specs.declared.event.Name.{Name}
 use Rattle.md_engine.specs.declared.event.Name.TheVariants as n
 use Rattle.md_engine.specs.declared.event.Point.{Point}
 use Rattle.md_engine.specs.declared.tokenizer.Line.{Line}
@@ -16,19 +14,18 @@ use Rattle.md_engine.specs.TextFeed.{text_feed}
 use Rattle.md_engine.specs.World.{Setting}
 use Rattle.md_engine.proofs.TextFeed.{text-follows}
 use Rattle.md_leaves.specs.BlankRule.{blank_events}
-use Rattle.md_leaves.specs.BreakRule.{Apart, Marks, Run, White, runs}
+use Rattle.md_leaves.specs.BreakRule.{Apart, runs}
 use Rattle.md_leaves.specs.HeadingRule.{is_heading_line}
-use Rattle.md_seam.specs.Ahead.{begins_white, from_ending, line_bytes, line_cells, line_end, point_after, white_end, white_rest}
-use Rattle.md_seam.specs.Events.Nested.{Balanced, Forward, Matches, enter, exit, last_point, open_after, pair}
+use Rattle.md_seam.specs.Ahead.{begins_white, from_ending, line_bytes, line_cells, line_end, point_after, white_rest}
+use Rattle.md_seam.specs.Events.Nested.{Balanced, Forward, last_point, pair}
 use Rattle.md_seam.specs.Events.Places.{at_or_before, past_byte, past_text, same_place}
 use Rattle.md_seam.specs.Standard.Rest.{Rest, is_blank, is_white, trim_start}
 use Rattle.md_seam.specs.Spaces.{small_indent}
 use Rattle.md_seam.specs.Standard.State.{Container}
 use Rattle.md_seam.specs.Standard.Texts.{split_lines}
 use Rattle.md_seam.proofs.FeedLines.{HasEnding, HasLine, Stops, before-byte, before-column, behind_last, begun-none, byte-end, byte_cells, cell, columns_more, drop-past, ending-feed, ending-some, feed-none, front-within, is-ending, line-feed, next_column, past_ending, past_text-column, slice-front, spread, spread-end, tab_cells}
-use Rattle.md_seam.proofs.AheadLemmas.{none-end, white-line_end}
 use Rattle.md_seam.proofs.InlineLemmas.{past-index, same-refl, before-text, past_text-append}
-use Rattle.md_seam.proofs.NestedLemmas.{at_or_before-refl, at_or_before-trans, balanced-append, balanced-none}
+use Rattle.md_seam.proofs.NestedLemmas.{at_or_before-refl, balanced-append, balanced-none}
 use Rattle.md_seam.proofs.RestCells.{RestAt, rest_cells}
 use Rattle.md_seam.proofs.SpelledLemmas.{Quiet, Roles, roles-append}
 use Rattle.md_seam.proofs.TextsLemmas.{Both, Ending, EndsBefore, LineFeed, NoEnding, Return, ending_bytes, split-line, split-next}
@@ -36,27 +33,26 @@ use Rattle.markdown_blocks.specs.Change.{open_behind}
 use Rattle.markdown_blocks.specs.FlowReads.{text_cells, text_rows, text_setting}
 use Rattle.markdown_blocks.specs.Fronted.{Contained, contained, rest_from, rest_line}
 use Rattle.markdown_blocks.specs.Parsed.{IsBuilt}
-use Rattle.markdown_blocks.specs.Rows.{BlankRow, BreakRow, HeadingRow, Held, Row, RowKind, TextRow, after_ending, break_inside, closes_before, first_cell, held_at, inside_of, is_break, is_text, onto_rows, row_kind, row_of, rows_at, rows_by}
-use Rattle.markdown_blocks.proofs.EndingLeaves.{inside-others}
+use Rattle.markdown_blocks.specs.Rows.{BlankRow, Held, Row, RowKind, TextRow, after_ending, closes_before, held_at, inside_of, is_text, onto_rows, row_kind, row_of, rows_at, rows_by}
 use Rattle.markdown_blocks.proofs.FrontRows.{AreRead, HasHeld, held-is}
-use Rattle.markdown_blocks.proofs.HeadingRuns.{heading-runs}
+use Rattle.markdown_blocks.proofs.HeadingAtx.Runs.{heading-runs}
 use Rattle.markdown_blocks.proofs.LineKinds.{kind-spread, no_ending-trim, small-end, small-rest, spread-line, spread-line_end, white_front}
 use Rattle.markdown_blocks.proofs.PieceFacts.{CutsFirst}
 use Rattle.markdown_blocks.proofs.PieceLeaves.{inside-stand}
-use Rattle.markdown_blocks.proofs.PiecesLemmas.{Shut, Tiled, shut-exit, tiled-append, tiled-enter, tiled-none, tiled-pair}
+use Rattle.markdown_blocks.proofs.PiecesLemmas.{Tiled, tiled-none, tiled-pair}
 use Rattle.markdown_blocks.proofs.RestRows.{rest-cut, rest-ending, rest-length, rest-no_ending, rest-past, rest-row, rest-text, rest-whole, row_with}
-use Rattle.markdown_blocks.proofs.RowFacts.{AreRows, IsEnding, IsInside, IsLine, IsRow, behind_line}
-use Rattle.markdown_blocks.proofs.TitleNests.{either, Spans, spans-append}
-use Rattle.markdown_blocks.proofs.WordsInside.{inside-worded}
+use Rattle.markdown_blocks.proofs.RowFacts.{AreRows, IsEnding, IsLine, IsRow, behind_line}
+use Rattle.markdown_blocks.specs.Leaf.ThematicBreak.{break_inside, first_cell, is_break}
+use Rattle.markdown_blocks.proofs.SpanLemmas.{Spans, spans-append}
 
 -- Points go forward.
 
 -- the points behind the cells never go back
-abbrev Climbs : Point → List Cell → Type 0
+abbrev pub Climbs : Point → List Cell → Type 0
 Climbs p [] = Unit {0}
 Climbs p (c ∷ cs) = IsTrue (at_or_before p c.after) × Climbs c.after cs
 
-climbs-append : (xs ys : List Cell) (p : Point) → Climbs p xs → Climbs (point_after xs p) ys → Climbs p (xs ++ ys)
+pub climbs-append : (xs ys : List Cell) (p : Point) → Climbs p xs → Climbs (point_after xs p) ys → Climbs p (xs ++ ys)
 climbs-append [] ys p h k = k
 climbs-append (c ∷ xs) ys p h k = (h.0, climbs-append xs ys c.after h.1 k)
 
@@ -103,95 +99,10 @@ inside-append p q r xs ys a b =
 
 -- The runs of a break.
 
-pub quiet-runs : (run : Run) (m : ℕ) (cells : List Cell) (p : Point) → Roles Quiet (runs run m cells p)
-quiet-runs Apart m [] p = tt
-quiet-runs Marks m [] p = (tt, tt)
-quiet-runs White m [] p = (tt, tt)
-quiet-runs Apart m (c ∷ cs) p = either (Roles Quiet) (c.byte == m) _ _ (tt, quiet-runs Marks m cs c.after) (tt, quiet-runs White m cs c.after)
-quiet-runs Marks m (c ∷ cs) p = either (Roles Quiet) (c.byte == m) _ _ (quiet-runs Marks m cs c.after) (tt, (tt, quiet-runs White m cs c.after))
-quiet-runs White m (c ∷ cs) p = either (Roles Quiet) (c.byte == m) _ _ (tt, (tt, quiet-runs Marks m cs c.after)) (quiet-runs White m cs c.after)
-
--- what is open in a run
-abbrev open_in : Run → List Name
-open_in Apart = []
-open_in Marks = n.ThematicBreakSequence ∷ []
-open_in White = n.SpaceOrTab ∷ []
-
-matches-runs : (run : Run) (m : ℕ) (cells : List Cell) (p : Point) → Matches (open_in run) (runs run m cells p)
-matches-runs Apart m [] p = tt
-matches-runs Marks m [] p = (refl, tt)
-matches-runs White m [] p = (refl, tt)
-matches-runs Apart m (c ∷ cs) p = either (Matches []) (c.byte == m) _ _ (tt, matches-runs Marks m cs c.after) (tt, matches-runs White m cs c.after)
-matches-runs Marks m (c ∷ cs) p = either (Matches (n.ThematicBreakSequence ∷ [])) (c.byte == m) _ _ (matches-runs Marks m cs c.after) (refl, (tt, matches-runs White m cs c.after))
-matches-runs White m (c ∷ cs) p = either (Matches (n.SpaceOrTab ∷ [])) (c.byte == m) _ _ (refl, (tt, matches-runs Marks m cs c.after)) (matches-runs White m cs c.after)
-
-abbrev Closes : List Name → List Event → Type 0
-Closes names es = open_after names es ≡ []
-
-closes-runs : (run : Run) (m : ℕ) (cells : List Cell) (p : Point) → Closes (open_in run) (runs run m cells p)
-closes-runs Apart m [] p = refl
-closes-runs Marks m [] p = refl
-closes-runs White m [] p = refl
-closes-runs Apart m (c ∷ cs) p = either (Closes []) (c.byte == m) _ _ (closes-runs Marks m cs c.after) (closes-runs White m cs c.after)
-closes-runs Marks m (c ∷ cs) p = either (Closes (n.ThematicBreakSequence ∷ [])) (c.byte == m) _ _ (closes-runs Marks m cs c.after) (closes-runs White m cs c.after)
-closes-runs White m (c ∷ cs) p = either (Closes (n.SpaceOrTab ∷ [])) (c.byte == m) _ _ (closes-runs Marks m cs c.after) (closes-runs White m cs c.after)
-
-spans-runs : (run : Run) (m : ℕ) (cells : List Cell) (p q : Point) → IsTrue (at_or_before p q) → Climbs q cells → Spans p (point_after cells q) (runs run m cells q)
-spans-runs Apart m [] p q h k = (tt, h)
-spans-runs Marks m [] p q h k = ((h, tt), at_or_before-refl q)
-spans-runs White m [] p q h k = ((h, tt), at_or_before-refl q)
-spans-runs Apart m (c ∷ cs) p q h k =
-    let marks = spans-runs Marks m cs q c.after k.0 k.1 in
-    let white = spans-runs White m cs q c.after k.0 k.1 in
-    either (Spans p (point_after cs c.after)) (c.byte == m) _ _ ((h, marks.0), marks.1) ((h, white.0), white.1)
-spans-runs Marks m (c ∷ cs) p q h k =
-    let white = spans-runs White m cs q c.after k.0 k.1 in
-    either (Spans p (point_after cs c.after)) (c.byte == m) _ _ (spans-runs Marks m cs p c.after (at_or_before-trans p q c.after h k.0) k.1) ((h, (at_or_before-refl q, white.0)), white.1)
-spans-runs White m (c ∷ cs) p q h k =
-    let marks = spans-runs Marks m cs q c.after k.0 k.1 in
-    either (Spans p (point_after cs c.after)) (c.byte == m) _ _ ((h, (at_or_before-refl q, marks.0)), marks.1) (spans-runs White m cs p c.after (at_or_before-trans p q c.after h k.0) k.1)
-
-inside-runs : (m : ℕ) (cells : List Cell) (p : Point) → Climbs p cells → Inside p (point_after cells p) (runs Apart m cells p)
-inside-runs m cells p k =
-    let spans = spans-runs Apart m cells p p (at_or_before-refl p) k in
-    record { quiet = quiet-runs Apart m cells p; balanced = record { matches = matches-runs Apart m cells p; closed = closes-runs Apart m cells p }; forward = spans.0; within = spans.1 }
-
 -- The runs of a break cover it: behind an enter, they shut it.
 
--- a run that was begun
-abbrev IsOpen : Run → Type 0
-IsOpen Apart = ⊥
-IsOpen Marks = Unit {0}
-IsOpen White = Unit {0}
-
-shut-runs : (run : Run) (m : ℕ) (cells : List Cell) (e : Event) (p : Point) → IsOpen run → e.kind ≡ Enter → Shut e (point_after cells p) (runs run m cells p)
-shut-runs Apart m cells e p ok h = absurd ok
-shut-runs Marks m [] e p ok h = shut-exit e (exit n.ThematicBreakSequence p) p [] h refl (tiled-none p p (same-refl p))
-shut-runs White m [] e p ok h = shut-exit e (exit n.SpaceOrTab p) p [] h refl (tiled-none p p (same-refl p))
-shut-runs Marks m (c ∷ cs) e p ok h =
-    let white : Event = enter n.SpaceOrTab p in
-    let end : Point = point_after cs c.after in
-    let more : List Event = runs White m cs c.after in
-    either (Shut e end) (c.byte == m) _ _ (shut-runs Marks m cs e c.after tt h)
-    (shut-exit e (exit n.ThematicBreakSequence p) end (white ∷ more) h refl (tiled-enter white end more refl (shut-runs White m cs white c.after tt refl)))
-shut-runs White m (c ∷ cs) e p ok h =
-    let marks : Event = enter n.ThematicBreakSequence p in
-    let end : Point = point_after cs c.after in
-    let more : List Event = runs Marks m cs c.after in
-    either (Shut e end) (c.byte == m) _ _ (shut-exit e (exit n.SpaceOrTab p) end (marks ∷ more) h refl (tiled-enter marks end more refl (shut-runs Marks m cs marks c.after tt refl)))
-    (shut-runs White m cs e c.after tt h)
-
-tiled-runs : (m : ℕ) (cells : List Cell) (p : Point) → Tiled p (point_after cells p) (runs Apart m cells p)
-tiled-runs m [] p = tiled-none p p (same-refl p)
-tiled-runs m (c ∷ cs) p =
-    let marks : Event = enter n.ThematicBreakSequence p in
-    let white : Event = enter n.SpaceOrTab p in
-    let end : Point = point_after cs c.after in
-    either (Tiled p end) (c.byte == m) _ _ (tiled-enter marks end (runs Marks m cs c.after) refl (shut-runs Marks m cs marks c.after tt refl))
-    (tiled-enter white end (runs White m cs c.after) refl (shut-runs White m cs white c.after tt refl))
-
 -- the whitespace at the begin of a line
-white-tiled : (cells : List Cell) (p q : Point) → (begins_white cells ≡ false → p ≡ q) → Tiled p q (cond (begins_white cells) (pair n.SpaceOrTab p q) [])
+pub white-tiled : (cells : List Cell) (p q : Point) → (begins_white cells ≡ false → p ≡ q) → Tiled p q (cond (begins_white cells) (pair n.SpaceOrTab p q) [])
 white-tiled cells p q none = go (begins_white cells) none
   where
     go : (t : Bool) → (t ≡ false → p ≡ q) → Tiled p q (cond t (pair n.SpaceOrTab p q) [])
@@ -212,15 +123,6 @@ blank-none (c ∷ cs) p h k = go (c.byte == 10) h
 
 blank-tiled : (cells : List Cell) (p : Point) → is_blank (line_bytes cells) ≡ true → Tiled p (line_end cells p) (blank_events cells p)
 blank-tiled cells p h = white-tiled cells p (line_end cells p) (blank-none cells p h)
-
-break-tiled : (options : ParseOptions) (cells : List Cell) (p : Point) → Tiled p (line_end cells p) (break_inside options cells p)
-break-tiled options cells p =
-    let room : ℕ = small_indent options in
-    let rest : List Cell = white_rest room cells in
-    let q : Point = white_end room cells p in
-    subst (λ (r : Point). Tiled p r (break_inside options cells p)) (white-line_end room cells p)
-    (tiled-append p q (line_end rest q) (cond (begins_white cells) (pair n.SpaceOrTab p q) []) (runs Apart (first_cell rest) (line_cells rest) q)
-    (white-tiled cells p q (λ none. sym (none-end room cells p none))) (tiled-runs (first_cell rest) (line_cells rest) q))
 
 -- a blank line or a break is covered by what stands inside
 row-tiled : (options : ParseOptions) (cells : List Cell) (p : Point) (kind : RowKind) → row_kind options cells ≡ kind → kind ≢ HeadingRow → kind ≢ TextRow → Tiled p (line_end cells p) (inside_of options cells p kind)

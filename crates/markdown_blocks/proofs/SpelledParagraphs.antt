@@ -26,7 +26,7 @@ use Rattle.md_seam.proofs.SpelledLemmas.{Between, QuietOrEnding, Roles, roles-ap
 use Rattle.md_seam.proofs.TextsLemmas.{Both, Ending, EndsBefore, IsOfLines, LineFeed, NoEnding, Return, ending_bytes}
 use Rattle.md_outline.proofs.TextCuts.{trim-blank}
 use Rattle.markdown_blocks.specs.Fronted.{cut_tab, rest_line}
-use Rattle.markdown_blocks.specs.Rows.{BlankRow, BreakRow, HeadingRow, Row, TextRow, behind_row, last_row, read_lines}
+use Rattle.markdown_blocks.specs.Rows.{BlankRow, Row, TextRow, behind_row, last_row, read_lines}
 use Rattle.markdown_blocks.proofs.LineSteps.{rest_line-kind}
 use Rattle.markdown_blocks.proofs.FrontFacts as front
 use Rattle.markdown_blocks.proofs.FrontFacts.{Behind, Begins, LinePrefix, Goes}

@@ -22,15 +22,16 @@ use Rattle.markdown_blocks.specs.Change.{Change, container_name, ends_of, is_non
 use Rattle.markdown_blocks.specs.Fed.{last_leaves, close_containers, rests_from}
 use Rattle.markdown_blocks.specs.Fronted.{Contained, cut_tab, rest_from, rest_line}
 use Rattle.markdown_blocks.specs.Parsed.{IsBuilt}
-use Rattle.markdown_blocks.specs.Rows.{BlankRow, BreakRow, Group, HeadingRow, Lines, Row, RowKind, Single, TextRow, ending_events, goes_on, groups, groups_events, is_lazy, is_text, last_row, line_kind, onto_groups, onto_lines, read_lines, read_title, row_title, single_events_by, tail_events}
+use Rattle.markdown_blocks.specs.Rows.{BlankRow, Group, Lines, Row, RowKind, Single, TextRow, ending_events, goes_on, groups, groups_events, is_lazy, is_text, last_row, line_kind, onto_groups, onto_lines, read_lines, single_events_by, tail_events}
 use Rattle.markdown_blocks.specs.Stands.{IsPlain, around_of, containers_of, final, final_on, is_going, outer_on, reading, reading_on, shape_of}
 use Rattle.markdown_blocks.proofs.ContainedLemmas.{contained-shapes, lazy-opens}
 use Rattle.markdown_blocks.proofs.FrontFacts.{Behind, Begins, LinePrefix, Goes, IsContinuationPrefix, IsOpeningPrefix}
 use Rattle.markdown_blocks.proofs.LineKinds.{heading-kind}
 use Rattle.markdown_blocks.proofs.LineSteps.{behind_path, contained-lazy, contained_at, containers-step, fresh-found, going-step, goes_lazy, held_of, kept_to, lazy-text, longer, new_line, new_path, plain-step, renewed, rest_line-kind, rest_line-trim, shut-lines, spot_by, step-contained}
 use Rattle.markdown_blocks.proofs.RowFacts as f
-use Rattle.markdown_blocks.proofs.SpelledHeadings.{Begun, Whole, WithTab, read-heading}
+use Rattle.markdown_blocks.proofs.HeadingAtx.Spelled.{Begun, Whole, WithTab, read-heading}
 use Rattle.markdown_blocks.proofs.SpelledParagraphs.{IsRead, further-roles, prefix-roles, read-lines, read-more, read-one}
+use Rattle.markdown_blocks.specs.Leaf.HeadingAtx.{read_title}
 
 -- The ends and begins of containers.
 

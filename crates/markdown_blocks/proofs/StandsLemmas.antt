@@ -22,8 +22,7 @@ use Rattle.markdown_blocks.specs.Rows.{Row, groups, groups_events, is_text}
 use Rattle.markdown_blocks.specs.Stands.{AreOpen, IsPlain, StandsFor, containers_of, is_going, reading}
 use Rattle.markdown_blocks.specs.States.{FlowStep}
 use Rattle.markdown_blocks.specs.TextRows.{text_rows, text_setting}
-use Rattle.markdown_blocks.proofs.LinesFed.{LineFed, line-fed, lines-fed}
-use Rattle.markdown_blocks.proofs.LinesFed.{open_after, text_after}
+use Rattle.markdown_blocks.proofs.LinesFed.{LineFed, line-fed, lines-fed, open_after, text_after}
 use Rattle.markdown_blocks.proofs.LineSteps.{containers-step, going-step, plain-step}
 use Rattle.markdown_blocks.proofs.RowFacts as f
 use Rattle.markdown_blocks.proofs.RowLemmas.{fresh-rows}

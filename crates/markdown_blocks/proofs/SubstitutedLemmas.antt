@@ -19,7 +19,7 @@ use Rattle.markdown_blocks.specs.Rows.{Row, behind_row, chunks_of}
 use Rattle.markdown_blocks.specs.Unread.{linked_lines}
 use Rattle.markdown_blocks.proofs.EachEvent.{Each, each-append, each-drop, each-take}
 use Rattle.markdown_blocks.proofs.FrontNames.{ArePrefixes}
-use Rattle.markdown_blocks.proofs.TitleFacts.{NoLinks}
+use Rattle.markdown_blocks.proofs.PartFacts.{NoLinks}
 
 -- events none of which begins a chunk that the reader wants
 abbrev pub Unwanted : (Content → Bool) → List Event → Type 0

@@ -1,105 +1,37 @@
 -- The innermost pairs of the events of a text lie side by side, from its first byte to its last, before its texts are read.
-use Rattle.std.proofs.Common.{◌≡◌, ◌≢◌, ℕ, Bool, true, false, cond, List, [], ◌∷◌, ◌++◌, length, take, drop, refl, ap, sym, ◌∙◌, subst, append_assoc, append-nil}
-use Rattle.std.specs.Prelude.{◌==◌, Option, Some, None}
-use Rattle.std.proofs.lemmas.Bool.{and_from, eq-eqb, eqb-true}
+use Rattle.std.proofs.Common.{◌≡◌, ◌≢◌, ℕ, Bool, true, false, cond, List, [], ◌∷◌, ◌++◌, length, refl, ap, sym, ◌∙◌, subst, append_assoc}
+use Rattle.std.specs.Prelude.{Option, Some, None}
+use Rattle.std.proofs.lemmas.Bool.{and_from, eq-eqb}
 use Rattle.md_engine.specs.declared.configuration.ParseOptions.{ParseOptions}
 use Rattle.md_engine.specs.declared.event.Event.{Event}
-use Rattle.md_engine.specs.declared.event.Kind.TheVariants.{Enter}
 use Rattle.md_engine.specs.declared.event.Name.{Name}
 use Rattle.md_engine.specs.declared.event.Name.TheVariants as n
 use Rattle.md_engine.specs.declared.event.Point.{Point}
 use Rattle.md_content.specs.Paragraph.{text_link}
-use Rattle.md_leaves.specs.Heading.{heading_link}
-use Rattle.md_leaves.specs.HeadingRule.{Apart, Hashes, Run, Text, White, begun, closes, goes_on, opens}
-use Rattle.md_leaves.specs.HeadingText.{linked_text}
-use Rattle.md_leaves.specs.HeadingTitle.{Title, chunk_unless_empty, front_len, line_runs, text_of, title_of, unread_title}
+use Rattle.md_leaves.specs.HeadingRule.{opens}
+use Rattle.md_leaves.specs.HeadingTitle.{unread_title}
 use Rattle.md_seam.specs.Events.Inline.{Covers, pair_unless_empty, pieces}
 use Rattle.md_seam.specs.Events.Nested.{around, enter, enter_link, exit, pair}
-use Rattle.md_seam.specs.Events.Places.{first_point, past_byte, past_text, same_place}
+use Rattle.md_seam.specs.Events.Places.{first_point, past_text, same_place}
 use Rattle.md_seam.specs.Standard.Preamble.{has_mark}
-use Rattle.md_seam.specs.Standard.Rest.{is_white}
 use Rattle.md_seam.specs.Standard.State.{Container, InQuote}
 use Rattle.md_seam.specs.Events.Tiles.{end_point}
 use Rattle.md_seam.proofs.InlineLemmas.{same-refl}
 use Rattle.markdown_blocks.specs.Change.{container_name, ends_of}
 use Rattle.markdown_blocks.specs.Document.{body_point, mark_end, mark_events}
 use Rattle.markdown_blocks.specs.Fronted.{contained, rest_from, rest_line}
-use Rattle.markdown_blocks.specs.Rows.{BlankRow, BreakRow, Group, HeadingRow, Lines, Row, RowKind, Single, TextRow, behind_row, ending_events, goes_on as joins_on, groups, is_text, last_row, onto_groups, row_line, row_title, tail_events}
+use Rattle.markdown_blocks.specs.Rows.{BlankRow, Group, Lines, Row, RowKind, Single, TextRow, behind_row, ending_events, goes_on as joins_on, groups, is_text, last_row, onto_groups, row_line, tail_events}
 use Rattle.markdown_blocks.specs.Unread.{linked_lines, titled_group, titled_groups, titled_row_by}
 use Rattle.markdown_blocks.proofs.JoinedLemmas.{behind-is, behind-none}
-use Rattle.markdown_blocks.proofs.PiecesLemmas.{Follows, Shut, Tiled, follows-append, follows-tiled, shut-exit, tiled-append, tiled-around, tiled-enter, tiled-none, tiled-pair, tiled-two, tiled-unless_empty, tiled-within}
+use Rattle.markdown_blocks.proofs.PiecesLemmas.{Follows, Tiled, follows-append, follows-tiled, tiled-append, tiled-around, tiled-none, tiled-pair, tiled-two, tiled-unless_empty, tiled-within}
 use Rattle.markdown_blocks.proofs.FrontFacts.{Behind, Begins, LinePrefix, Goes, IsContinuationPrefix, IsOpeningPrefix, IsPrefix}
 use Rattle.markdown_blocks.proofs.RowFacts.{AreRows, IsLine, IsRow, behind_line}
-use Rattle.markdown_blocks.proofs.TitleNests.{back_bytes, blank-no_heading, break-no_heading, either, line-end-is, text-end-is, text_begin, text_end}
+use Rattle.markdown_blocks.proofs.HeadingAtx.Places.{blank-no_heading, break-no_heading}
+use Rattle.markdown_blocks.proofs.HeadingAtx.Tiled.{title-tiled}
 
 -- The runs of a piece of a line cover it: behind an enter, they shut it.
 
--- a run that was begun
-abbrev IsOpen : Run → Type 0
-IsOpen Apart = ⊥
-IsOpen White = Unit {0}
-IsOpen Hashes = Unit {0}
-IsOpen Text = Unit {0}
-
-open-begun : (b : ℕ) → IsOpen (begun b)
-open-begun b = go (is_white b) (b == 35)
-  where
-    go : (x y : Bool) → IsOpen (cond x White (cond y Hashes Text))
-    go true y = tt
-    go false true = tt
-    go false false = tt
-
-shut-closes : (run : Run) (e : Event) (p q : Point) (es : List Event) → IsOpen run → e.kind ≡ Enter → Tiled p q es → Shut e q (closes run p ++ es)
-shut-closes Apart e p q es ok h t = absurd ok
-shut-closes White e p q es ok h t = shut-exit e (exit n.SpaceOrTab p) q es h refl t
-shut-closes Hashes e p q es ok h t = shut-exit e (exit n.HeadingAtxSequence p) q es h refl t
-shut-closes Text e p q es ok h t = shut-exit e (exit n.Data p) q es h refl t
-
--- events that shut every enter
-abbrev ShutAll : Point → List Event → Type 0
-ShutAll q es = (e : Event) → e.kind ≡ Enter → Shut e q es
-
-tiled-opens : (run : Run) (p q : Point) (es : List Event) → IsOpen run → ShutAll q es → Tiled p q (opens run p ++ es)
-tiled-opens Apart p q es ok h = absurd ok
-tiled-opens White p q es ok h = let e : Event = enter n.SpaceOrTab p in tiled-enter e q es refl (h e refl)
-tiled-opens Hashes p q es ok h = let e : Event = enter n.HeadingAtxSequence p in tiled-enter e q es refl (h e refl)
-tiled-opens Text p q es ok h = let e : Event = enter_link n.Data p heading_link in tiled-enter e q es refl (h e refl)
-
-shut-runs : (run : Run) (xs : List ℕ) (p : Point) → IsOpen run → ShutAll (past_text xs p) (line_runs run xs p)
-shut-runs run [] p ok e h = subst (Shut e p) (append-nil (closes run p)) (shut-closes run e p p [] ok h (tiled-none p p (same-refl p)))
-shut-runs run (b ∷ xs) p ok e h =
-    let next : Point = past_byte b p in
-    let end : Point = past_text xs next in
-    let rest : List Event = line_runs (begun b) xs next in
-    either (Shut e end) (goes_on run b) (line_runs run xs next) ((closes run p ++ opens (begun b) p) ++ rest) (shut-runs run xs next ok e h)
-    (subst (Shut e end) (sym (append_assoc (closes run p) (opens (begun b) p) rest))
-    (shut-closes run e p end (opens (begun b) p ++ rest) ok h (tiled-opens (begun b) p end rest (open-begun b) (shut-runs (begun b) xs next (open-begun b)))))
-
-pub runs-tiled : (xs : List ℕ) (p : Point) → Tiled p (past_text xs p) (line_runs Apart xs p)
-runs-tiled [] p = tiled-none p p (same-refl p)
-runs-tiled (b ∷ xs) p = let next : Point = past_byte b p in tiled-opens (begun b) p (past_text xs next) (line_runs (begun b) xs next) (open-begun b) (shut-runs (begun b) xs next (open-begun b))
-
 -- Headings.
-
--- the text of a heading covers so many bytes
-text-tiled : (size : ℕ) (p q : Point) → (size ≡ 0 → q ≡ p) → Tiled p q (linked_text (chunk_unless_empty size p q))
-text-tiled size p q none = go (size == 0) refl
-  where
-    go : (t : Bool) → (size == 0) ≡ t → Tiled p q (linked_text (cond t None (Some (record { first = p; after = q }))))
-    go true e = tiled-none p q (subst (λ (r : Point). same_place p r ≡ true) (sym (none (eqb-true size 0 e))) (same-refl p))
-    go false e = tiled-around n.HeadingAtxText p q (enter_link n.Data p heading_link ∷ exit n.Data q ∷ []) (tiled-two (enter_link n.Data p heading_link) (exit n.Data q) refl refl)
-
--- what stands in a heading covers its line
-title-tiled : (line : List ℕ) (p : Point) → Tiled p (past_text line p) (unread_title (title_of line p))
-title-tiled line p =
-    let title : Title = title_of line p in
-    let size : ℕ = length (text_of line) in
-    let begin : Point = text_begin line p in
-    let end : Point = text_end line p in
-    let none : size ≡ 0 → end ≡ begin = λ h. text-end-is line p ∙ ap (λ (i : ℕ). past_text (take i (drop (front_len line) line)) begin) h in
-    let back : Tiled end (past_text line p) title.back = subst (λ (q : Point). Tiled end q title.back) (sym (line-end-is line p)) (runs-tiled (back_bytes line) end) in
-    tiled-append p end (past_text line p) (title.front ++ linked_text title.text) title.back
-    (tiled-append p begin end title.front (linked_text title.text) (runs-tiled (take (front_len line) line) p) (text-tiled size begin end none)) back
 
 -- Lines.
 

@@ -1,117 +1,41 @@
 -- The text parts of a text, before they are read, stand as its tiling asks: one chunk a line, and no chunk elsewhere.
-use Rattle.std.proofs.Common.{◌≡◌, ◌≢◌, ℕ, ◌+◌, Bool, true, false, cond, not, ◌&&◌, List, [], ◌∷◌, ◌++◌, length, drop, take, refl, ap, sym, ◌∙◌, subst, append_assoc, append-nil, arith}
-use Rattle.std.specs.Prelude.{◌==◌, IsTrue, Option, Some, None}
-use Rattle.std.specs.List.{list_all}
-use Rattle.std.proofs.lemmas.Bool.{and_from, and_parts}
-use Rattle.std.proofs.lemmas.Bool.Decides.{nat_tests}
+use Rattle.std.proofs.Common.{◌≡◌, ◌≢◌, ℕ, ◌+◌, Bool, true, false, cond, List, [], ◌∷◌, ◌++◌, refl, ap, sym, ◌∙◌, subst, append_assoc, append-nil}
+use Rattle.std.specs.Prelude.{Option, Some, None}
 use Rattle.md_engine.specs.declared.configuration.ParseOptions.{ParseOptions}
 use Rattle.md_engine.specs.declared.event.Event.{Event}
-use Rattle.md_engine.specs.declared.event.Kind.{Kind}
-use Rattle.md_engine.specs.declared.event.Kind.TheVariants.{Enter, Exit}
-use Rattle.md_engine.specs.declared.event.Link.{Link}
 use Rattle.md_engine.specs.declared.event.Name.{Name}
 use Rattle.md_engine.specs.declared.event.Name.TheVariants as n
 use Rattle.md_engine.specs.declared.event.Point.{Point}
 use Rattle.md_content.specs.Paragraph.{text_link}
-use Rattle.md_leaves.specs.Heading.{heading_link}
-use Rattle.md_leaves.specs.HeadingRule as heading
 use Rattle.md_leaves.specs.HeadingText.{linked_text}
-use Rattle.md_leaves.specs.HeadingTitle.{Title, front_len, text_of, title_of, unread_title}
-use Rattle.md_seam.specs.declared.inline.Chunk.{Chunk}
-use Rattle.md_seam.specs.declared.inline.PartKind.{PartKind}
+use Rattle.md_leaves.specs.HeadingTitle.{title_of, unread_title}
 use Rattle.md_seam.specs.declared.inline.PartKind.TheVariants.{Text}
-use Rattle.md_seam.specs.Events.Inline.{Piece, are_lines, pieces}
-use Rattle.md_seam.specs.Events.Nested.{Nested, around, enter, enter_link, exit, pair, is_exit}
-use Rattle.md_seam.specs.Events.Places.{at_or_before, first_point, same_place}
+use Rattle.md_seam.specs.Events.Nested.{Nested, around, enter, enter_link, exit, pair}
+use Rattle.md_seam.specs.Events.Places.{first_point, same_place}
 use Rattle.md_seam.specs.Standard.Preamble.{has_mark}
 use Rattle.md_seam.specs.Standard.State.{Container, InQuote}
-use Rattle.md_seam.specs.Events.Tiles.{begins_at, chunks, chunks_stand, inside_part, is_part, is_white_piece, part_end, part_kind, part_stands, parts_stand, stands_in_part}
+use Rattle.md_seam.specs.Events.Tiles.{begins_at, chunks, chunks_stand, part_kind, parts_stand}
 use Rattle.md_seam.proofs.InlineLemmas.{same-refl}
-use Rattle.md_seam.proofs.NestedLemmas.{at_or_before-refl, balanced-none}
 use Rattle.markdown_blocks.specs.Change.{ends_of}
 use Rattle.markdown_blocks.specs.Document.{body_point, mark_end, mark_events}
-use Rattle.markdown_blocks.specs.Rows.{BlankRow, BreakRow, Group, HeadingRow, Lines, Row, RowKind, Single, TextRow, behind_row, chunks_of, ending_events, groups, last_row, row_line, row_title, tail_events}
-use Rattle.markdown_blocks.specs.Unread.{linked, linked_lines, titled_group, titled_groups, titled_row_by, unread_paragraph}
+use Rattle.markdown_blocks.specs.Rows.{BlankRow, Group, Lines, Row, RowKind, Single, TextRow, behind_row, chunks_of, ending_events, groups, last_row, row_line, tail_events}
+use Rattle.markdown_blocks.specs.Unread.{linked_lines, titled_group, titled_groups, titled_row_by, unread_paragraph}
 use Rattle.markdown_blocks.proofs.FrontFacts.{Behind, Begins, LinePrefix, Goes, IsContinuationPrefix, IsPrefix}
 use Rattle.markdown_blocks.proofs.FrontLemmas.{fronts-balanced, fronts-spans, fronts-turn, open_names}
 use Rattle.markdown_blocks.proofs.FrontParts.{ends-no_parts, ends-unlinked, fronts-no_parts, fronts-unlinked}
-use Rattle.markdown_blocks.proofs.GroupLemmas.{AreGroups, HasFront, IsParagraph, IsSingle, groups-are, paragraph-lines, title-lines}
+use Rattle.markdown_blocks.proofs.GroupLemmas.{AreGroups, HasFront, IsParagraph, IsSingle, groups-are, paragraph-lines}
 use Rattle.markdown_blocks.proofs.JoinedLemmas.{EachNoContent}
 use Rattle.markdown_blocks.proofs.MarkLemmas.{mark-nested}
-use Rattle.markdown_blocks.proofs.NestedRows.{ByLines, Keeps, Nested_in, Onward, Ordered, Under, around-nested, behind-order, blank-nested, break-nested, heading-nested, line-order, rows-hold, under-line, under-next, under-none, under-turn}
-use Rattle.markdown_blocks.proofs.PartFacts.{AreUnlinked, EachUnlinked, IsUnlinked, NoParts, end-goes, groups-unlinked, linked-chunks, linked-no_parts, no_parts-append, part-inside, pieces-behind, quiet-no_parts, runs-no_parts}
-use Rattle.markdown_blocks.proofs.PiecesLemmas.{Ends, ends-append, pieces-ended}
-use Rattle.markdown_blocks.proofs.RowFacts.{AreRows, IsInside, IsRow}
-use Rattle.markdown_blocks.proofs.TitleFacts.{NoLinks, back-unlinked, front-unlinked}
-use Rattle.markdown_blocks.proofs.TitleNests.{text-order, text_begin, text_end}
+use Rattle.markdown_blocks.proofs.NestedRows.{ByLines, Keeps, Onward, Ordered, Under, behind-order, line-order, rows-hold, under-line, under-next, under-none, under-turn}
+use Rattle.markdown_blocks.proofs.PartFacts.{quiet-no_parts}
+use Rattle.markdown_blocks.proofs.RowFacts.{AreRows}
+use Rattle.markdown_blocks.proofs.PartsStand.{Inside, Stands, inside-append, inside-chunk, stands-append, stands-around, stands-outside, stands-part}
+use Rattle.markdown_blocks.proofs.HeadingAtx.Parts.{linked-nested, stands-title, text-nested}
+use Rattle.markdown_blocks.proofs.SpanLemmas.{around-nested}
 
 -- Events outside of text parts.
 
-outside-stands : (bytes : List ℕ) (kind : Kind) (part : Option PartKind) (p : Point) (es : List Event) → part ≡ None → part_stands bytes kind part p es ≡ true
-outside-stands bytes Enter part p es h = ap (λ (x : Option PartKind). part_stands bytes Enter x p es) h
-outside-stands bytes Exit part p es h = refl
-
-outside-parts : (bytes : List ℕ) (xs ys : List Event) → NoParts xs → parts_stand bytes (xs ++ ys) ≡ parts_stand bytes ys
-outside-parts bytes [] ys h = refl
-outside-parts bytes (e ∷ xs) ys h = ap (λ (x : Bool). x && parts_stand bytes (xs ++ ys)) (outside-stands bytes e.kind (part_kind e.name) e.point (xs ++ ys) h.0) ∙ outside-parts bytes xs ys h.1
-
-outside-chunks : (xs ys : List Event) → NoParts xs → NoLinks xs → chunks_stand 0 (xs ++ ys) ≡ chunks_stand 0 ys
-outside-chunks [] ys h k = refl
-outside-chunks (e ∷ xs) ys h k =
-    ap (λ (x : Option Link). not (elim x [ None ↦ false | Some link ↦ true ]) && chunks_stand (cond (is_part e.name && not (is_exit e.kind)) 1 0) (xs ++ ys)) k.0
-    ∙ ap (λ (x : Option PartKind). chunks_stand (cond ((elim x [ None ↦ false | Some kind ↦ true ]) && not (is_exit e.kind)) 1 0) (xs ++ ys)) h.0
-    ∙ outside-chunks xs ys h.1 k.1
-
 -- The chunks of a text part.
-
-linked-white : (bytes : List ℕ) (link : Link) (cs : List Chunk) → list_all (is_white_piece bytes) (pieces (linked n.Data link cs)) ≡ true
-linked-white bytes link [] = refl
-linked-white bytes link (c ∷ cs) = ap (λ (l : List Piece). list_all (is_white_piece bytes) l) (pieces-behind c.after link cs) ∙ linked-white bytes link cs
-
-linked-stand : (link : Link) (cs : List Chunk) (ys : List Event) → chunks_stand 1 (linked n.Data link cs ++ ys) ≡ chunks_stand 1 ys
-linked-stand link [] ys = refl
-linked-stand link (c ∷ cs) ys = linked-stand link cs ys
-
-linked-ends : (link : Link) (cs : List Chunk) → Ends Exit (linked n.Data link cs)
-linked-ends link [] = refl
-linked-ends link (c ∷ cs) = linked-ends link cs
-
--- Events that may stand in a text part, with these chunks.
-pub record Inside (bytes : List ℕ) (cs : List Chunk) (es : List Event) : Type 0 where
-  pub outside : NoParts es
-  pub ends : Ends Exit es
-  pub white : list_all (is_white_piece bytes) (pieces es) ≡ true
-  pub has : chunks (pieces es) ≡ cs
-  pub stand : (ys : List Event) → chunks_stand 1 (es ++ ys) ≡ chunks_stand 1 ys
-
-pub inside-linked : (bytes : List ℕ) (link : Link) (cs : List Chunk) → Inside bytes cs (linked n.Data link cs)
-inside-linked bytes link cs = record { outside = linked-no_parts link cs; ends = linked-ends link cs; white = linked-white bytes link cs; has = linked-chunks link cs; stand = linked-stand link cs }
-
-white-append : (bytes : List ℕ) (xs ys : List Piece) → list_all (is_white_piece bytes) xs ≡ true → list_all (is_white_piece bytes) ys ≡ true → list_all (is_white_piece bytes) (xs ++ ys) ≡ true
-white-append bytes [] ys h k = k
-white-append bytes (x ∷ xs) ys h k =
-    let both : (is_white_piece bytes x ≡ true) × (list_all (is_white_piece bytes) xs ≡ true) = and_parts (is_white_piece bytes x) (list_all (is_white_piece bytes) xs) h in
-    and_from (is_white_piece bytes x) (list_all (is_white_piece bytes) (xs ++ ys)) both.0 (white-append bytes xs ys both.1 k)
-
-chunks-append : (xs ys : List Piece) → chunks (xs ++ ys) ≡ chunks xs ++ chunks ys
-chunks-append [] ys = refl
-chunks-append (x ∷ xs) ys = go x.linked (chunks-append xs ys)
-  where
-    chunk : Chunk
-    chunk = record { first = x.first; after = x.after }
-
-    go : (linked : Bool) → chunks (xs ++ ys) ≡ chunks xs ++ chunks ys → cond linked (chunk ∷ chunks (xs ++ ys)) (chunks (xs ++ ys)) ≡ cond linked (chunk ∷ chunks xs) (chunks xs) ++ chunks ys
-    go true same = ap (λ (l : List Chunk). chunk ∷ l) same
-    go false same = same
-
-inside-append : (bytes : List ℕ) (cs ds : List Chunk) (xs ys : List Event) → Inside bytes cs xs → Inside bytes ds ys → Inside bytes (cs ++ ds) (xs ++ ys)
-inside-append bytes cs ds xs ys h k = record {
-  outside = no_parts-append xs ys h.outside k.outside;
-  ends = ends-append Exit xs ys h.ends k.ends;
-  white = ap (λ (l : List Piece). list_all (is_white_piece bytes) l) (pieces-ended xs ys h.ends) ∙ white-append bytes (pieces xs) (pieces ys) h.white k.white;
-  has = ap (λ (l : List Piece). chunks l) (pieces-ended xs ys h.ends) ∙ chunks-append (pieces xs) (pieces ys) ∙ ap (λ (l : List Chunk). l ++ chunks (pieces ys)) h.has ∙ ap (λ (l : List Chunk). cs ++ l) k.has;
-  stand = λ zs. ap (chunks_stand 1) (append_assoc xs ys zs) ∙ h.stand (ys ++ zs) ∙ k.stand zs;
-}
 
 -- the prefix of a quote
 prefix-inside : (bytes : List ℕ) (p q : Point) (es : List Event) → IsPrefix bytes p q es → Inside bytes [] es
@@ -138,10 +62,6 @@ fronts-inside bytes opens p q es none (Behind at) = record { outside = tt; ends 
 fronts-inside bytes opens first last es none (Goes c same p q r xs ys is more) = inside-append bytes [] [] xs ys (further-inside bytes c p q xs is) (fronts-inside bytes same q r ys none more)
 fronts-inside bytes opens first last es none (Begins c before p q r xs ys is more) = cc
 
--- the lines of a paragraph
-inside-chunk : (bytes : List ℕ) (p q : Point) → Inside bytes ((record { first = p; after = q }) ∷ []) (enter_link n.Data p text_link ∷ exit n.Data q ∷ [])
-inside-chunk bytes p q = record { outside = (refl, (refl, tt)); ends = refl; white = refl; has = refl; stand = λ ys. refl }
-
 pub lines-inside : (options : ParseOptions) (bytes : List ℕ) (row : Row) (rows : List Row) → IsParagraph options bytes row rows → Inside bytes (chunks_of row rows) (linked_lines n.Data text_link row rows)
 lines-inside options bytes row [] is = inside-chunk bytes row.first row.end
 lines-inside options bytes row (next ∷ rows) is =
@@ -151,25 +71,6 @@ lines-inside options bytes row (next ∷ rows) is =
     (inside-append bytes [] (chunks_of next rows) next.front lines (fronts-inside bytes [] is.3 next.first next.front refl is.6) (lines-inside options bytes next rows is.7))
 
 -- Events in front of others.
-
--- Their text parts are whole, each of its chunks a line, and no chunk stands elsewhere.
-pub record Stands (bytes : List ℕ) (xs : List Event) : Type 0 where
-  pub parts : (ys : List Event) → parts_stand bytes (xs ++ ys) ≡ parts_stand bytes ys
-  pub chunks : (ys : List Event) → chunks_stand 0 (xs ++ ys) ≡ chunks_stand 0 ys
-
-stands-outside : (bytes : List ℕ) (xs : List Event) → NoParts xs → NoLinks xs → Stands bytes xs
-stands-outside bytes xs h k = record { parts = λ ys. outside-parts bytes xs ys h; chunks = λ ys. outside-chunks xs ys h k }
-
-stands-append : (bytes : List ℕ) (xs ys : List Event) → Stands bytes xs → Stands bytes ys → Stands bytes (xs ++ ys)
-stands-append bytes xs ys h k = record {
-  parts = λ zs. ap (parts_stand bytes) (append_assoc xs ys zs) ∙ h.parts (ys ++ zs) ∙ k.parts zs;
-  chunks = λ zs. ap (chunks_stand 0) (append_assoc xs ys zs) ∙ h.chunks (ys ++ zs) ∙ k.chunks zs;
-}
-
-stands-around : (bytes : List ℕ) (name : Name) (p q : Point) (inside : List Event) → part_kind name ≡ None → Stands bytes inside → Stands bytes (around name p q inside)
-stands-around bytes name p q inside other h =
-    stands-append bytes (enter name p ∷ []) (inside ++ exit name q ∷ []) (stands-outside bytes (enter name p ∷ []) (other, tt) (refl, tt))
-    (stands-append bytes inside (exit name q ∷ []) h (stands-outside bytes (exit name q ∷ []) (other, tt) (refl, tt)))
 
 stands-ending : (bytes : List ℕ) (name : Name) (row : Row) → part_kind name ≡ None → Stands bytes (ending_events name row)
 stands-ending bytes name row other = go row.after
@@ -186,64 +87,7 @@ stands-line bytes name row last es other front h =
     (stands-append bytes (ends_of last.leaves last.end) (ending_events name last) (stands-outside bytes (ends_of last.leaves last.end) (ends-no_parts last.leaves last.end) (ends-unlinked last.leaves last.end))
     (stands-ending bytes name last other))
 
--- A text part of chunks that are lines, which begins with the first of them.
-stands-part : (bytes : List ℕ) (name : Name) (kind : PartKind) (p q : Point) (cs : List Chunk) (inside : List Event) → part_kind name ≡ Some kind → Inside bytes cs inside → begins_at p cs ≡ true → are_lines bytes q cs ≡ true →
-    Stands bytes (around name p q inside)
-stands-part bytes name kind p q cs inside named h begins lines = record {
-  parts = λ ys.
-      let rest : List Event = inside ++ exit name q ∷ ys in
-      ap (λ (l : List Event). parts_stand bytes (enter name p ∷ l)) (append_assoc inside (exit name q ∷ []) ys)
-      ∙ ap (λ (x : Bool). x && parts_stand bytes rest) (stands ys)
-      ∙ outside-parts bytes inside (exit name q ∷ ys) h.outside;
-  chunks = λ ys.
-      let rest : List Event = inside ++ exit name q ∷ ys in
-      ap (λ (l : List Event). chunks_stand 0 (enter name p ∷ l)) (append_assoc inside (exit name q ∷ []) ys)
-      ∙ ap (λ (x : Option PartKind). chunks_stand (cond ((elim x [ None ↦ false | Some kind ↦ true ]) && true) 1 0) rest) named
-      ∙ h.stand (exit name q ∷ ys)
-      ∙ ap (λ (x : Option PartKind). cond (elim x [ None ↦ false | Some kind ↦ true ]) (chunks_stand 0 ys) (stands_in_part Exit name && chunks_stand 0 ys)) named;
-}
-  where
-    end : (ys : List Event) → part_end (inside ++ exit name q ∷ ys) ≡ q
-    end ys = end-goes inside (exit name q ∷ ys) h.outside ∙ ap (λ (x : Option PartKind). cond ((elim x [ None ↦ false | Some kind ↦ true ]) && true) q (part_end ys)) named
-
-    held : (ys : List Event) → chunks (pieces (inside_part (inside ++ exit name q ∷ ys))) ≡ cs
-    held ys = ap (λ (l : List Event). chunks (pieces l)) (part-inside name kind q inside ys named h.outside) ∙ h.has
-
-    stands : (ys : List Event) → part_stands bytes Enter (part_kind name) p (inside ++ exit name q ∷ ys) ≡ true
-    stands ys =
-        let rest : List Event = inside ++ exit name q ∷ ys in
-        let list : List Chunk = chunks (pieces (inside_part rest)) in
-        let white : Bool = list_all (is_white_piece bytes) (pieces (inside_part rest)) in
-        ap (λ (x : Option PartKind). part_stands bytes Enter x p rest) named
-        ∙ and_from (begins_at p list && white) (are_lines bytes (part_end rest) list)
-        (and_from (begins_at p list) white (ap (begins_at p) (held ys) ∙ begins) (ap (λ (l : List Event). list_all (is_white_piece bytes) (pieces l)) (part-inside name kind q inside ys named h.outside) ∙ h.white))
-        (ap (λ (r : Point). are_lines bytes r list) (end ys) ∙ ap (are_lines bytes q) (held ys) ∙ lines)
-
 -- Headings.
-
--- what stands in a heading
-stands-title : (options : ParseOptions) (bytes line : List ℕ) (row : Row) → IsRow options bytes line row → Stands bytes (unread_title (title_of line row.first))
-stands-title options bytes line row is =
-    let title : Title = title_of line row.first in
-    stands-append bytes (title.front ++ linked_text title.text) title.back
-    (stands-append bytes title.front (linked_text title.text)
-    (stands-outside bytes title.front (runs-no_parts heading.Apart (take (front_len line) line) row.first) (front-unlinked line row.first)) (text (length (text_of line) == 0) refl))
-    (stands-outside bytes title.back (runs-no_parts heading.Apart (drop (front_len line + length (text_of line)) line) end) (back-unlinked line row.first))
-  where
-    begin : Point
-    begin = text_begin line row.first
-
-    end : Point
-    end = text_end line row.first
-
-    chunk : Chunk
-    chunk = record { first = begin; after = end }
-
-    text : (x : Bool) → (length (text_of line) == 0) ≡ x → Stands bytes (linked_text (cond x None (Some chunk)))
-    text true e = stands-outside bytes [] tt tt
-    text false e =
-        stands-part bytes n.HeadingAtxText Text begin end (chunk ∷ []) (linked n.Data heading_link (chunk ∷ [])) refl (inside-linked bytes heading_link (chunk ∷ [])) (same-refl begin)
-        (title-lines options bytes line row is (grind (arith, nat_tests)))
 
 -- Groups.
 
@@ -311,24 +155,6 @@ pub blocks-chunks : (options : ParseOptions) (bytes : List ℕ) (cs : List Conta
 blocks-chunks options bytes cs going p lines rows are quiet unlinked = all-chunks bytes (mark_events bytes ++ titled_groups bytes (groups rows)) (blocks-both options bytes cs going p lines rows are quiet unlinked)
 
 -- Their events nest.
-
--- a chunk
-linked-nested : (link : Link) (p q : Point) → IsTrue (at_or_before p q) → Nested_in p q (enter_link n.Data p link ∷ exit n.Data q ∷ [])
-linked-nested link p q h = (record { matches = (tt, (refl, tt)); closed = refl }, ((at_or_before-refl p, (h, tt)), at_or_before-refl q))
-
--- the text of a heading, if there is one
-text-nested : (line : List ℕ) (p : Point) → Nested_in (text_begin line p) (text_end line p) (linked_text (title_of line p).text)
-text-nested line p = go (length (text_of line) == 0)
-  where
-    begin : Point
-    begin = text_begin line p
-
-    end : Point
-    end = text_end line p
-
-    go : (none : Bool) → Nested_in begin end (linked_text (cond none None (Some (record { first = begin; after = end }))))
-    go true = (balanced-none, (tt, text-order line p))
-    go false = around-nested n.HeadingAtxText begin end (enter_link n.Data begin heading_link ∷ exit n.Data end ∷ []) (linked-nested heading_link begin end (text-order line p))
 
 single-nested : (bytes : List ℕ) (names kept : List Name) (p : Point) (row : Row) (events : List Event) → Ordered bytes p row → Keeps names row kept → row.kind ≢ TextRow → Under kept (behind_row row) events → (kind : RowKind) → row.kind ≡ kind →
     Under names p (titled_row_by bytes kind row ++ events)

@@ -27,8 +27,7 @@ use Rattle.markdown_blocks.specs.Document.{body_point, mark_end}
 use Rattle.markdown_blocks.specs.Fed.{rests_from}
 use Rattle.markdown_blocks.specs.Fronted.{Contained, Prefixed, contained, no_prefix, one_more, prefixes_new, prefixes_on, rest_line}
 use Rattle.markdown_blocks.specs.Parsed.{IsBuilt}
-use Rattle.markdown_blocks.specs.Rows.{BlankRow, BreakRow, HeadingRow, Row, RowKind, TextRow, groups, groups_events, is_lazy, line_kind}
-use Rattle.markdown_blocks.specs.Sections.{heading_block}
+use Rattle.markdown_blocks.specs.Rows.{BlankRow, Row, RowKind, TextRow, groups, groups_events, is_lazy, line_kind}
 use Rattle.markdown_blocks.specs.Stands.{IsPlain, IsPlainLeaf, containers_of, is_going, shape_of}
 use Rattle.markdown_blocks.proofs.ContainedLemmas.{IsQuoteTaken, contained-shapes, opens-quote, quote-alone}
 use Rattle.markdown_blocks.proofs.LineKinds.{heading-kind}
@@ -36,6 +35,7 @@ use Rattle.markdown_blocks.proofs.LineSteps.{behind_path, contained_at, fresh-fo
 use Rattle.markdown_blocks.proofs.MarkLemmas.{without-mark}
 use Rattle.markdown_blocks.proofs.RowFacts as f
 use Rattle.markdown_blocks.proofs.SpelledRows.{spelled-rows}
+use Rattle.markdown_blocks.specs.Leaf.HeadingAtx.{heading_block}
 
 -- Simple trees.
 

@@ -5,7 +5,8 @@
 -- behind it, and its ending. The lines of a paragraph are one leaf: a chunk for each line, with its ending but the last, and in front
 -- of each further chunk what stands in front of its line.
 --
--- What the lines are (`Row`), and which of them are a paragraph (`groups`), stands in `Rows`; the parts of a heading in `HeadingTitle`.
+-- What the lines are (`Row`), and which of them are a paragraph (`groups`), stands in `Rows`; the events of a leaf on one line in its own file
+-- of `Leaf`.
 use Rattle.std.specs.Prelude.{ℕ, List, [], ◌∷◌, ◌++◌}
 use Rattle.md_engine.specs.declared.configuration.ParseOptions.{ParseOptions}
 use Rattle.md_engine.specs.declared.event.Event.{Event}
@@ -13,10 +14,9 @@ use Rattle.md_engine.specs.declared.event.Link.{Link}
 use Rattle.md_engine.specs.declared.event.Name.{Name}
 use Rattle.md_engine.specs.declared.event.Name.TheVariants as n
 use Rattle.md_content.specs.Paragraph.{text_link}
-use Rattle.md_leaves.specs.HeadingTitle.{unread_title}
 use Rattle.md_seam.specs.Events.Nested.{around, enter_link, exit}
 use Rattle.markdown_blocks.specs.Document.{body_point, mark_events}
-use Rattle.markdown_blocks.specs.Rows.{Group, HeadingRow, Lines, Row, RowKind, Single, behind_row, ending_of, groups, last_row, leaf_events, row_title, tail_events}
+use Rattle.markdown_blocks.specs.Rows.{Group, Lines, Row, RowKind, Single, behind_row, ending_of, groups, last_row, leaf_unread, tail_events}
 use Rattle.markdown_blocks.specs.TextRows.{text_rows}
 
 -- the lines of a part that is not read yet, each a chunk; in front of each further one stand the prefixes of its containers
@@ -28,14 +28,9 @@ linked_lines name link row (next ∷ rows) = enter_link name row.first link ∷ 
 abbrev pub unread_paragraph : Row → List Row → List Event
 unread_paragraph row rows = around n.Paragraph row.first (last_row row rows).end (linked_lines n.Data text_link row rows)
 
--- the leaf of a line that is no text: the whitespace of a blank line, a heading with its parts, or a break with its runs
-abbrev pub titled_leaf : List ℕ → RowKind → Row → List Event
-titled_leaf bytes HeadingRow row = around n.HeadingAtx row.first row.end (unread_title (row_title bytes row))
-titled_leaf bytes kind row = leaf_events kind row
-
 -- a line that is no text
 abbrev pub titled_row_by : List ℕ → RowKind → Row → List Event
-titled_row_by bytes kind row = row.front ++ titled_leaf bytes kind row ++ tail_events (ending_of kind) row
+titled_row_by bytes kind row = row.front ++ leaf_unread bytes kind row ++ tail_events (ending_of kind) row
 
 -- such a line, or the lines of a paragraph
 abbrev pub titled_group : List ℕ → Group → List Event

@@ -10,9 +10,9 @@ use Rattle.md_engine.specs.World.{World}
 use Rattle.md_content.specs.ContentReads.{content_readings, wants_content}
 use Rattle.md_content.specs.Joined.{joined}
 use Rattle.md_content.specs.Resolves.{found_in_content}
-use Rattle.md_leaves.specs.HeadingText.{headings_resolved}
 use Rattle.md_seam.specs.Substituted.{Substituted}
 use Rattle.markdown_blocks.specs.Fed.{FlowRan}
+use Rattle.markdown_blocks.specs.Registry.{resolved}
 use Rattle.markdown_blocks.specs.Rows.{Row, is_text, rows_events}
 pub use Rattle.markdown_blocks.specs.TextRows.{text_cells, text_rows, text_setting}
 
@@ -31,8 +31,8 @@ pub record FlowReads (bytes : List ℕ) (options : ParseOptions) (p : Point) (fo
   -- content is read,
   pub content : List Event
   pub content_read : Substituted wants_content (content_readings bytes options) [] 0 (joined (rows_events (text_rows options bytes p))) content
-  -- and then the text of headings is set
-  pub events_are : new.events ≡ headings_resolved content
+  -- and then the other resolvers run
+  pub events_are : new.events ≡ resolved content
   -- all else stays, but that no resolver is left to run
   pub rest : new ≡ record ended { events = new.events; resolvers = [] }
   pub setting : new.setting ≡ text_setting bytes options p

@@ -17,6 +17,7 @@ use Rattle.md_leaves.specs.HeadingRule as heading
 use Rattle.md_leaves.specs.HeadingRule.{HasHeading, Hashes, Text, before_opening, heading_at, in_heading, in_opening}
 use Rattle.md_seam.specs.Ahead.{after_white, inside_white, white_at}
 use Rattle.md_seam.specs.Events.Nested.{pair}
+use Rattle.markdown_blocks.specs.Registry.{LeafName, leaf, trials}
 use Rattle.markdown_blocks.specs.LineFlags.{begun_line, blanked, ending_name, next_container, next_line, stays, went_on, with_quote}
 
 -- how the rest of a text ends from a place
@@ -49,15 +50,25 @@ tried (Accepts h rest) onward otherwise = onward rest h
 tried (Refuses s g) onward otherwise = otherwise s g
 tried Fails onward otherwise = Fails
 
--- a line that is neither blank, nor a heading, nor a break is content
+-- a line that no leaf takes is content
 abbrev pub content_of : Rule → Rule
 content_of next cells h = tried (chunk_at cells h) (line_ended next) Refuses
 
+-- leaves are tried one after another
+abbrev pub leaves_of : ParseOptions → Rule → List LeafName → Rule
+leaves_of options next [] cells h = content_of next cells h
+leaves_of options next (l ∷ ls) cells h = tried ((leaf l).trial options cells h) (line_ended next) (λ s g. leaves_of options next ls cells (record h { scratch = s; flags = g }))
+
+-- behind one
+abbrev pub behind_first : List LeafName → List LeafName
+behind_first [] = []
+behind_first (l ∷ ls) = ls
+
 abbrev pub break_of : ParseOptions → Rule → Rule
-break_of options next cells h = tried (break_at options cells h) (line_ended next) (λ s g. content_of next cells (record h { scratch = s; flags = g }))
+break_of options next cells h = leaves_of options next (behind_first trials) cells h
 
 abbrev pub nonblank_of : ParseOptions → Rule → Rule
-nonblank_of options next cells h = tried (heading_at options cells h) (line_ended next) (λ s g. break_of options next cells (record h { scratch = s; flags = g }))
+nonblank_of options next cells h = leaves_of options next trials cells h
 
 -- the rest of a line behind its containers
 abbrev pub leaf_of : ParseOptions → Rule → Rule

@@ -47,7 +47,7 @@ abbrev pub contained_by : List Container → Bool → Prefixed → Prefixed → 
 contained_by cs lazy went new = record { change = change_by lazy went.containers (others_of cs went.containers) new.containers; rest = new.rest }
 
 abbrev pub contained_of : ParseOptions → List Container → Bool → Prefixed → Prefixed → Contained
-contained_of options cs going went new = contained_by cs (is_lazy going new.containers (line_kind options (rest_line new.rest))) went new
+contained_of options cs going went new = contained_by cs (is_lazy going new.containers (line_kind options new.rest)) went new
 
 abbrev pub contained_behind : ParseOptions → List Container → Bool → Prefixed → Contained
 contained_behind options cs going went =

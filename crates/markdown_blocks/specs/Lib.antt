@@ -5,9 +5,11 @@ pub mod Parsed
 pub mod Resolved
 pub mod FlowRule
 pub mod Change
+pub mod LineLeaf
+pub mod Leaf
+pub mod Registry
 pub mod Rows
 pub mod Fronted
-pub mod Sections
 pub mod Stands
 pub mod TextRows
 pub mod BlockList

@@ -1,4 +1,4 @@
--- The lines of a text as they are read, where block quotes, headings and breaks may be on, and the events of each.
+-- The lines of a text as they are read, and the events of each.
 use Rattle.std.specs.Prelude.{ℕ, zero, suc, Bool, true, false, ◌&&◌, length, if◌then◌else◌, List, [], ◌∷◌, ◌++◌, slice_range, Option, Some, None}
 use Rattle.md_engine.specs.declared.configuration.ParseOptions.{ParseOptions}
 use Rattle.md_engine.specs.declared.event.Event.{Event}
@@ -9,25 +9,20 @@ use Rattle.md_engine.specs.Meaning.{Cell}
 use Rattle.md_containers.specs.QuoteRule.{prefix_end, prefix_events, prefix_rest, takes_prefix}
 use Rattle.md_content.specs.Chunks.{content_link}
 use Rattle.md_leaves.specs.BlankRule.{blank_events}
-use Rattle.md_leaves.specs.BreakRule.{Apart, runs}
-use Rattle.md_leaves.specs.HeadingRule.{heading_inside, is_heading, is_heading_line}
-use Rattle.md_leaves.specs.HeadingTitle.{Title, title_of}
 use Rattle.md_seam.specs.declared.inline.Chunk.{Chunk}
-use Rattle.md_seam.specs.declared.inline.PartKind.TheVariants.{Text}
-use Rattle.md_seam.specs.Ahead.{begins_white, from_ending, line_bytes, line_cells, line_end, white_end, white_rest}
-use Rattle.md_seam.specs.Events.Inline.{plain_chunk, plain_events}
-use Rattle.md_seam.specs.Standard.Leaves.{is_rule}
+use Rattle.md_seam.specs.Ahead.{from_ending, line_bytes, line_end}
+use Rattle.md_seam.specs.Events.Inline.{plain_chunk}
+use Rattle.md_seam.specs.Events.Places.{past_text}
 use Rattle.md_seam.specs.Events.Nested.{around, enter, enter_link, exit, pair}
-use Rattle.md_seam.specs.Standard.Rest.{is_blank, trim_start}
-use Rattle.md_seam.specs.Spaces.{small_indent}
+use Rattle.md_seam.specs.Standard.Rest.{Rest, is_blank}
 use Rattle.md_seam.specs.Standard.State.{Container, InQuote}
+use Rattle.markdown_blocks.specs.Registry.{LeafName, first_of, leaf, trials}
 use Rattle.markdown_blocks.specs.Change.{Change, change_by, ends_of, interrupts, is_none, open_behind, others_of}
 
--- what the rest of a line is, behind the prefixes of its containers, where only headings and breaks are on
+-- what the rest of a line is, behind the prefixes of its containers
 pub data RowKind : Type 0 where
   BlankRow : RowKind
-  HeadingRow : RowKind
-  BreakRow : RowKind
+  LeafRow : LeafName → RowKind
   TextRow : RowKind
 
 -- A line that was read.
@@ -39,51 +34,35 @@ pub record Row : Type 0 where
   pub change : Change
   -- those that end behind it, the outermost first
   pub leaves : List Container
-  -- behind its containers: where it begins, what stands in it unless it is text, where its ending begins, and where it has
-  -- ended, if it has an ending
+  -- behind its containers: where it begins, what flow adds for it unless it is text (the whitespace of a blank line, or a leaf from its
+  -- begin to its end), where its ending begins, and where it has ended, if it has an ending
   pub first : Point
   pub inside : List Event
   pub end : Point
   pub after : Option Point
 
--- By the bytes of a line.
-abbrev pub line_kind : ParseOptions → List ℕ → RowKind
-line_kind options line =
-    if is_blank line then BlankRow
-    else if options.constructs.heading_atx && is_heading (trim_start line) then HeadingRow
-    else if options.constructs.thematic_break && is_rule (trim_start line) then BreakRow
-    else TextRow
+-- a leaf, if one takes the line, and else text
+abbrev pub kind_of : Option LeafName → RowKind
+kind_of None = TextRow
+kind_of (Some l) = LeafRow l
+
+-- By the rest of a line, as the line definition has it.
+abbrev pub line_kind : ParseOptions → Rest → RowKind
+line_kind options r = if is_blank r.bytes then BlankRow else kind_of (first_of (λ l. (leaf l).starts options r) trials)
 
 -- By its cells.
-
--- the byte of the markers, and 0 of none
-abbrev pub first_cell : List Cell → ℕ
-first_cell [] = 0
-first_cell (c ∷ cs) = c.byte
-
--- whether a break stands here, with as much whitespace before it as there may be
-abbrev pub is_break : ParseOptions → List Cell → Bool
-is_break options cells = options.constructs.thematic_break && is_rule (line_bytes (white_rest (small_indent options) cells))
-
 abbrev pub row_kind : ParseOptions → List Cell → RowKind
-row_kind options cells =
-    if is_blank (line_bytes cells) then BlankRow
-    else if is_heading_line options cells then HeadingRow
-    else if is_break options cells then BreakRow
-    else TextRow
+row_kind options cells = if is_blank (line_bytes cells) then BlankRow else kind_of (first_of (λ l. (leaf l).takes options cells) trials)
 
--- what stands in a break: its indent, and its runs
-abbrev pub break_inside : ParseOptions → List Cell → Point → List Event
-break_inside options cells p =
-    let room = small_indent options in
-    let rest = white_rest room cells in
-    let q = white_end room cells p in
-    (if begins_white cells then pair n.SpaceOrTab p q else []) ++ runs Apart (first_cell rest) (line_cells rest) q
+-- by the bytes of a blank line, its whitespace
+abbrev pub blank_line : List ℕ → Point → List Event
+blank_line [] p = []
+blank_line (b ∷ bs) p = pair n.SpaceOrTab p (past_text (b ∷ bs) p)
 
+-- what flow adds for a line that is no text
 abbrev pub inside_of : ParseOptions → List Cell → Point → RowKind → List Event
 inside_of options cells p BlankRow = blank_events cells p
-inside_of options cells p HeadingRow = heading_inside options cells p
-inside_of options cells p BreakRow = break_inside options cells p
+inside_of options cells p (LeafRow l) = (leaf l).adds options cells p
 inside_of options cells p TextRow = []
 
 -- where the cells behind an ending begin
@@ -220,8 +199,7 @@ ending_of _ = n.LineEnding
 -- what flow adds for the rest of a line
 abbrev pub leaf_events : RowKind → Row → List Event
 leaf_events BlankRow row = row.inside
-leaf_events HeadingRow row = around n.HeadingAtx row.first row.end row.inside
-leaf_events BreakRow row = around n.ThematicBreak row.first row.end row.inside
+leaf_events (LeafRow l) row = row.inside
 leaf_events TextRow row = enter_link n.Content row.first content_link ∷ exit n.Content row.end ∷ []
 
 abbrev pub row_events_by : RowKind → Row → List Event
@@ -235,28 +213,27 @@ abbrev pub rows_events : List Row → List Event
 rows_events [] = []
 rows_events (row ∷ rows) = row_events row ++ rows_events rows
 
--- Headings.
+-- Leaves.
 
 -- the bytes of a line
 abbrev pub row_line : List ℕ → Row → List ℕ
 row_line bytes row = slice_range bytes row.first.index row.end.index
 
--- the parts of a heading
-abbrev pub row_title : List ℕ → Row → Title
-row_title bytes row = title_of (row_line bytes row) row.first
+-- what stands in the place of a line that is no text, before text parts are read
+abbrev pub leaf_unread : List ℕ → RowKind → Row → List Event
+leaf_unread bytes BlankRow row = row.inside
+leaf_unread bytes (LeafRow l) row = (leaf l).unread (row_line bytes row) row.first
+leaf_unread bytes TextRow row = leaf_events TextRow row
 
--- the text of a heading, once it is read
-abbrev pub read_text : List ℕ → Option Chunk → List Event
-read_text bytes None = []
-read_text bytes (Some chunk) = around n.HeadingAtxText chunk.first chunk.after (plain_events bytes (record { kind = Text; chunks = chunk ∷ [] }))
-
-abbrev pub read_title : List ℕ → Title → List Event
-read_title bytes title = title.front ++ read_text bytes title.text ++ title.back
+-- and once they are
+abbrev pub leaf_done : List ℕ → RowKind → Row → List Event
+leaf_done bytes BlankRow row = row.inside
+leaf_done bytes (LeafRow l) row = (leaf l).done bytes (row_line bytes row) row.first
+leaf_done bytes TextRow row = leaf_events TextRow row
 
 -- the events of a line that is no text, once its parts are read
 abbrev pub single_events_by : List ℕ → RowKind → Row → List Event
-single_events_by bytes HeadingRow row = row.front ++ around n.HeadingAtx row.first row.end (read_title bytes (row_title bytes row)) ++ tail_events n.LineEnding row
-single_events_by bytes kind row = row_events_by kind row
+single_events_by bytes kind row = row.front ++ leaf_done bytes kind row ++ tail_events (ending_of kind) row
 
 -- Paragraphs.
 

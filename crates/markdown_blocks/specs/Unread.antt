@@ -1,4 +1,4 @@
--- The events of a text where quotes, headings and breaks may be on, on the way to its block list.
+-- The events of a text on the way to its block list.
 use Rattle.std.specs.Prelude.{List, [], ◌∷◌, ◌++◌}
 use Rattle.md_engine.specs.declared.event.Event.{Event}
 use Rattle.md_engine.specs.declared.event.Link.{Link}
@@ -7,7 +7,7 @@ use Rattle.md_engine.specs.declared.event.Name.TheVariants as n
 use Rattle.md_content.specs.Chunks.{content_link}
 use Rattle.md_seam.specs.declared.inline.Chunk.{Chunk}
 use Rattle.md_seam.specs.Events.Nested.{enter_link, exit}
-pub use Rattle.markdown_blocks.specs.BlockList.{linked_lines, titled_group, titled_groups, titled_leaf, titled_row_by, unread_paragraph}
+pub use Rattle.markdown_blocks.specs.BlockList.{linked_lines, titled_group, titled_groups, titled_row_by, unread_paragraph}
 use Rattle.markdown_blocks.specs.Rows.{Group, Lines, Single, last_row, row_events, tail_events}
 
 -- the chunks of a part that is not read yet
@@ -24,7 +24,7 @@ abbrev pub joined_groups : List Group → List Event
 joined_groups [] = []
 joined_groups (group ∷ groups) = joined_group group ++ joined_groups groups
 
--- Paragraphs, before their text is read; headings whose text is not set yet.
+-- Paragraphs, before their text is read; leaves as their states leave them.
 abbrev pub unread_group : Group → List Event
 unread_group (Single row) = row_events row
 unread_group (Lines row rows) = row.front ++ unread_paragraph row rows ++ tail_events n.LineEnding (last_row row rows)

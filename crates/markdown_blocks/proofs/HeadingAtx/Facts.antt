@@ -1,6 +1,6 @@
 -- What is known of the parts of a heading on a line.
 use Rattle.std.proofs.Common.{◌≡◌, ℕ, ◌+◌, Bool, true, false, ◌||◌, List, [], ◌∷◌, ◌++◌, length, take, drop, refl, sym, ◌∙◌, ap, subst, append_assoc, append-nil}
-use Rattle.std.specs.Prelude.{◌==◌, None}
+use Rattle.std.specs.Prelude.{◌==◌}
 use Rattle.std.specs.List.{AllPass}
 use Rattle.md_engine.specs.declared.event.Event.{Event}
 use Rattle.md_engine.specs.declared.event.Name.TheVariants as n
@@ -13,11 +13,7 @@ use Rattle.md_leaves.proofs.TitleRuns.{pass-first, pass-rest}
 use Rattle.md_seam.specs.Events.Nested.{around, enter, exit}
 use Rattle.md_seam.specs.Events.Places.{past_byte, past_text}
 use Rattle.md_seam.specs.Standard.Rest.{is_white, trim_start}
-
--- events without links
-abbrev pub NoLinks : List Event → Type 0
-NoLinks [] = Unit {0}
-NoLinks (e ∷ es) = (e.link ≡ None) × NoLinks es
+use Rattle.markdown_blocks.proofs.PartFacts.{NoLinks}
 
 -- the resolver sets the text of a heading, and goes on behind it
 pub heading-resolved : (line : List ℕ) (p q : Point) (es : List Event) → is_heading (trim_start line) ≡ true →

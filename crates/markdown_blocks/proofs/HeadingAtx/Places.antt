@@ -1,5 +1,5 @@
 -- The parts of a heading nest, and stand one behind the other on its line.
-use Rattle.std.proofs.Common.{◌≡◌, ◌≢◌, ℕ, ◌+◌, Bool, true, false, cond, List, [], ◌∷◌, ◌++◌, length, take, drop, refl, ap, sym, ◌∙◌, subst, append_assoc, append-nil, take-add}
+use Rattle.std.proofs.Common.{◌≡◌, ◌≢◌, ℕ, ◌+◌, List, [], ◌∷◌, ◌++◌, length, take, drop, refl, ap, sym, ◌∙◌, subst, append_assoc, append-nil, take-add}
 use Rattle.std.specs.Prelude.{IsTrue}
 use Rattle.std.proofs.lemmas.List.{take-append-drop}
 use Rattle.md_engine.specs.declared.event.Event.{Event}
@@ -8,11 +8,12 @@ use Rattle.md_engine.specs.declared.event.Name.TheVariants as n
 use Rattle.md_engine.specs.declared.event.Point.{Point}
 use Rattle.md_leaves.specs.HeadingRule.{Apart, Hashes, Run, Text, White, begun, closes, goes_on, opens}
 use Rattle.md_leaves.specs.HeadingTitle.{front_len, line_runs, text_of, title_of}
-use Rattle.md_seam.specs.Events.Nested.{Balanced, Forward, Matches, last_point, open_after}
+use Rattle.md_seam.specs.Events.Nested.{Balanced, Matches, open_after}
 use Rattle.md_seam.specs.Events.Places.{at_or_before, past_byte, past_text}
 use Rattle.md_seam.proofs.InlineLemmas.{before-text, past_text-append}
-use Rattle.md_seam.proofs.NestedLemmas.{at_or_before-refl, at_or_before-trans, forward-append, last_point-append}
-use Rattle.markdown_blocks.specs.Rows.{BlankRow, BreakRow, HeadingRow, RowKind}
+use Rattle.md_seam.proofs.NestedLemmas.{at_or_before-refl, at_or_before-trans}
+use Rattle.markdown_blocks.specs.Rows.{BlankRow, RowKind}
+use Rattle.markdown_blocks.proofs.SpanLemmas.{Spans, either, spans-append}
 
 -- Lines that are no headings.
 
@@ -24,25 +25,7 @@ break-no_heading kind e k = cc
 
 -- Points.
 
--- from a point on, and up to a point
-abbrev pub Spans : Point → Point → List Event → Type 0
-Spans p r es = Forward p es × IsTrue (at_or_before (last_point p es) r)
-
-pub spans-from : (p q r : Point) (es : List Event) → IsTrue (at_or_before p q) → Spans q r es → Spans p r es
-spans-from p q r [] h k = (tt, at_or_before-trans p q r h k.1)
-spans-from p q r (e ∷ es) h k = ((at_or_before-trans p q e.point h k.0.0, k.0.1), k.1)
-
-pub spans-append : (p q r : Point) (xs ys : List Event) → Spans p q xs → Spans q r ys → Spans p r (xs ++ ys)
-spans-append p q r xs ys h k =
-    let more : Spans (last_point p xs) r ys = spans-from (last_point p xs) q r ys h.1 k in
-    (forward-append p xs ys h.0 more.0, subst (λ (s : Point). IsTrue (at_or_before s r)) (sym (last_point-append p xs ys)) more.1)
-
 -- Runs.
-
--- what holds of both holds of the one that is taken
-pub either : (P : List Event → Type 0) (t : Bool) (xs ys : List Event) → P xs → P ys → P (cond t xs ys)
-either P true xs ys h k = h
-either P false xs ys h k = k
 
 -- what is open in a run
 abbrev open_in : Run → List Name

@@ -1,31 +1,25 @@
--- What stands in a blank line and in a break keeps the grammar of events.
+-- What stands in a thematic break keeps the grammar of events.
 use Rattle.std.proofs.Common.{◌≡◌, Bool, true, false, cond, List, [], ◌∷◌, ◌++◌, refl, ap, sym, ◌∙◌, subst}
 use Rattle.std.proofs.lemmas.Bool.{and_parts}
 use Rattle.md_engine.specs.declared.configuration.ParseOptions.{ParseOptions}
-use Rattle.md_engine.specs.declared.event.Event.{Event}
 use Rattle.md_engine.specs.declared.event.Name.TheVariants as n
 use Rattle.md_engine.specs.declared.event.Point.{Point}
 use Rattle.md_engine.specs.Meaning.{Cell}
 use Rattle.md_leaves.specs.BreakRule.{Apart, runs}
 use Rattle.md_leaves.specs.HeadingRule.{is_heading_line}
 use Rattle.md_leaves.proofs.GrammarLeaves.{break-word}
-use Rattle.md_seam.specs.Ahead.{begins_white, line_bytes, line_cells, line_end, white_end, white_rest}
-use Rattle.md_seam.specs.Events.Grammar.{Expression, blocks, inside, left_of}
+use Rattle.md_seam.specs.Ahead.{begins_white, line_bytes, line_cells, white_end, white_rest}
+use Rattle.md_seam.specs.Events.Grammar.{Expression, inside}
 use Rattle.md_seam.specs.Standard.Leaves.{is_rule}
 use Rattle.md_seam.specs.Events.Nested.{pair}
 use Rattle.md_seam.specs.Standard.Rest.{is_blank}
 use Rattle.md_seam.specs.Spaces.{small_indent}
 use Rattle.md_seam.proofs.GrammarLemmas.{IsWord, Leads, maybe, word-behind}
-use Rattle.markdown_blocks.specs.Rows.{BlankRow, BreakRow, HeadingRow, RowKind, TextRow, first_cell, inside_of, is_break, row_kind}
-
--- a blank line may stand between blocks, and a break is one
-abbrev pub Worded : RowKind → List Event → Type 0
-Worded BlankRow es = (text : Expression) → Leads text (blocks ∷ []) (blocks ∷ []) es
-Worded BreakRow es = (text : Expression) → IsWord text (inside text n.ThematicBreak ∷ []) es
-Worded _ es = Unit {0}
+use Rattle.markdown_blocks.specs.Rows.{BlankRow, TextRow, inside_of, row_kind}
+use Rattle.markdown_blocks.specs.Leaf.ThematicBreak.{first_cell, is_break}
 
 -- by its kind, a break stands there
-kind-break : (options : ParseOptions) (cells : List Cell) → row_kind options cells ≡ BreakRow → is_break options cells ≡ true
+pub kind-break : (options : ParseOptions) (cells : List Cell) → row_kind options cells ≡ BreakRow → is_break options cells ≡ true
 kind-break options cells e = go (is_blank (line_bytes cells)) (is_heading_line options cells) (is_break options cells) e
   where
     go : (x y z : Bool) → cond x BlankRow (cond y HeadingRow (cond z BreakRow TextRow)) ≡ BreakRow → z ≡ true
@@ -35,7 +29,7 @@ kind-break options cells e = go (is_blank (line_bytes cells)) (is_heading_line o
     go false false false e = cc
 
 -- what stands in a break, with its indent
-break-worded : (options : ParseOptions) (cells : List Cell) (p : Point) (text : Expression) → is_break options cells ≡ true →
+pub break-worded : (options : ParseOptions) (cells : List Cell) (p : Point) (text : Expression) → is_break options cells ≡ true →
     IsWord text (inside text n.ThematicBreak ∷ []) (inside_of options cells p BreakRow)
 break-worded options cells p text h = go (white_rest (small_indent options) cells) refl
   where
@@ -57,15 +51,3 @@ break-worded options cells p text h = go (white_rest (small_indent options) cell
         subst (λ (l : List Cell). IsWord text (inside text n.ThematicBreak ∷ []) (cond (begins_white cells) (pair n.SpaceOrTab p q) [] ++ runs Apart (first_cell l) (line_cells l) q)) (sym e)
         (word-behind text (inside text n.ThematicBreak ∷ []) (maybe (begins_white cells) n.SpaceOrTab (inside text n.ThematicBreak) ∷ []) (cond (begins_white cells) (pair n.SpaceOrTab p q) []) (runs Apart c.byte (line_cells (c ∷ cs)) q) (indent (begins_white cells))
         (break-word text (begins_white cells) c cs q (ap (λ (l : List Cell). is_rule (line_bytes l)) (sym e) ∙ rule)))
-
--- so it is in the lines that flow reads
-pub inside-worded : (options : ParseOptions) (cells : List Cell) (p : Point) (kind : RowKind) → row_kind options cells ≡ kind →
-    Worded kind (inside_of options cells p kind)
-inside-worded options cells p BlankRow e = λ text outer. go text outer (begins_white cells)
-  where
-    go : (text : Expression) (outer : List Expression) (some : Bool) → left_of text (blocks ∷ outer) (cond some (pair n.SpaceOrTab p (line_end cells p)) []) ≡ blocks ∷ outer
-    go text outer true = refl
-    go text outer false = refl
-inside-worded options cells p HeadingRow e = tt
-inside-worded options cells p BreakRow e = λ text. break-worded options cells p text (kind-break options cells e)
-inside-worded options cells p TextRow e = tt

@@ -27,13 +27,13 @@ use Rattle.md_seam.proofs.BlocksLemmas.{read-leaf, read-told}
 use Rattle.md_seam.proofs.InlineLemmas.{past-index}
 use Rattle.md_seam.proofs.SpelledLemmas.{Between, Quiet, QuietOrEnding, Roles, read-from, read-quiet, text-inline, text_after}
 use Rattle.md_seam.proofs.TextsLemmas.{NoEnding, split-line}
-use Rattle.markdown_blocks.specs.Rows.{Row, read_text, read_title, row_title}
-use Rattle.markdown_blocks.specs.Sections.{heading_block}
+use Rattle.markdown_blocks.specs.Rows.{Row}
 use Rattle.md_seam.proofs.FeedLines.{past_text-whole, slice-inside}
-use Rattle.markdown_blocks.proofs.GroupLemmas.{IsTitle, title-is}
 use Rattle.markdown_blocks.proofs.LineKinds.{count-none, count-one}
 use Rattle.markdown_blocks.proofs.PlainRoles.{plain-roles}
 use Rattle.markdown_blocks.proofs.RowFacts.{IsRow}
+use Rattle.markdown_blocks.specs.Leaf.HeadingAtx.{heading_block, read_text, read_title}
+use Rattle.markdown_blocks.proofs.HeadingAtx.Texts.{IsTitle, title-is}
 
 -- how many bytes a run of `#` has, and the whitespace behind it
 abbrev opening_by : ℕ → List ℕ → ℕ

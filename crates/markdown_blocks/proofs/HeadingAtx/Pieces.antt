@@ -25,15 +25,17 @@ use Rattle.md_seam.specs.Standard.Texts.{split_lines}
 use Rattle.md_seam.proofs.FeedLines.{drop-past, ending-some, slice-split}
 use Rattle.md_seam.proofs.InlineLemmas.{past-index, past-vs}
 use Rattle.md_seam.proofs.TextsLemmas.{Both, Ending, LineFeed, NoEnding, Return, ending_bytes}
-use Rattle.markdown_blocks.specs.Rows.{HeadingRow, Row, read_text, read_title}
-use Rattle.markdown_blocks.proofs.GroupLemmas.{IsTitle, one-last, one-next, past-whole, piece, row-line, title-is, without-none, without-one}
+use Rattle.markdown_blocks.specs.Rows.{Row}
+use Rattle.markdown_blocks.proofs.GroupLemmas.{one-last, one-next, past-whole, piece, row-line, without-none, without-one}
 use Rattle.markdown_blocks.proofs.LineKinds.{heading-kind}
 use Rattle.markdown_blocks.proofs.PieceFacts.{CutsFirst, Over, Starts, Stood, begins-cut, begins-whole, chunk-stands, chunk_span, over-front, over-stands, span, starts-append, stood-append, stood-around, stood-none, stood-unless_empty, whole-first}
-use Rattle.markdown_blocks.proofs.PieceRuns.{hashes-stand}
 use Rattle.markdown_blocks.proofs.PiecesLemmas.{Tiled}
 use Rattle.markdown_blocks.proofs.RowFacts.{IsEnding, IsRow}
-use Rattle.markdown_blocks.proofs.TileCovers.{runs-tiled}
-use Rattle.markdown_blocks.proofs.TitleNests.{back_bytes, text_begin, text_end}
+use Rattle.markdown_blocks.proofs.HeadingAtx.Places.{back_bytes, text_begin, text_end}
+use Rattle.markdown_blocks.specs.Leaf.HeadingAtx.{read_text, read_title}
+use Rattle.markdown_blocks.proofs.HeadingAtx.Tiled.{runs-tiled}
+use Rattle.markdown_blocks.proofs.HeadingAtx.Texts.{IsTitle, title-is}
+use Rattle.markdown_blocks.proofs.HeadingAtx.Hashes.{hashes-stand}
 
 -- Chunks.
 

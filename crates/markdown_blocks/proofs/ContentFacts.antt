@@ -1,0 +1,25 @@
+-- Events in which no content stands.
+use Rattle.std.proofs.Common.{◌≡◌, Bool, false, List, [], ◌∷◌, ◌++◌}
+use Rattle.std.specs.Prelude.{None}
+use Rattle.md_engine.specs.declared.event.Content.{Content}
+use Rattle.md_engine.specs.declared.event.Event.{Event}
+use Rattle.md_content.specs.Joined.{is_content}
+use Rattle.md_seam.specs.Substituted.{wanted}
+use Rattle.markdown_blocks.proofs.SubstitutedLemmas.{Unwanted}
+
+-- events none of which is content, or begins a chunk that the reader wants
+abbrev pub NoContent : (Content → Bool) → List Event → Type 0
+NoContent wants [] = Unit {0}
+NoContent wants (e ∷ es) = (unwanted : wanted wants e ≡ None) × (name : is_content e.name ≡ false) × NoContent wants es
+
+pub no_content-append : (wants : Content → Bool) (xs ys : List Event) → NoContent wants xs → NoContent wants ys → NoContent wants (xs ++ ys)
+no_content-append wants [] ys h k = k
+no_content-append wants (e ∷ xs) ys h k = (h.0, h.1, no_content-append wants xs ys h.2 k)
+
+pub no_content-unwanted : (wants : Content → Bool) (es : List Event) → NoContent wants es → Unwanted wants es
+no_content-unwanted wants [] h = tt
+no_content-unwanted wants (e ∷ es) h = (h.0, no_content-unwanted wants es h.2)
+
+-- a reader that wants nothing
+abbrev pub nothing : Content → Bool
+nothing _ = false

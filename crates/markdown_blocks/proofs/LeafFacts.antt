@@ -1,0 +1,91 @@
+-- What is known of the events of a leaf, from the point where its line begins to the one where it ends.
+--
+-- The frame joins what stands in front of a line, its leaf and what stands behind it, and needs no more of a leaf than stands here. A
+-- blank line is such a leaf too, without a block.
+use Rattle.std.proofs.Common.{◌≡◌, ℕ, true, List, [], ◌∷◌, ◌+◌, length, ◌≤◌}
+use Rattle.std.specs.Prelude.{◌==◌, IsTrue, Option, Some, None, slice_range}
+use Rattle.std.specs.List.{list_all}
+use Rattle.std.specs.Option.{is_some}
+use Rattle.md_engine.specs.declared.event.Content.TheVariants as content
+use Rattle.md_engine.specs.declared.event.Event.{Event}
+use Rattle.md_engine.specs.declared.event.Point.{Point}
+use Rattle.md_seam.specs.declared.inline.Chunk.{Chunk}
+use Rattle.md_seam.specs.declared.inline.PartKind.TheVariants.{Text}
+use Rattle.md_seam.specs.Events.Endings.{Spot, line_start}
+use Rattle.md_seam.specs.Events.Grammar.{blocks, plain_text, unread_text}
+use Rattle.md_seam.specs.Events.Inline.{are_lines, plain_events}
+use Rattle.md_seam.specs.Events.Places.{past_text}
+use Rattle.md_seam.specs.Events.Spelled.{Reading, add_block, read}
+use Rattle.md_seam.specs.Standard.Rest.{Rest}
+use Rattle.md_seam.specs.Standard.Tree.{Block}
+use Rattle.md_seam.specs.Substituted.{Readings}
+use Rattle.md_outline.specs.Between.{is_between}
+use Rattle.md_seam.proofs.EndingsLemmas as ending
+use Rattle.md_seam.proofs.GrammarLemmas as grammar
+use Rattle.md_seam.proofs.RestCells.{Cut}
+use Rattle.md_seam.proofs.TextsLemmas.{NoEnding}
+use Rattle.markdown_blocks.specs.Fronted.{rest_line}
+use Rattle.markdown_blocks.proofs.BetweenFacts.{AreBetween}
+use Rattle.markdown_blocks.proofs.FillFacts.{Fill}
+use Rattle.markdown_blocks.proofs.GrammarFronts.{blocks_behind}
+use Rattle.markdown_blocks.proofs.PartedFacts.{Sits, clear}
+use Rattle.markdown_blocks.proofs.PartsStand.{Stands}
+use Rattle.markdown_blocks.proofs.PieceFacts.{CutsFirst, Stood}
+use Rattle.markdown_blocks.proofs.PiecesLemmas.{Tiled}
+use Rattle.markdown_blocks.proofs.PlainFacts.{ArePlain}
+use Rattle.markdown_blocks.proofs.SpanLemmas.{Nested_in}
+
+-- a reader of text gives for chunks that are lines, none of which ends within a tab, what the plain layer does
+abbrev pub ReadsText : List ℕ → Readings → Type 0
+ReadsText bytes reads =
+    (chunks : List Chunk) (answer : List Event) → reads content.Text chunks answer → (end : Point) → IsTrue (are_lines bytes end chunks) → IsTrue (list_all (λ (chunk : Chunk). chunk.after.vs == 0) chunks) →
+    answer ≡ plain_events bytes (record { kind = Text; chunks = chunks })
+
+-- a rest of a line, as it stands in a text: its bytes, a tab that a prefix has cut among them, and where it begins and ends
+pub record LineAt (bytes : List ℕ) (r : Rest) (line : List ℕ) (p q : Point) : Type 0 where
+  pub line_is : line ≡ rest_line r
+  pub no_ending : NoEnding line
+  pub text : slice_range bytes p.index q.index ≡ line
+  pub size : q.index ≡ p.index + length line
+  pub end : q ≡ past_text line p
+  pub first_column : 1 ≤ p.column
+  pub end_whole : q.vs ≡ 0
+  -- a tab that is cut is its first byte
+  pub cut_first : CutsFirst p line
+  pub cut : Cut r.spaces p
+
+-- where the line stands behind a leaf, as its ending asks: behind a block, or where it began
+abbrev pub spot_behind : Option Block → Spot
+spot_behind None = line_start
+spot_behind (Some block) = ending.behind_leaf
+
+-- what is read with this block more, if there is one
+abbrev pub shown : Option Block → Reading → Reading
+shown None r = r
+shown (Some block) r = add_block block r
+
+-- These events stand from a point to a point before text parts are read, and those once they are; they show this block, or none.
+pub record LeafFacts (bytes : List ℕ) (block : Option Block) (p q : Point) (unread done : List Event) : Type 0 where
+  -- they nest, and go forward
+  pub unread_nested : Nested_in p q unread
+  pub nested : Nested_in p q done
+  -- they cover what stands there
+  pub tiled : Tiled p q unread
+  -- their pieces are over what their names say
+  pub unread_stood : Stood bytes unread
+  pub stood : Stood bytes done
+  -- they keep the grammar
+  pub unread_word : grammar.Leads unread_text (blocks ∷ []) (blocks_behind (is_some block) ∷ []) unread
+  pub word : grammar.Leads plain_text (blocks ∷ []) (blocks_behind (is_some block) ∷ []) done
+  -- and where their line ends
+  pub unread_ending : ending.Leads line_start (spot_behind block) unread
+  pub ending : ending.Leads line_start (spot_behind block) done
+  -- their text parts are whole, and are read in the places of their chunks
+  pub parts : Stands bytes unread
+  pub filled : Fill bytes unread done
+  -- they stand between characters, and may be outlined
+  pub between : is_between bytes p.index ≡ true → is_between bytes q.index ≡ true → AreBetween bytes done
+  pub parted : Sits bytes done
+  pub plain : clear bytes p ≡ true → ArePlain bytes done
+  -- they are read as their block
+  pub reads : (r : Reading) → r.text ≡ None → r.leaf ≡ None → read bytes r done ≡ shown block r

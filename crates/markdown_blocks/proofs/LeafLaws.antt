@@ -1,0 +1,53 @@
+-- The laws of a leaf on one line: what the frame asks of each (`LineLeaf`), and of the registry.
+use Rattle.std.proofs.Common.{◌≡◌, ℕ, ◌+◌, ◌^◌, ◌<◌, ◌≤◌, Bool, true, false, List, ◌++◌, length}
+use Rattle.std.specs.Prelude.{Some}
+use Rattle.md_engine.specs.declared.configuration.ParseOptions.{ParseOptions}
+use Rattle.md_engine.specs.declared.event.Content.{Content}
+use Rattle.md_engine.specs.declared.event.Content.TheVariants as content
+use Rattle.md_engine.specs.declared.event.Event.{Event}
+use Rattle.md_engine.specs.declared.event.Point.{Point}
+use Rattle.md_engine.specs.declared.tokenizer.Line.{Line}
+use Rattle.md_engine.specs.Meaning.{Accepts, Cell, Fails, Here, Outcome, Refuses}
+use Rattle.md_seam.specs.Ahead.{from_ending, line_end}
+use Rattle.md_seam.specs.Spaces.{IsRest}
+use Rattle.md_seam.specs.Standard.Rest.{Rest}
+use Rattle.md_seam.proofs.FeedLines.{Stops}
+use Rattle.md_seam.proofs.RestCells.{RestAt, rest_cells}
+use Rattle.md_seam.proofs.TextsLemmas.{NoEnding}
+use Rattle.markdown_blocks.specs.Fronted.{rest_line}
+use Rattle.markdown_blocks.specs.LineLeaf.{LineLeaf}
+use Rattle.markdown_blocks.specs.Registry.{resolved}
+use Rattle.markdown_blocks.proofs.LeafFacts.{LeafFacts, LineAt, ReadsText}
+use Rattle.markdown_blocks.proofs.SubstitutedLemmas.{Becomes}
+use Rattle.md_seam.specs.Substituted.{Readings}
+use Rattle.markdown_blocks.proofs.ContentFacts.{NoContent}
+
+-- a line that ends with what was added, where no paragraph is open
+abbrev pub shut_line : List Event → List Cell → Here → Outcome
+shut_line added cells h = Accepts (record h { events = h.events ++ added; point = line_end cells h.point; flags = record h.flags { interrupt = false } }) (from_ending cells)
+
+-- what is left is no longer than what there was, and begins with an ending
+abbrev pub Shrinks : ℕ → Outcome → Type 0
+Shrinks n (Accepts h rest) = (length rest ≤ n) × (from_ending rest ≡ rest)
+Shrinks n (Refuses s g) = Unit {0}
+Shrinks n Fails = Unit {0}
+
+pub record LeafLaws (l : LineLeaf) : Type 1 where
+  -- Its trial takes a line to its end, or refuses it and leaves all as it was.
+  pub took : (options : ParseOptions) (cells : List Cell) (h : Here) → IsRest h.scratch → l.takes options cells ≡ true → l.trial options cells h ≡ shut_line (l.adds options cells h.point) cells h
+  pub refused : (options : ParseOptions) (cells : List Cell) (h : Here) → IsRest h.scratch → l.takes options cells ≡ false → l.trial options cells h ≡ Refuses h.scratch h.flags
+  pub shrinks : (options : ParseOptions) (cells : List Cell) (h : Here) → Shrinks (length cells) (l.trial options cells h)
+  -- It takes the lines that the line definition says, and adds what it says of their bytes.
+  pub fits : (options : ParseOptions) (said : Line) (text behind : List ℕ) (r : Rest) (p : Point) (stop : List Cell) → RestAt text behind r p → NoEnding r.bytes → Stops stop → length (rest_cells said r p ++ stop) < 2 ^ 63 →
+      l.takes options (rest_cells said r p ++ stop) ≡ l.starts options r
+  pub adds_is : (options : ParseOptions) (said : Line) (text behind : List ℕ) (r : Rest) (p : Point) (stop : List Cell) → RestAt text behind r p → NoEnding r.bytes → Stops stop → length (rest_cells said r p ++ stop) < 2 ^ 63 →
+      l.starts options r ≡ true → l.adds options (rest_cells said r p ++ stop) p ≡ l.added (rest_line r) p
+  -- No content stands in what it adds, and its links are to text.
+  pub no_content : (wants : Content → Bool) → wants content.Text ≡ false → (options : ParseOptions) (cells : List Cell) (p : Point) → NoContent wants (l.adds options cells p)
+  -- Resolvers set what is its own.
+  pub set : (options : ParseOptions) (r : Rest) (p : Point) (es : List Event) → l.starts options r ≡ true → resolved (l.added (rest_line r) p ++ es) ≡ l.unread (rest_line r) p ++ resolved es
+  -- Its events are known, and show its block.
+  pub facts : (options : ParseOptions) (bytes : List ℕ) (r : Rest) (p q : Point) → l.starts options r ≡ true → LineAt bytes r (rest_line r) p q →
+      LeafFacts bytes (Some (l.block r)) p q (l.unread (rest_line r) p) (l.done bytes (rest_line r) p)
+  pub becomes : (options : ParseOptions) (bytes : List ℕ) (r : Rest) (p q : Point) → l.starts options r ≡ true → LineAt bytes r (rest_line r) p q →
+      (wants : Content → Bool) (reads : Readings) → wants content.Text ≡ true → ReadsText bytes reads → Becomes wants reads (l.unread (rest_line r) p) (l.done bytes (rest_line r) p)

@@ -1,0 +1,1 @@
+-- What is known of the runs of a thematic break, by the bytes of its line.

@@ -1,0 +1,70 @@
+-- Thematic breaks (CommonMark 4.1), as a leaf on one line.
+use Rattle.std.specs.Prelude.{ℕ, Bool, ◌&&◌, ◌==◌, if◌then◌else◌, List, [], ◌∷◌, ◌++◌}
+use Rattle.md_engine.specs.declared.configuration.ParseOptions.{ParseOptions}
+use Rattle.md_engine.specs.declared.event.Event.{Event}
+use Rattle.md_engine.specs.declared.event.Name.TheVariants as n
+use Rattle.md_engine.specs.declared.event.Point.{Point}
+use Rattle.md_engine.specs.Meaning.{Cell}
+use Rattle.md_leaves.specs.BreakRule.{Apart, Marks, Run, White, break_at, runs}
+use Rattle.md_seam.specs.Ahead.{begins_white, line_bytes, line_cells, line_end, white_end, white_rest}
+use Rattle.md_seam.specs.Events.Nested.{around, enter, exit, pair}
+use Rattle.md_seam.specs.Events.Places.{past_byte, past_text}
+use Rattle.md_seam.specs.Spaces.{small_indent}
+use Rattle.md_seam.specs.Standard.Leaves.{is_rule}
+use Rattle.md_seam.specs.Standard.Rest.{has_small_indent, trim_start}
+use Rattle.md_seam.specs.Standard.Tree.{Break}
+use Rattle.markdown_blocks.specs.LineLeaf.{LineLeaf}
+
+-- By the cells of a line.
+
+-- the byte of the markers, and 0 of none
+abbrev pub first_cell : List Cell → ℕ
+first_cell [] = 0
+first_cell (c ∷ cs) = c.byte
+
+-- whether a break stands here, with as much whitespace before it as there may be
+abbrev pub is_break : ParseOptions → List Cell → Bool
+is_break options cells = options.constructs.thematic_break && is_rule (line_bytes (white_rest (small_indent options) cells))
+
+-- what stands in it: its indent, and its runs
+abbrev pub break_inside : ParseOptions → List Cell → Point → List Event
+break_inside options cells p =
+    let room = small_indent options in
+    let rest = white_rest room cells in
+    let q = white_end room cells p in
+    (if begins_white cells then pair n.SpaceOrTab p q else []) ++ runs Apart (first_cell rest) (line_cells rest) q
+
+-- By its bytes.
+
+-- the runs of a marker and of whitespace that are left of a line: each is one part, as long as it can be
+abbrev pub line_marks : Run → ℕ → List ℕ → Point → List Event
+line_marks Apart m [] p = []
+line_marks Marks m [] p = exit n.ThematicBreakSequence p ∷ []
+line_marks White m [] p = exit n.SpaceOrTab p ∷ []
+line_marks Apart m (b ∷ bs) p =
+    if b == m then enter n.ThematicBreakSequence p ∷ line_marks Marks m bs (past_byte b p) else enter n.SpaceOrTab p ∷ line_marks White m bs (past_byte b p)
+line_marks Marks m (b ∷ bs) p =
+    if b == m then line_marks Marks m bs (past_byte b p) else exit n.ThematicBreakSequence p ∷ enter n.SpaceOrTab p ∷ line_marks White m bs (past_byte b p)
+line_marks White m (b ∷ bs) p =
+    if b == m then exit n.SpaceOrTab p ∷ enter n.ThematicBreakSequence p ∷ line_marks Marks m bs (past_byte b p) else line_marks White m bs (past_byte b p)
+
+-- the byte of the markers, and 0 of none
+abbrev pub first_byte : List ℕ → ℕ
+first_byte [] = 0
+first_byte (b ∷ bs) = b
+
+-- a break on a line that begins at this point
+abbrev pub break_line : List ℕ → Point → List Event
+break_line line p = around n.ThematicBreak p (past_text line p) (line_marks Apart (first_byte (trim_start line)) line p)
+
+abbrev pub break_leaf : LineLeaf
+break_leaf = record {
+  trial = break_at;
+  takes = is_break;
+  adds = λ options cells p. around n.ThematicBreak p (line_end cells p) (break_inside options cells p);
+  starts = λ options r. options.constructs.thematic_break && has_small_indent options r && is_rule (trim_start r.bytes);
+  block = λ r. Break;
+  added = break_line;
+  unread = break_line;
+  done = λ bytes line p. break_line line p;
+}
