@@ -19,8 +19,8 @@ use Rattle.md_seam.proofs.NestedLemmas.{at_or_before-trans, forward-last}
 use Rattle.md_seam.proofs.PlacesLemmas.{all-append}
 use Rattle.md_seam.proofs.TextsLemmas.{Both, Ending, LineFeed, Return, ending_bytes}
 use Rattle.md_outline.specs.Between.{is_between}
-use Rattle.markdown_blocks.proofs.FrontPlaces.{order-grows}
 use Rattle.md_seam.proofs.FeedLines.{IsEnding}
+use Rattle.markdown_blocks.proofs.SpanLemmas.{order-grows}
 
 abbrev pub is_low : ℕ → Bool
 is_low b = nat_lt b 128
@@ -115,6 +115,17 @@ forward-between bytes p q (e ∷ es) f h all =
     let from : p.index ≤ e.point.index = order-grows p e.point f.0 in
     let to : e.point.index ≤ q.index = order-grows e.point q (at_or_before-trans e.point (last_point e.point es) q (forward-last e.point es f.1) h) in
     between-more bytes e es (all e.point.index from to) (forward-between bytes e.point q es f.1 h (λ i g k. all i (omega arith) k))
+
+-- and so do those on bytes of ASCII, if such a place stands behind these
+pub low-between : (bytes line : List ℕ) (p q : Point) (es : List Event) → slice_range bytes p.index q.index ≡ line → q.index ≡ p.index + length line → list_all is_low line ≡ true → Forward p es → IsTrue (at_or_before (last_point p es) q) → is_between bytes q.index ≡ true →
+    AreBetween bytes es
+low-between bytes line p q es text size low f h end = forward-between bytes p q es f h (λ i from to. at i from to (i == q.index) refl)
+  where
+    at : (i : ℕ) → p.index ≤ i → i ≤ q.index → (x : Bool) → (i == q.index) ≡ x → is_between bytes i ≡ true
+    at i from to true e = subst (λ (j : ℕ). is_between bytes j ≡ true) (sym (eqb-true i q.index e)) end
+    at i from to false e =
+        let below : i < q.index = grind (arith, nat_tests) in
+        between-before bytes i (low-at bytes line p.index q.index i text size low from below)
 
 pub chunk-between : (bytes : List ℕ) (p e q : Point) → line_end bytes (record { first = p; after = q }) ≡ e → is_between bytes p.index ≡ true → is_between bytes e.index ≡ true → is_between bytes q.index ≡ true →
     AreBetween bytes (plain_chunk bytes (record { first = p; after = q }))

@@ -10,10 +10,10 @@ use Rattle.md_seam.specs.Standard.Rest.{Rest, behind, behind_indent, has_small_i
 use Rattle.md_seam.specs.Events.Spelled.{Shape}
 use Rattle.md_seam.specs.Standard.State.{Container, InFootnote, InItem, InQuote}
 use Rattle.markdown_blocks.specs.Change.{change_by, interrupts, is_none, others_of}
-use Rattle.markdown_blocks.specs.Fronted.{Prefixed, contained, no_prefix, one_more, prefixes_new, prefixes_on, rest_line}
+use Rattle.markdown_blocks.specs.ContainerKinds.{shape_of}
+use Rattle.markdown_blocks.specs.Fronted.{Prefixed, contained, no_prefix, one_more, prefixes_new, prefixes_on}
 use Rattle.markdown_blocks.specs.Parsed.{IsBuilt}
 use Rattle.markdown_blocks.specs.Rows.{RowKind, is_lazy, line_kind}
-use Rattle.markdown_blocks.specs.Stands.{shape_of}
 
 -- What the events tell of a container does not change while it is open.
 
@@ -45,7 +45,7 @@ on-shapes options (c ∷ cs) r = go (on-shapes options cs) (continues options c 
 -- What stays and what ends are the containers that were open.
 pub contained-shapes : (options : ParseOptions) (cs : List Container) (going : Bool) (r : Rest) → map shape_of ((contained options cs going r).change.stays ++ (contained options cs going r).change.closes) ≡ map shape_of cs
 unfolding contained
-contained-shapes options cs going r = go (is_lazy going new.containers (line_kind options (rest_line new.rest)))
+contained-shapes options cs going r = go (is_lazy going new.containers (line_kind options new.rest))
   where
     on : Prefixed
     on = prefixes_on options cs r

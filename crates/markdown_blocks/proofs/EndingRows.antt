@@ -1,94 +1,57 @@
 -- The endings of blank lines are told from others, before the text of a document is read and once it is.
-use Rattle.std.proofs.Common.{◌≡◌, ℕ, ◌+◌, ◌<◌, Bool, true, false, cond, List, [], ◌∷◌, ◌++◌, length, refl, ap, sym, ◌∙◌, subst, append_assoc, arith}
+use Rattle.std.proofs.Common.{◌≡◌, ℕ, ◌+◌, ◌<◌, Bool, true, false, cond, List, [], ◌∷◌, ◌++◌, length, refl, ap, sym, ◌∙◌, subst, append_assoc, arith, ◌≢◌}
 use Rattle.std.specs.Prelude.{Option, Some, None}
 use Rattle.std.proofs.lemmas.Bool.Decides.{nat_tests}
+use Rattle.std.proofs.lemmas.Bool.{and_from}
 use Rattle.md_engine.specs.declared.configuration.ParseOptions.{ParseOptions}
 use Rattle.md_engine.specs.declared.event.Event.{Event}
 use Rattle.md_engine.specs.declared.event.Name.{Name}
 use Rattle.md_engine.specs.declared.event.Name.TheVariants as n
 use Rattle.md_engine.specs.declared.event.Point.{Point}
 use Rattle.md_content.specs.Paragraph.{text_link}
-use Rattle.md_leaves.specs.HeadingRule as heading
-use Rattle.md_leaves.specs.HeadingText.{linked_text}
-use Rattle.md_leaves.specs.HeadingTitle.{line_runs, title_of, unread_title}
 use Rattle.md_seam.specs.declared.inline.Chunk.{Chunk}
-use Rattle.md_seam.specs.Events.Endings.{IsLeaf, Spot, endings_stand, endings_stand_from, is_filled, line_start, on_line}
+use Rattle.md_seam.specs.Events.Endings.{Spot, endings_stand, endings_stand_from, is_filled, line_start, on_line}
 use Rattle.md_seam.specs.Events.Inline.{line_end, pair_unless_empty, plain_chunk}
 use Rattle.md_seam.specs.Events.Nested.{around, enter, exit, pair}
-use Rattle.md_seam.specs.Events.Places.{first_point, past_byte, same_place}
+use Rattle.md_seam.specs.Events.Places.{first_point, same_place}
 use Rattle.md_seam.specs.Standard.Preamble.{has_mark}
-use Rattle.md_seam.specs.Standard.State.{Container, InFootnote, InItem, InQuote}
-use Rattle.md_seam.proofs.EndingsLemmas.{AreOthers, Filling, Leads, Stays, behind_leaf, filling-append, in_leaf, leads-append, leaf-leads, others-append, others-lead, stays-append, stays-others}
+use Rattle.md_seam.specs.Standard.State.{Container}
+use Rattle.md_seam.specs.Standard.Rest.{Rest}
+use Rattle.md_seam.specs.Standard.Tree.{Block}
+use Rattle.md_seam.proofs.EndingsLemmas.{AreOthers, Filling, Leads, Stays, behind_leaf, filling-append, in_leaf, leads-append, leaf-leads, others-append, others-lead, stays-append, stays-others, is_other}
 use Rattle.md_seam.proofs.InlineLemmas.{same-refl}
-use Rattle.markdown_blocks.specs.Change.{container_name, ends_of}
+use Rattle.markdown_blocks.specs.ContainerKinds.{container_name}
+use Rattle.markdown_blocks.specs.Change.{ends_of}
 use Rattle.markdown_blocks.specs.Document.{body_point, mark_end, mark_events}
-use Rattle.markdown_blocks.specs.Rows.{BlankRow, Group, Lines, Row, RowKind, Single, TextRow, behind_row, ending_events, goes_on, group_events, groups, groups_events, last_row, onto_groups, read_lines, row_events_by, row_line, single_events_by, tail_events}
-use Rattle.markdown_blocks.specs.Unread.{linked_lines, titled_group, titled_groups, titled_row_by}
-use Rattle.markdown_blocks.proofs.FrontFacts.{Behind, Begins, LinePrefix, Goes, IsContinuationPrefix, IsOpeningPrefix, IsPrefix}
+use Rattle.markdown_blocks.specs.Rows.{BlankRow, Group, Lines, Row, RowKind, Single, TextRow, behind_row, ending_events, goes_on, group_events, groups, groups_events, last_row, onto_groups, read_lines, tail_events, LeafRow, ending_of, leaf_done, leaf_unread}
+use Rattle.markdown_blocks.specs.Unread.{linked_lines, titled_group, titled_groups}
+use Rattle.markdown_blocks.proofs.FrontFacts.{Behind, Begins, LinePrefix, Goes}
 use Rattle.markdown_blocks.proofs.GroupLemmas.{AreGroups, EndsBeforeGroups, HasFront, IsParagraph, IsSingle, groups-are, line_end-alone, rows-end, text-some}
 use Rattle.markdown_blocks.proofs.JoinedLemmas.{EachEnds, EachNoContent, ending-is}
 use Rattle.markdown_blocks.proofs.RowFacts.{AreRows, IsRow}
-use Rattle.markdown_blocks.proofs.HeadingAtx.Endings.{linked-others, read-others, title-others}
-use Rattle.markdown_blocks.specs.Leaf.HeadingAtx.{read_text, read_title}
-use Rattle.markdown_blocks.proofs.SpanLemmas.{either}
+use Rattle.markdown_blocks.proofs.RowLeaf.{row-facts, block_of}
+use Rattle.markdown_blocks.proofs.LeafFacts.{spot_behind}
+use Rattle.markdown_blocks.proofs.ContainerFacts.{continues-facts, opens-facts}
+use Rattle.markdown_blocks.proofs.ContainerNames.{container-other}
 
 -- Events that are no ending, and no begin or end of a leaf.
 
+-- the begin or the end of a container
+container-others : (c : Container) (e : Event) → e.name ≡ container_name c → AreOthers (e ∷ [])
+container-others c e same = and_from (is_other (on_line e.name)) true (ap (λ (name : Name). is_other (on_line name)) same ∙ container-other c) refl
+
 -- what stands in front of a line
-prefix-others : (bytes : List ℕ) (p q : Point) (es : List Event) → IsPrefix bytes p q es → AreOthers es
-prefix-others bytes p q es is = subst AreOthers (sym is.events) (go (same_place p is.marker) (same_place is.behind q))
-  where
-    go : (x y : Bool) →
-        AreOthers (cond x [] (pair n.SpaceOrTab p is.marker) ++ enter n.BlockQuotePrefix is.marker ∷ enter n.BlockQuoteMarker is.marker ∷ exit n.BlockQuoteMarker is.behind ∷ cond y [] (pair n.SpaceOrTab is.behind q) ++ exit n.BlockQuotePrefix q ∷ [])
-    go true true = refl
-    go true false = refl
-    go false true = refl
-    go false false = refl
-
-further-others : (bytes : List ℕ) (c : Container) (p q : Point) (es : List Event) → IsContinuationPrefix bytes c p q es → AreOthers es
-further-others bytes InQuote p q es is = prefix-others bytes p q es is
-further-others bytes c p q es is = absurd is
-
-opening-others : (bytes : List ℕ) (c : Container) (p q : Point) (es : List Event) → IsOpeningPrefix bytes c p q es → AreOthers (enter (container_name c) p ∷ es)
-opening-others bytes InQuote p q es is = prefix-others bytes p q es is
-opening-others bytes c p q es is = absurd is
-
--- all of it
-fronts-others : (bytes : List ℕ) (opens : List Container) (p q : Point) (es : List Event) → LinePrefix bytes opens p q es → AreOthers es
+fronts-others : (bytes : List ℕ) (opens : List Container) (p q : Point) (es : List Event) →
+    LinePrefix bytes opens p q es → AreOthers es
 fronts-others bytes opens p q es (Behind at) = refl
-fronts-others bytes opens first last es (Goes c same p q r xs ys is more) = others-append xs ys (further-others bytes c p q xs is) (fronts-others bytes same q r ys more)
-fronts-others bytes opens first last es (Begins c below p q r xs ys is more) = others-append (enter (container_name c) p ∷ xs) ys (opening-others bytes c p q xs is) (fronts-others bytes below q r ys more)
+fronts-others bytes opens first last es (Goes c same p q r xs ys is more) = others-append xs ys (continues-facts bytes c p q xs is).common.others (fronts-others bytes same q r ys more)
+fronts-others bytes opens first last es (Begins c below p q r xs ys is more) =
+    others-append (enter (container_name c) p ∷ []) (xs ++ ys) (container-others c (enter (container_name c) p) refl) (others-append xs ys (opens-facts bytes c p q xs is).common.others (fronts-others bytes below q r ys more))
 
 -- the ends of containers
 ends-others : (cs : List Container) (p : Point) → AreOthers (ends_of cs p)
 ends-others [] p = refl
-ends-others (c ∷ cs) p = others-append (ends_of cs p) (exit (container_name c) p ∷ []) (ends-others cs p) (end c)
-  where
-    end : (c : Container) → AreOthers (exit (container_name c) p ∷ [])
-    end InQuote = refl
-    end (InItem digits marker width starts_blank) = refl
-    end (InFootnote label) = refl
-
--- what stands around the text of a heading
-closes-others : (run : heading.Run) (p : Point) → AreOthers (heading.closes run p)
-closes-others heading.Apart p = refl
-closes-others heading.White p = refl
-closes-others heading.Hashes p = refl
-closes-others heading.Text p = refl
-
-opens-others : (run : heading.Run) (p : Point) → AreOthers (heading.opens run p)
-opens-others heading.Apart p = refl
-opens-others heading.White p = refl
-opens-others heading.Hashes p = refl
-opens-others heading.Text p = refl
-
-pub runs-others : (run : heading.Run) (xs : List ℕ) (p : Point) → AreOthers (line_runs run xs p)
-runs-others run [] p = closes-others run p
-runs-others run (b ∷ xs) p =
-    let rest : List Event = line_runs (heading.begun b) xs (past_byte b p) in
-    either AreOthers (heading.goes_on run b) (line_runs run xs (past_byte b p)) ((heading.closes run p ++ heading.opens (heading.begun b) p) ++ rest) (runs-others run xs (past_byte b p))
-    (others-append (heading.closes run p ++ heading.opens (heading.begun b) p) rest
-    (others-append (heading.closes run p) (heading.opens (heading.begun b) p) (closes-others run p) (opens-others (heading.begun b) p)) (runs-others (heading.begun b) xs (past_byte b p)))
+ends-others (c ∷ cs) p = others-append (ends_of cs p) (exit (container_name c) p ∷ []) (ends-others cs p) (container-others c (exit (container_name c) p) refl)
 
 -- Inside of a leaf.
 
@@ -96,18 +59,21 @@ runs-others run (b ∷ xs) p =
 chunk-stays : (bytes : List ℕ) (chunk : Chunk) → Stays (plain_chunk bytes chunk)
 chunk-stays bytes chunk = go (line_end bytes chunk) (same_place chunk.first (line_end bytes chunk)) (same_place (line_end bytes chunk) chunk.after)
   where
-    go : (end : Point) (x y : Bool) → Stays (cond x [] (pair n.Data chunk.first end) ++ cond y [] (pair n.LineEnding end chunk.after))
+    go : (end : Point) (x y : Bool) →
+        Stays (cond x [] (pair n.Data chunk.first end) ++ cond y [] (pair n.LineEnding end chunk.after))
     go end true true = λ from. (from, λ ys. refl)
     go end true false = λ from. (false, λ ys. refl)
     go end false true = λ from. (true, λ ys. refl)
     go end false false = λ from. (false, λ ys. refl)
 
 -- a line of a text part with what stands in front of the next, and the next
-filling-next : (bytes : List ℕ) (q r : Point) (chunk front rest : List Event) → Stays chunk → LinePrefix bytes [] q r front → Filling rest → Filling (chunk ++ front ++ rest)
+filling-next : (bytes : List ℕ) (q r : Point) (chunk front rest : List Event) → Stays chunk →
+    LinePrefix bytes [] q r front → Filling rest → Filling (chunk ++ front ++ rest)
 filling-next bytes q r chunk front rest h is k = filling-append (chunk ++ front) rest (stays-append chunk front h (stays-others front (fronts-others bytes [] q r front is))) k
 
 -- the lines of a paragraph, before they are read
-linked-filling : (options : ParseOptions) (bytes : List ℕ) (row : Row) (rows : List Row) → IsParagraph options bytes row rows → Filling (linked_lines n.Data text_link row rows)
+linked-filling : (options : ParseOptions) (bytes : List ℕ) (row : Row) (rows : List Row) →
+    IsParagraph options bytes row rows → Filling (linked_lines n.Data text_link row rows)
 linked-filling options bytes row [] is = λ from ys. refl
 linked-filling options bytes row (next ∷ rows) is =
     filling-next bytes is.3 next.first (linked_lines n.Data text_link (record row { end = behind_row row }) []) next.front (linked_lines n.Data text_link next rows) (λ from. (true, λ ys. refl)) is.6 (linked-filling options bytes next rows is.7)
@@ -122,20 +88,20 @@ last-filling options bytes line row is text =
     some size lt = grind (arith, nat_tests)
 
     apart : same_place row.first row.end ≡ false
-    apart = some (sym is.size) (text-some options line (sym is.kind ∙ text))
+    apart = some (sym is.size) (text-some options bytes line row is text)
 
-    go : (x : Bool) → x ≡ false → (y : Bool) → y ≡ true → Filling (cond x [] (pair n.Data row.first row.end) ++ cond y [] (pair n.LineEnding row.end row.end))
+    go : (x : Bool) → x ≡ false → (y : Bool) → y ≡ true →
+        Filling (cond x [] (pair n.Data row.first row.end) ++ cond y [] (pair n.LineEnding row.end row.end))
     go false h true k = λ from ys. refl
     go true h y k = cc
     go false h false k = cc
 
-read-filling : (options : ParseOptions) (bytes : List ℕ) (row : Row) (rows : List Row) → IsParagraph options bytes row rows → Filling (read_lines bytes row rows)
+read-filling : (options : ParseOptions) (bytes : List ℕ) (row : Row) (rows : List Row) →
+    IsParagraph options bytes row rows → Filling (read_lines bytes row rows)
 read-filling options bytes row [] is = last-filling options bytes is.0 row is.1 is.2
 read-filling options bytes row (next ∷ rows) is =
     let chunk : Chunk = record { first = row.first; after = behind_row row } in
     filling-next bytes is.3 next.first (plain_chunk bytes chunk) next.front (read_lines bytes next rows) (chunk-stays bytes chunk) is.6 (read-filling options bytes next rows is.7)
-
--- The text of a heading.
 
 -- Groups.
 
@@ -150,10 +116,10 @@ EachEnded [] = Unit {0}
 EachEnded (group ∷ gs) = EndsBeforeGroups (last_of group) gs × EachEnded gs
 
 -- a line goes in front of groups
-onto-ended : (row : Row) (kind : RowKind) (gs : List Group) → EndsBeforeGroups row gs → EachEnded gs → EachEnded (onto_groups row kind gs)
+onto-ended : (row : Row) (kind : RowKind) (gs : List Group) → EndsBeforeGroups row gs → EachEnded gs →
+    EachEnded (onto_groups row kind gs)
 onto-ended row BlankRow gs h k = (h, k)
-onto-ended row HeadingRow gs h k = (h, k)
-onto-ended row BreakRow gs h k = (h, k)
+onto-ended row (LeafRow l) gs h k = (h, k)
 onto-ended row TextRow [] h k = (h, k)
 onto-ended row TextRow (Single below ∷ gs) h k = (h, k)
 onto-ended row TextRow (Lines below rows ∷ gs) h k = go (goes_on row below)
@@ -172,100 +138,108 @@ groups-ended (row ∷ below ∷ rows) h = onto-ended row row.kind (groups (below
     ends [] = tt
     ends (group ∷ gs) = (h.0, h.1)
 
--- the events of groups, by what stands in headings and in paragraphs
-abbrev row_with : (Row → List Event) → RowKind → Row → List Event
-row_with title HeadingRow row = row.front ++ around n.HeadingAtx row.first row.end (title row) ++ tail_events n.LineEnding row
-row_with title kind row = row_events_by kind row
+-- the events of groups, by what stands in the place of a line that is no text, and in paragraphs
+abbrev row_with : (RowKind → Row → List Event) → Row → List Event
+row_with leaf row = row.front ++ leaf row.kind row ++ tail_events (ending_of row.kind) row
 
-abbrev group_with : (Row → List Event) → (Row → List Row → List Event) → Group → List Event
-group_with title text (Single row) = row_with title row.kind row
-group_with title text (Lines row rows) = row.front ++ around n.Paragraph row.first (last_row row rows).end (text row rows) ++ tail_events n.LineEnding (last_row row rows)
+abbrev group_with : (RowKind → Row → List Event) → (Row → List Row → List Event) → Group → List Event
+group_with leaf text (Single row) = row_with leaf row
+group_with leaf text (Lines row rows) = row.front ++ around n.Paragraph row.first (last_row row rows).end (text row rows) ++ tail_events n.LineEnding (last_row row rows)
 
-abbrev groups_with : (Row → List Event) → (Row → List Row → List Event) → List Group → List Event
-groups_with title text [] = []
-groups_with title text (group ∷ gs) = group_with title text group ++ groups_with title text gs
+abbrev groups_with : (RowKind → Row → List Event) → (Row → List Row → List Event) → List Group → List Event
+groups_with leaf text [] = []
+groups_with leaf text (group ∷ gs) = group_with leaf text group ++ groups_with leaf text gs
 
 -- before text parts are read, and once they are
-titled-with : (bytes : List ℕ) (gs : List Group) → groups_with (λ row. unread_title (row_title bytes row)) (linked_lines n.Data text_link) gs ≡ titled_groups bytes gs
-titled-with bytes [] = refl
-titled-with bytes (Single row ∷ gs) = ap (λ (l : List Event). row_with (λ row. unread_title (row_title bytes row)) row.kind row ++ l) (titled-with bytes gs) ∙ ap (λ (l : List Event). l ++ titled_groups bytes gs) (go row.kind)
-  where
-    go : (kind : RowKind) → row_with (λ row. unread_title (row_title bytes row)) kind row ≡ titled_row_by bytes kind row
-    go BlankRow = refl
-    go HeadingRow = refl
-    go BreakRow = refl
-    go TextRow = refl
-titled-with bytes (Lines row rows ∷ gs) = ap (λ (l : List Event). titled_group bytes (Lines row rows) ++ l) (titled-with bytes gs)
+unread-with : (bytes : List ℕ) (gs : List Group) →
+    groups_with (leaf_unread bytes) (linked_lines n.Data text_link) gs ≡ titled_groups bytes gs
+unread-with bytes [] = refl
+unread-with bytes (Single row ∷ gs) = ap (λ (l : List Event). titled_group bytes (Single row) ++ l) (unread-with bytes gs)
+unread-with bytes (Lines row rows ∷ gs) = ap (λ (l : List Event). titled_group bytes (Lines row rows) ++ l) (unread-with bytes gs)
 
-read-with : (bytes : List ℕ) (gs : List Group) → groups_with (λ row. read_title bytes (row_title bytes row)) (read_lines bytes) gs ≡ groups_events bytes gs
+read-with : (bytes : List ℕ) (gs : List Group) →
+    groups_with (leaf_done bytes) (read_lines bytes) gs ≡ groups_events bytes gs
 read-with bytes [] = refl
-read-with bytes (Single row ∷ gs) = ap (λ (l : List Event). row_with (λ row. read_title bytes (row_title bytes row)) row.kind row ++ l) (read-with bytes gs) ∙ ap (λ (l : List Event). l ++ groups_events bytes gs) (go row.kind)
-  where
-    go : (kind : RowKind) → row_with (λ row. read_title bytes (row_title bytes row)) kind row ≡ single_events_by bytes kind row
-    go BlankRow = refl
-    go HeadingRow = refl
-    go BreakRow = refl
-    go TextRow = refl
+read-with bytes (Single row ∷ gs) = ap (λ (l : List Event). group_events bytes (Single row) ++ l) (read-with bytes gs)
 read-with bytes (Lines row rows ∷ gs) = ap (λ (l : List Event). group_events bytes (Lines row rows) ++ l) (read-with bytes gs)
 
--- What stands in headings and in paragraphs.
-record Within (options : ParseOptions) (bytes : List ℕ) (title : Row → List Event) (text : Row → List Row → List Event) : Type 0 where
-  titles : (line : List ℕ) (row : Row) → IsRow options bytes line row → AreOthers (title row)
+-- What stands in the place of a line that is no text, and in paragraphs.
+record Within (options : ParseOptions) (bytes : List ℕ) (leaf : RowKind → Row → List Event) (text : Row → List Row → List Event) : Type 0 where
+  leaves : (line : List ℕ) (row : Row) → (is : IsRow options bytes line row) → row.kind ≢ TextRow →
+      Leads line_start (spot_behind (block_of row.kind is.rest)) (leaf row.kind row)
   texts : (row : Row) (rows : List Row) → IsParagraph options bytes row rows → Filling (text row rows)
 
 -- groups whose endings stand
-abbrev Stand : (Row → List Event) → (Row → List Row → List Event) → List Group → Type 0
-Stand title text gs = endings_stand_from line_start (groups_with title text gs) ≡ true
+abbrev Stand : (RowKind → Row → List Event) → (Row → List Row → List Event) → List Group → Type 0
+Stand leaf text gs = endings_stand_from line_start (groups_with leaf text gs) ≡ true
 
 -- what stands behind a line: the ends of containers, its ending, and further groups
-tail-stands : (title : Row → List Event) (text : Row → List Row → List Event) (s : Spot) (name : Name) (last : Row) (gs : List Group) → is_filled s ≡ s.after_leaf → ((p q : Point) → Leads s line_start (pair name p q)) → EndsBeforeGroups last gs →
-    Stand title text gs → endings_stand_from s (tail_events name last ++ groups_with title text gs) ≡ true
-tail-stands title text s name last gs same ends before on =
-    let behind : List Event = ending_events name last ++ groups_with title text gs in
-    ap (endings_stand_from s) (append_assoc (ends_of last.leaves last.end) (ending_events name last) (groups_with title text gs))
+tail-stands : (leaf : RowKind → Row → List Event) (text : Row → List Row → List Event) (s : Spot) (name : Name) (last : Row) (gs : List Group) →
+    is_filled s ≡ s.after_leaf → ((p q : Point) → Leads s line_start (pair name p q)) → EndsBeforeGroups last gs →
+    Stand leaf text gs → endings_stand_from s (tail_events name last ++ groups_with leaf text gs) ≡ true
+tail-stands leaf text s name last gs same ends before on =
+    let behind : List Event = ending_events name last ++ groups_with leaf text gs in
+    ap (endings_stand_from s) (append_assoc (ends_of last.leaves last.end) (ending_events name last) (groups_with leaf text gs))
     ∙ others-lead s (ends_of last.leaves last.end) same (ends-others last.leaves last.end) behind
     ∙ go gs before on
   where
-    alone : (after : Option Point) → endings_stand_from s (elim after [ None ↦ [] | Some q ↦ pair name last.end q ] ++ []) ≡ true
+    alone : (after : Option Point) →
+        endings_stand_from s (elim after [ None ↦ [] | Some q ↦ pair name last.end q ] ++ []) ≡ true
     alone None = refl
     alone (Some q) = ends last.end q []
 
-    go : (gs : List Group) → EndsBeforeGroups last gs → Stand title text gs → endings_stand_from s (ending_events name last ++ groups_with title text gs) ≡ true
+    go : (gs : List Group) → EndsBeforeGroups last gs → Stand leaf text gs →
+        endings_stand_from s (ending_events name last ++ groups_with leaf text gs) ≡ true
     go [] h k = alone last.after
-    go (group ∷ gs) h k = ap (λ (l : List Event). endings_stand_from s (l ++ groups_with title text (group ∷ gs))) (ending-is name last h.0 h.1) ∙ ends last.end h.0 (groups_with title text (group ∷ gs)) ∙ k
+    go (group ∷ gs) h k = ap (λ (l : List Event). endings_stand_from s (l ++ groups_with leaf text (group ∷ gs))) (ending-is name last h.0 h.1) ∙ ends last.end h.0 (groups_with leaf text (group ∷ gs)) ∙ k
 
 -- a line, or the lines of a paragraph, in front of further groups
-line-stands : (bytes : List ℕ) (title : Row → List Event) (text : Row → List Row → List Event) (s : Spot) (name : Name) (row last : Row) (es : List Event) (gs : List Group) → HasFront bytes row → Leads line_start s es → is_filled s ≡ s.after_leaf →
-    ((p q : Point) → Leads s line_start (pair name p q)) → EndsBeforeGroups last gs → Stand title text gs → endings_stand_from line_start ((row.front ++ es ++ tail_events name last) ++ groups_with title text gs) ≡ true
-line-stands bytes title text s name row last es gs front h same ends before on =
-    let behind : List Event = tail_events name last ++ groups_with title text gs in
-    ap (endings_stand_from line_start) (append_assoc (row.front ++ es) (tail_events name last) (groups_with title text gs))
+line-stands : (bytes : List ℕ) (leaf : RowKind → Row → List Event) (text : Row → List Row → List Event) (s : Spot) (name : Name) (row last : Row) (es : List Event) (gs : List Group) →
+    HasFront bytes row → Leads line_start s es → is_filled s ≡ s.after_leaf →
+    ((p q : Point) → Leads s line_start (pair name p q)) → EndsBeforeGroups last gs → Stand leaf text gs →
+    endings_stand_from line_start ((row.front ++ es ++ tail_events name last) ++ groups_with leaf text gs) ≡ true
+line-stands bytes leaf text s name row last es gs front h same ends before on =
+    let behind : List Event = tail_events name last ++ groups_with leaf text gs in
+    ap (endings_stand_from line_start) (append_assoc (row.front ++ es) (tail_events name last) (groups_with leaf text gs))
     ∙ leads-append line_start line_start s row.front es (others-lead line_start row.front refl (fronts-others bytes row.change.opens front.0 row.first row.front front.1)) h behind
-    ∙ tail-stands title text s name last gs same ends before on
+    ∙ tail-stands leaf text s name last gs same ends before on
 
--- a leaf in front of further groups
-leaf-stands : (bytes : List ℕ) (title : Row → List Event) (text : Row → List Row → List Event) (name : Name) (row last : Row) (inside : List Event) (gs : List Group) → HasFront bytes row → on_line name ≡ IsLeaf → Leads (in_leaf true) (in_leaf true) inside →
-    EndsBeforeGroups last gs → Stand title text gs → endings_stand_from line_start ((row.front ++ around name row.first last.end inside ++ tail_events n.LineEnding last) ++ groups_with title text gs) ≡ true
-leaf-stands bytes title text name row last inside gs front leaf h before on =
-    line-stands bytes title text behind_leaf n.LineEnding row last (around name row.first last.end inside) gs front (leaf-leads name row.first last.end inside leaf h) refl (λ p q ys. refl) before on
+-- the lines of a paragraph in front of further groups
+paragraph-stands : (bytes : List ℕ) (leaf : RowKind → Row → List Event) (text : Row → List Row → List Event) (row last : Row) (inside : List Event) (gs : List Group) →
+    HasFront bytes row → Leads (in_leaf true) (in_leaf true) inside →
+    EndsBeforeGroups last gs → Stand leaf text gs →
+    endings_stand_from line_start ((row.front ++ around n.Paragraph row.first last.end inside ++ tail_events n.LineEnding last) ++ groups_with leaf text gs) ≡ true
+paragraph-stands bytes leaf text row last inside gs front h before on =
+    line-stands bytes leaf text behind_leaf n.LineEnding row last (around n.Paragraph row.first last.end inside) gs front (leaf-leads n.Paragraph row.first last.end inside refl h) refl (λ p q ys. refl) before on
+
+-- where a line stands behind its leaf, it is filled or not,
+spot-filled : (block : Option Block) → is_filled (spot_behind block) ≡ (spot_behind block).after_leaf
+spot-filled None = refl
+spot-filled (Some block) = refl
+
+-- and ends as its kind says
+ending-leads : (kind : RowKind) (r : Rest) (p q : Point) → kind ≢ TextRow →
+    Leads (spot_behind (block_of kind r)) line_start (pair (ending_of kind) p q)
+ending-leads BlankRow r p q other ys = refl
+ending-leads (LeafRow l) r p q other ys = refl
+ending-leads TextRow r p q other ys = absurd (other refl)
 
 -- a line that is no text
-single-stands : (options : ParseOptions) (bytes : List ℕ) (title : Row → List Event) (text : Row → List Row → List Event) (row : Row) (gs : List Group) → Within options bytes title text → IsSingle options bytes row → EndsBeforeGroups row gs →
-    Stand title text gs → (kind : RowKind) → row.kind ≡ kind → endings_stand_from line_start (row_with title kind row ++ groups_with title text gs) ≡ true
-single-stands options bytes title text row gs within is before on BlankRow e =
-    line-stands bytes title text line_start n.BlankLineEnding row row row.inside gs is.front (others-lead line_start row.inside refl (is.is.inside (λ k. cc)).others) refl (λ p q ys. refl) before on
-single-stands options bytes title text row gs within is before on HeadingRow e =
-    leaf-stands bytes title text n.HeadingAtx row row (title row) gs is.front refl (others-lead (in_leaf true) (title row) refl (within.titles is.line row is.is)) before on
-single-stands options bytes title text row gs within is before on BreakRow e =
-    leaf-stands bytes title text n.ThematicBreak row row row.inside gs is.front refl (others-lead (in_leaf true) row.inside refl (is.is.inside (λ k. cc)).others) before on
-single-stands options bytes title text row gs within is before on TextRow e = absurd (is.other e)
+single-stands : (options : ParseOptions) (bytes : List ℕ) (leaf : RowKind → Row → List Event) (text : Row → List Row → List Event) (row : Row) (gs : List Group) →
+    Within options bytes leaf text → IsSingle options bytes row → EndsBeforeGroups row gs →
+    Stand leaf text gs → endings_stand_from line_start (row_with leaf row ++ groups_with leaf text gs) ≡ true
+single-stands options bytes leaf text row gs within is before on =
+    let block : Option Block = block_of row.kind is.is.rest in
+    line-stands bytes leaf text (spot_behind block) (ending_of row.kind) row row (leaf row.kind row) gs is.front (within.leaves is.line row is.is is.other) (spot-filled block)
+    (λ p q. ending-leads row.kind is.is.rest p q is.other) before on
 
-groups-stand : (options : ParseOptions) (bytes : List ℕ) (title : Row → List Event) (text : Row → List Row → List Event) (gs : List Group) → Within options bytes title text → AreGroups options bytes gs → EachEnded gs → Stand title text gs
-groups-stand options bytes title text [] within are ended = refl
-groups-stand options bytes title text (Single row ∷ gs) within are ended =
-    single-stands options bytes title text row gs within are.0 ended.0 (groups-stand options bytes title text gs within are.1 ended.1) row.kind refl
-groups-stand options bytes title text (Lines row rows ∷ gs) within are ended =
-    leaf-stands bytes title text n.Paragraph row (last_row row rows) (text row rows) gs are.2 refl (within.texts row rows are.0 true) ended.0 (groups-stand options bytes title text gs within are.3 ended.1)
+groups-stand : (options : ParseOptions) (bytes : List ℕ) (leaf : RowKind → Row → List Event) (text : Row → List Row → List Event) (gs : List Group) →
+    Within options bytes leaf text → AreGroups options bytes gs → EachEnded gs → Stand leaf text gs
+groups-stand options bytes leaf text [] within are ended = refl
+groups-stand options bytes leaf text (Single row ∷ gs) within are ended =
+    single-stands options bytes leaf text row gs within are.0 ended.0 (groups-stand options bytes leaf text gs within are.1 ended.1)
+groups-stand options bytes leaf text (Lines row rows ∷ gs) within are ended =
+    paragraph-stands bytes leaf text row (last_row row rows) (text row rows) gs are.2 (within.texts row rows are.0 true) ended.0 (groups-stand options bytes leaf text gs within are.3 ended.1)
 
 -- The events of a text.
 
@@ -277,26 +251,28 @@ mark-leads bytes = go (has_mark bytes)
     go true = λ ys. refl
     go false = λ ys. refl
 
-endings-with : (options : ParseOptions) (bytes : List ℕ) (lines : List (List ℕ)) (rows : List Row) (title : Row → List Event) (text : Row → List Row → List Event) (events : List Event) → Within options bytes title text →
-    groups_with title text (groups rows) ≡ events → AreRows options bytes [] false (body_point bytes) lines rows → EachNoContent rows → endings_stand (mark_events bytes ++ events) ≡ true
-endings-with options bytes lines rows title text events within same are quiet =
+endings-with : (options : ParseOptions) (bytes : List ℕ) (lines : List (List ℕ)) (rows : List Row) (leaf : RowKind → Row → List Event) (text : Row → List Row → List Event) (events : List Event) →
+    Within options bytes leaf text →
+    groups_with leaf text (groups rows) ≡ events → AreRows options bytes [] false (body_point bytes) lines rows →
+    EachNoContent rows → endings_stand (mark_events bytes ++ events) ≡ true
+endings-with options bytes lines rows leaf text events within same are quiet =
     let p : Point = body_point bytes in
     mark-leads bytes events
     ∙ ap (endings_stand_from line_start) (sym same)
-    ∙ groups-stand options bytes title text (groups rows) within (groups-are options bytes [] false p lines rows are quiet) (groups-ended rows (rows-end options bytes [] false p lines rows are))
+    ∙ groups-stand options bytes leaf text (groups rows) within (groups-are options bytes [] false p lines rows are quiet) (groups-ended rows (rows-end options bytes [] false p lines rows are))
 
 -- The endings of a text stand before its text parts are read,
-pub blocks-endings : (options : ParseOptions) (bytes : List ℕ) (lines : List (List ℕ)) (rows : List Row) → AreRows options bytes [] false (body_point bytes) lines rows → EachNoContent rows →
+pub blocks-endings : (options : ParseOptions) (bytes : List ℕ) (lines : List (List ℕ)) (rows : List Row) →
+    AreRows options bytes [] false (body_point bytes) lines rows → EachNoContent rows →
     endings_stand (mark_events bytes ++ titled_groups bytes (groups rows)) ≡ true
 blocks-endings options bytes lines rows are quiet =
-    endings-with options bytes lines rows (λ row. unread_title (row_title bytes row)) (linked_lines n.Data text_link) (titled_groups bytes (groups rows))
-    (record { titles = λ line row is. title-others (row_line bytes row) row.first (linked_text (row_title bytes row).text) (linked-others (row_title bytes row).text); texts = linked-filling options bytes }) (titled-with bytes (groups rows)) are quiet
+    endings-with options bytes lines rows (leaf_unread bytes) (linked_lines n.Data text_link) (titled_groups bytes (groups rows))
+    (record { leaves = λ line row is other. (row-facts options bytes line row is other).unread_ending; texts = linked-filling options bytes }) (unread-with bytes (groups rows)) are quiet
 
 -- and once they are.
-pub events-endings : (options : ParseOptions) (bytes : List ℕ) (lines : List (List ℕ)) (rows : List Row) → AreRows options bytes [] false (body_point bytes) lines rows → EachNoContent rows →
+pub events-endings : (options : ParseOptions) (bytes : List ℕ) (lines : List (List ℕ)) (rows : List Row) →
+    AreRows options bytes [] false (body_point bytes) lines rows → EachNoContent rows →
     endings_stand (mark_events bytes ++ groups_events bytes (groups rows)) ≡ true
 events-endings options bytes lines rows are quiet =
-    endings-with options bytes lines rows (λ row. read_title bytes (row_title bytes row)) (read_lines bytes) (groups_events bytes (groups rows)) (record { titles = titles; texts = read-filling options bytes }) (read-with bytes (groups rows)) are quiet
-  where
-    titles : (line : List ℕ) (row : Row) → IsRow options bytes line row → AreOthers (read_title bytes (row_title bytes row))
-    titles line row is = subst (λ (l : List ℕ). AreOthers (read_title bytes (title_of l row.first))) (sym is.text) (title-others line row.first (read_text bytes (title_of line row.first).text) (read-others options bytes line row is))
+    endings-with options bytes lines rows (leaf_done bytes) (read_lines bytes) (groups_events bytes (groups rows))
+    (record { leaves = λ line row is other. (row-facts options bytes line row is other).ending; texts = read-filling options bytes }) (read-with bytes (groups rows)) are quiet

@@ -1,6 +1,5 @@
 -- Flow goes line by line.
-use Rattle.std.proofs.Common.{◌≡◌, ℕ, zero, suc, ◌<◌, ◌≤◌, Bool, true, false, cond, nat_eq, List, [], ◌∷◌, length, Option, Some, None, refl, ap, arith}
-use Rattle.std.specs.Prelude.{not}
+use Rattle.std.proofs.Common.{◌≡◌, ℕ, zero, suc, ◌<◌, ◌≤◌, cond, nat_eq, List, [], ◌∷◌, length, Option, Some, None, refl, ap, arith}
 use Rattle.md_engine.specs.declared.configuration.ParseOptions.{ParseOptions}
 use Rattle.md_engine.specs.declared.tokenizer.Container.{Container}
 use Rattle.md_engine.specs.declared.tokenizer.ContainerKind.{ContainerKind}
@@ -12,60 +11,26 @@ use Rattle.md_containers.specs.QuoteRule.{quote_at}
 use Rattle.md_containers.proofs.PrefixShorter.{Shortens, prefix-shortens, quote-shortens}
 use Rattle.md_content.specs.ChunkRule.{chunk_at, inside_chunk}
 use Rattle.md_leaves.specs.BlankRule.{blank_at}
-use Rattle.md_leaves.specs.BreakRule.{before_marker, break_at}
-use Rattle.md_leaves.specs.HeadingRule.{before_opening, heading_at, in_heading, is_heading}
-use Rattle.md_seam.specs.Ahead.{begins_white, from_ending, line_bytes}
-use Rattle.md_seam.specs.Standard.Leaves.{is_rule}
+use Rattle.md_seam.specs.Ahead.{line_bytes}
 use Rattle.md_seam.specs.Standard.Rest.{is_blank}
-use Rattle.md_seam.specs.Spaces.{small_indent}
-use Rattle.md_seam.proofs.RestCells.{white-length}
-use Rattle.markdown_blocks.specs.FlowRule.{Rule, behind_containers, blank_ended, continues_at, ended, ended_to, existing_by, existing_from, flow_at, flow_lines, leaf_of, line_ended, line_then, new_from, new_of, quote_opened, tried}
+use Rattle.markdown_blocks.specs.FlowRule.{Rule, behind_containers, blank_ended, continues_at, ended, ended_to, existing_by, existing_from, flow_at, flow_lines, leaf_of, leaves_of, line_ended, line_then, new_from, new_of, quote_opened, tried}
 use Rattle.markdown_blocks.specs.LineFlags.{begun_line, blanked, next_container, stays, went_on}
+use Rattle.markdown_blocks.specs.Registry.{LeafName, leaf, trials}
+use Rattle.markdown_blocks.proofs.FromEnding.{from_ending-again, from_ending-shrinks}
+use Rattle.markdown_blocks.proofs.LeafLaws.{Shrinks, cond-shrinks}
+use Rattle.markdown_blocks.proofs.Registry.{laws}
 
--- what is left is no longer than what there was
-abbrev Shrinks : ℕ → Outcome → Type 0
-Shrinks n (Accepts h rest) = length rest ≤ n
-Shrinks n (Refuses s g) = Unit {0}
-Shrinks n Fails = Unit {0}
+-- Blank lines and content: a line is taken or refused.
 
-pub from_ending-shrinks : (cells : List Cell) → length (from_ending cells) ≤ length cells
-from_ending-shrinks [] = omega arith
-from_ending-shrinks (c ∷ cs) = go (nat_eq c.byte 10) (from_ending-shrinks cs)
-  where
-    go : (x : Bool) → length (from_ending cs) ≤ length cs → length (cond x (c ∷ cs) (from_ending cs)) ≤ length (c ∷ cs)
-    go true h = omega arith
-    go false h = omega arith
-
-cond-shrinks : (n : ℕ) (x : Bool) (a b : Outcome) → Shrinks n a → Shrinks n b → Shrinks n (cond x a b)
-cond-shrinks n true a b p q = p
-cond-shrinks n false a b p q = q
-
-blank_at-shrinks : (cells : List Cell) (h : Here) → Shrinks (length cells) (blank_at cells h)
+pub blank_at-shrinks : (cells : List Cell) (h : Here) → Shrinks (length cells) (blank_at cells h)
 unfolding blank_at
-blank_at-shrinks cells h = cond-shrinks _ (is_blank (line_bytes cells)) _ _ (from_ending-shrinks cells) tt
+blank_at-shrinks cells h = cond-shrinks _ (is_blank (line_bytes cells)) _ _ (from_ending-shrinks cells, from_ending-again cells) tt
 
-before_marker-shrinks : (n : ℕ) (cells : List Cell) (h : Here) → length cells ≤ n → Shrinks n (before_marker cells h)
-unfolding before_marker
-before_marker-shrinks n [] h le = tt
-before_marker-shrinks n (c ∷ cs) h le = cond-shrinks n (is_rule (line_bytes (c ∷ cs))) _ _ (omega (arith, from_ending-shrinks (c ∷ cs))) tt
-
-break_at-shrinks : (options : ParseOptions) (cells : List Cell) (h : Here) → Shrinks (length cells) (break_at options cells h)
-unfolding break_at
-break_at-shrinks options cells h = cond-shrinks _ (not options.constructs.thematic_break) _ _ tt
-    (cond-shrinks _ (begins_white cells) _ _ (before_marker-shrinks _ _ _ (white-length (small_indent options) cells)) (before_marker-shrinks _ cells _ (omega arith)))
-
-before_opening-shrinks : (n : ℕ) (cells : List Cell) (h : Here) → length cells ≤ n → Shrinks n (before_opening cells h)
-unfolding before_opening in_heading
-before_opening-shrinks n cells h le = cond-shrinks n (is_heading (line_bytes cells)) _ _ (omega (arith, from_ending-shrinks cells)) tt
-
-heading_at-shrinks : (options : ParseOptions) (cells : List Cell) (h : Here) → Shrinks (length cells) (heading_at options cells h)
-unfolding heading_at
-heading_at-shrinks options cells h = cond-shrinks _ (not options.constructs.heading_atx) _ _ tt
-    (cond-shrinks _ (begins_white cells) _ _ (before_opening-shrinks _ _ _ (white-length (small_indent options) cells)) (before_opening-shrinks _ cells _ (omega arith)))
-
-chunk_at-shrinks : (cells : List Cell) (h : Here) → Shrinks (length cells) (chunk_at cells h)
+pub chunk_at-shrinks : (cells : List Cell) (h : Here) → Shrinks (length cells) (chunk_at cells h)
 unfolding chunk_at inside_chunk
-chunk_at-shrinks cells h = from_ending-shrinks cells
+chunk_at-shrinks cells h = (from_ending-shrinks cells, from_ending-again cells)
+
+-- Rules that go on in the same way.
 
 -- two ways to go on that agree on shorter rests
 abbrev pub Agree : ℕ → Rule → Rule → Type 0
@@ -86,9 +51,9 @@ blank_ended-same : (n : ℕ) (f g : Rule) → Agree n f g → AgreeAt n (blank_e
 blank_ended-same n f g agree cells h le = line_ended-same n f g agree cells (record h { flags = blanked h.flags }) le
 
 tried-same : (n : ℕ) (f g : Rule) → AgreeAt n f g → (o : Outcome) (a b : Scratch → Flags → Outcome) → Shrinks n o → ((s : Scratch) (t : Flags) → a s t ≡ b s t) → tried o f a ≡ tried o g b
-tried-same n f g agree (Accepts h rest) a b le same = agree rest h le
-tried-same n f g agree (Refuses s t) a b le same = same s t
-tried-same n f g agree Fails a b le same = refl
+tried-same n f g agree (Accepts h rest) a b shrinks same = agree rest h shrinks.0
+tried-same n f g agree (Refuses s t) a b shrinks same = same s t
+tried-same n f g agree Fails a b shrinks same = refl
 
 -- the same behind what takes a cell at least
 tried-shorter : (n : ℕ) (f g : Rule) → Agree n f g → (o : Outcome) (a b : Scratch → Flags → Outcome) → Shortens n o → ((s : Scratch) (t : Flags) → a s t ≡ b s t) → tried o f a ≡ tried o g b
@@ -96,12 +61,19 @@ tried-shorter n f g agree (Accepts h rest) a b lt same = agree rest h lt
 tried-shorter n f g agree (Refuses s t) a b lt same = same s t
 tried-shorter n f g agree Fails a b lt same = refl
 
+-- leaves that are tried one after another, and content behind them
+leaves_of-same : (options : ParseOptions) (f g : Rule) (ls : List LeafName) (cells : List Cell) (h : Here) → Agree (length cells) f g →
+    leaves_of options f ls cells h ≡ leaves_of options g ls cells h
+leaves_of-same options f g [] cells h agree =
+    tried-same _ (line_ended f) (line_ended g) (line_ended-same _ f g agree) (chunk_at cells h) Refuses Refuses (chunk_at-shrinks cells h) (λ s t. refl)
+leaves_of-same options f g (l ∷ ls) cells h agree =
+    tried-same _ (line_ended f) (line_ended g) (line_ended-same _ f g agree) ((leaf l).trial options cells h) _ _ ((laws l).shrinks options cells h)
+    (λ s t. leaves_of-same options f g ls cells (record h { scratch = s; flags = t }) agree)
+
 leaf_of-same : (options : ParseOptions) (f g : Rule) (cells : List Cell) (h : Here) → Agree (length cells) f g → leaf_of options f cells h ≡ leaf_of options g cells h
 leaf_of-same options f g cells h agree =
-    tried-same _ (blank_ended f) (blank_ended g) (blank_ended-same _ f g agree) (blank_at cells h) _ _ (blank_at-shrinks cells h) (λ s t.
-    tried-same _ (line_ended f) (line_ended g) (line_ended-same _ f g agree) (heading_at options cells (record h { scratch = s; flags = t })) _ _ (heading_at-shrinks options cells _) (λ s' t'.
-    tried-same _ (line_ended f) (line_ended g) (line_ended-same _ f g agree) (break_at options cells (record h { scratch = s'; flags = t' })) _ _ (break_at-shrinks options cells _) (λ s'' t''.
-    tried-same _ (line_ended f) (line_ended g) (line_ended-same _ f g agree) (chunk_at cells (record h { scratch = s''; flags = t'' })) _ _ (chunk_at-shrinks cells _) (λ _ _. refl))))
+    tried-same _ (blank_ended f) (blank_ended g) (blank_ended-same _ f g agree) (blank_at cells h) _ _ (blank_at-shrinks cells h)
+    (λ s t. leaves_of-same options f g trials cells (record h { scratch = s; flags = t }) agree)
 
 -- Containers.
 

@@ -20,41 +20,36 @@ use Rattle.md_engine.specs.World.{closed_events}
 use Rattle.md_containers.specs.QuoteRule.{prefix_at, prefix_rest, quote_at, takes_prefix}
 use Rattle.md_containers.proofs.PrefixCells.{prefix-is, prefix-shorter, quote-is}
 use Rattle.md_content.specs.Chunks.{content_link}
-use Rattle.md_leaves.specs.BlankRule.{blank_events}
-use Rattle.md_leaves.specs.HeadingRule.{heading_inside, is_heading_line}
-use Rattle.md_leaves.proofs.HeadingWhole.{heading-refused, heading-taken}
 use Rattle.md_seam.specs.Ahead.{from_ending, line_bytes, line_end}
-use Rattle.md_seam.specs.Events.Nested.{around, enter, enter_link, exit, pair}
+use Rattle.md_seam.specs.Events.Nested.{enter, enter_link, exit, pair}
 use Rattle.md_seam.specs.Standard.Rest.{is_blank}
-use Rattle.md_seam.specs.Spaces.{IsRest, calmed}
+use Rattle.md_seam.specs.Spaces.{IsRest}
 use Rattle.md_seam.specs.Standard.State.{Container, InQuote}
-use Rattle.md_seam.proofs.SpacesGoods.{rest-calm}
-use Rattle.markdown_blocks.specs.Change.{Change, change_by, container_name, ends_of, interrupts, open_behind, others_of}
-use Rattle.markdown_blocks.specs.FlowRule.{Rule, behind_containers, blank_ended, break_of, content_of, continues_at, ended, ended_to, existing_by, existing_from, flow_at, flow_lines, leaf_of, line_ended, line_then, new_from, new_of, nonblank_of, quote_opened, tried}
+use Rattle.markdown_blocks.specs.Change.{Change, change_by, ends_of, interrupts, open_behind, others_of}
+use Rattle.markdown_blocks.specs.FlowRule.{Rule, behind_containers, blank_ended, continues_at, ended, ended_to, existing_by, existing_from, flow_at, flow_lines, leaf_of, leaves_of, line_ended, line_then, new_from, new_of, nonblank_of, quote_opened, tried}
 use Rattle.markdown_blocks.specs.LineFlags.{begun_line, ending_name, next_line, stays, went_on}
-use Rattle.markdown_blocks.specs.Rows.{BlankRow, Front, Held, Passed, Row, RowKind, TextRow, after_ending, closes_before, ending_of, goes_at, held_at, held_by, held_of, in_front, inside_of, is_lazy, is_text, leaf_events, new_front, no_front, opens_at, quote_new, quote_on, row_events, row_kind, row_of, rows_at, rows_events, went_front}
-use Rattle.markdown_blocks.specs.Stands.{AreOpen, MatchesContainer}
+use Rattle.markdown_blocks.specs.Registry.{LeafName, first_of, goes_at, leaf, opens_at, trials}
+use Rattle.markdown_blocks.specs.Rows.{BlankRow, Front, Held, LeafRow, Row, RowKind, TextRow, after_ending, closes_before, ending_of, held_at, held_by, held_of, in_front, inside_of, is_lazy, is_text, kind_of, leaf_events, new_front, no_front, row_events, row_kind, row_of, rows_at, rows_events, went_front}
+use Rattle.markdown_blocks.specs.Stands.{AreOpen}
 use Rattle.markdown_blocks.proofs.ContainedLemmas.{lazy-some}
-use Rattle.markdown_blocks.proofs.FlowLemmas.{from_ending-shrinks}
+use Rattle.markdown_blocks.proofs.FromEnding.{from_ending-shrinks}
 use Rattle.markdown_blocks.proofs.LeafRows.{blank-refused, blank-took, chunk-took}
-use Rattle.markdown_blocks.specs.Leaf.ThematicBreak.{break_inside, is_break}
-use Rattle.markdown_blocks.proofs.ThematicBreak.Trial.{break-refused, break-took}
+use Rattle.markdown_blocks.proofs.Registry.{laws}
+use Rattle.markdown_blocks.specs.Passed.{Passed}
+use Rattle.markdown_blocks.specs.Containers.BlockQuote.{quote_new, quote_on}
+use Rattle.markdown_blocks.specs.ContainerKinds.{MatchesContainer, container_name}
 
 -- The leaf of a line, by its kind.
 
 -- what it adds
 abbrev pub added_by : ParseOptions → List Cell → Point → RowKind → List Event
-added_by options cells p BlankRow = blank_events cells p
-added_by options cells p HeadingRow = around n.HeadingAtx p (line_end cells p) (heading_inside options cells p)
-added_by options cells p BreakRow = around n.ThematicBreak p (line_end cells p) (break_inside options cells p)
 added_by options cells p TextRow = enter_link n.Content p content_link ∷ exit n.Content (line_end cells p) ∷ []
+added_by options cells p kind = inside_of options cells p kind
 
 -- whether the line is blank, where it was known to be or not
 abbrev pub blank_by : RowKind → Bool → Bool
 blank_by BlankRow b = true
-blank_by HeadingRow b = b
-blank_by BreakRow b = b
-blank_by TextRow b = b
+blank_by _ b = b
 
 -- behind it
 abbrev leaf_here : ParseOptions → List Cell → Here → RowKind → Here
@@ -64,50 +59,47 @@ leaf_here options cells h k = record h {
   flags = record h.flags { interrupt = is_text k; blank = blank_by k h.flags.blank };
 }
 
-kind-blank : (options : ParseOptions) (cells : List Cell) → is_blank (line_bytes cells) ≡ true → row_kind options cells ≡ BlankRow
-kind-blank options cells e = ap (λ (x : Bool). cond x BlankRow (cond (is_heading_line options cells) HeadingRow (cond (is_break options cells) BreakRow TextRow))) e
+-- of these leaves, the one that takes these cells
+abbrev taker : ParseOptions → List Cell → List LeafName → Option LeafName
+taker options cells ls = first_of (λ l. (leaf l).takes options cells) ls
 
-kind-heading : (options : ParseOptions) (cells : List Cell) → is_blank (line_bytes cells) ≡ false → is_heading_line options cells ≡ true → row_kind options cells ≡ HeadingRow
-kind-heading options cells e k = ap₂ (λ (a b : Bool). cond a BlankRow (cond b HeadingRow (cond (is_break options cells) BreakRow TextRow))) e k
+-- the kind of a line, where it is known whether it is blank
+kind-by : (options : ParseOptions) (cells : List Cell) (x : Bool) → is_blank (line_bytes cells) ≡ x →
+    row_kind options cells ≡ cond x BlankRow (kind_of (taker options cells trials))
+kind-by options cells x e = ap (λ (y : Bool). cond y BlankRow (kind_of (taker options cells trials))) e
 
-kind-other : (options : ParseOptions) (cells : List Cell) (x : Bool) → is_blank (line_bytes cells) ≡ false → is_heading_line options cells ≡ false → is_break options cells ≡ x → row_kind options cells ≡ cond x BreakRow TextRow
-kind-other options cells x e k l =
-    ap₂ (λ (a b : Bool). cond a BlankRow (cond b HeadingRow (cond (is_break options cells) BreakRow TextRow))) e k ∙ ap (λ (a : Bool). cond a BreakRow TextRow) l
+-- of leaves that are tried one after another, the first that takes the line has it; if none does, it is text
+leaves-are : (options : ParseOptions) (next : Rule) (ls : List LeafName) (cells : List Cell) (h : Here) → IsRest h.scratch →
+    leaves_of options next ls cells h ≡ line_ended next (from_ending cells) (leaf_here options cells h (kind_of (taker options cells ls)))
+leaves-are options next [] cells h is = ap (λ (o : Outcome). tried o (line_ended next) Refuses) (chunk-took cells h)
+leaves-are options next (l ∷ ls) cells h is = go ((leaf l).takes options cells) refl (leaves-are options next ls cells h is)
+  where
+    onward : Outcome → Outcome
+    onward o = tried o (line_ended next) (λ s g. leaves_of options next ls cells (record h { scratch = s; flags = g }))
 
-leaf-is : (options : ParseOptions) (next : Rule) (cells : List Cell) (h : Here) → IsRest h.scratch → leaf_of options next cells h ≡ line_ended next (from_ending cells) (leaf_here options cells h (row_kind options cells))
+    Done : Option LeafName → Type 0
+    Done o = leaves_of options next (l ∷ ls) cells h ≡ line_ended next (from_ending cells) (leaf_here options cells h (kind_of o))
+
+    go : (x : Bool) → (leaf l).takes options cells ≡ x →
+        leaves_of options next ls cells h ≡ line_ended next (from_ending cells) (leaf_here options cells h (kind_of (taker options cells ls))) →
+        Done (cond x (Some l) (taker options cells ls))
+    go true takes more = ap onward ((laws l).took options cells h is takes)
+    go false takes more = ap onward ((laws l).refused options cells h is takes) ∙ more
+
+-- the rest of a line is what its kind says
+leaf-is : (options : ParseOptions) (next : Rule) (cells : List Cell) (h : Here) → IsRest h.scratch →
+    leaf_of options next cells h ≡ line_ended next (from_ending cells) (leaf_here options cells h (row_kind options cells))
 leaf-is options next cells h is = go (is_blank (line_bytes cells)) refl
   where
-    Done : Outcome → Type 0
-    Done o = o ≡ line_ended next (from_ending cells) (leaf_here options cells h (row_kind options cells))
+    onward : Outcome → Outcome
+    onward o = tried o (blank_ended next) (λ s g. nonblank_of options next cells (record h { scratch = s; flags = g }))
 
-    onto : (k : RowKind) (o : Outcome) → row_kind options cells ≡ k → o ≡ line_ended next (from_ending cells) (leaf_here options cells h k) → Done o
-    onto k o e same = same ∙ ap (λ (x : RowKind). line_ended next (from_ending cells) (leaf_here options cells h x)) (sym e)
+    behind : RowKind → Outcome
+    behind k = line_ended next (from_ending cells) (leaf_here options cells h k)
 
-    -- a line that is no heading
-    by : is_blank (line_bytes cells) ≡ false → is_heading_line options cells ≡ false → (x : Bool) → is_break options cells ≡ x → Done (break_of options next cells h)
-    by none other true b = onto BreakRow (break_of options next cells h) (kind-other options cells true none other b)
-        (ap (λ (o : Outcome). tried o (line_ended next) (λ s g. content_of next cells (record h { scratch = s; flags = g }))) (break-took options cells h is b))
-    by none other false b = onto TextRow (break_of options next cells h) (kind-other options cells false none other b)
-        (ap (λ (o : Outcome). tried o (line_ended next) (λ s g. content_of next cells (record h { scratch = s; flags = g }))) (break-refused options cells h is b)
-        ∙ ap (λ (o : Outcome). tried o (line_ended next) Refuses) (chunk-took cells h))
-
-    calm : calmed h.scratch ≡ h.scratch
-    calm = rest-calm h.scratch is ∙ sym is
-
-    -- a line that is not blank
-    nonblank : is_blank (line_bytes cells) ≡ false → (x : Bool) → is_heading_line options cells ≡ x → Done (nonblank_of options next cells h)
-    nonblank none true b = onto HeadingRow (nonblank_of options next cells h) (kind-heading options cells none b)
-        (ap (λ (o : Outcome). tried o (line_ended next) (λ s g. break_of options next cells (record h { scratch = s; flags = g }))) (heading-taken options cells h calm b))
-    nonblank none false b =
-        ap (λ (o : Outcome). tried o (line_ended next) (λ s g. break_of options next cells (record h { scratch = s; flags = g }))) (heading-refused options cells h calm b)
-        ∙ by none b (is_break options cells) refl
-
-    go : (x : Bool) → is_blank (line_bytes cells) ≡ x → Done (leaf_of options next cells h)
-    go true k = onto BlankRow (leaf_of options next cells h) (kind-blank options cells k)
-        (ap (λ (o : Outcome). tried o (blank_ended next) (λ s g. nonblank_of options next cells (record h { scratch = s; flags = g }))) (blank-took cells h k))
-    go false k =
-        ap (λ (o : Outcome). tried o (blank_ended next) (λ s g. nonblank_of options next cells (record h { scratch = s; flags = g }))) (blank-refused cells h k)
-        ∙ nonblank k (is_heading_line options cells) refl
+    go : (x : Bool) → is_blank (line_bytes cells) ≡ x → leaf_of options next cells h ≡ behind (row_kind options cells)
+    go true e = ap onward (blank-took cells h e) ∙ ap behind (sym (kind-by options cells true e))
+    go false e = ap onward (blank-refused cells h e) ∙ leaves-are options next trials cells h is ∙ ap behind (sym (kind-by options cells false e))
 
 -- The containers that the tokenizer holds.
 
@@ -637,14 +629,12 @@ line-done options next front tail p cs going cells h b =
 -- what a row says of its leaf is what is added
 leaf-added : (options : ParseOptions) (x : Held) (ls : List Container) (below : List Row) (k : RowKind) → leaf_events k (record (row_of options x below) { leaves = ls; inside = inside_of options x.cells x.point k }) ≡ added_by options x.cells x.point k
 leaf-added options x ls below BlankRow = refl
-leaf-added options x ls below HeadingRow = refl
-leaf-added options x ls below BreakRow = refl
+leaf-added options x ls below (LeafRow l) = refl
 leaf-added options x ls below TextRow = refl
 
 ending-named : (k : RowKind) → ending_name (blank_by k false) ≡ ending_of k
 ending-named BlankRow = refl
-ending-named HeadingRow = refl
-ending-named BreakRow = refl
+ending-named (LeafRow l) = refl
 ending-named TextRow = refl
 
 regroup-row : (front ends tail w added more ending rows : List Event) →

@@ -16,27 +16,28 @@ use Rattle.md_content.specs.ContentReads.{content_events, content_readings, is_d
 use Rattle.md_content.specs.Joined.{goes_on, is_content, joined}
 use Rattle.md_content.specs.Paragraph.{text_link}
 use Rattle.md_content.specs.ParagraphRule.{line_events}
-use Rattle.md_leaves.specs.BreakRule.{Apart, runs}
-use Rattle.md_leaves.specs.HeadingText.{begins, headings_resolved, is_heading}
 use Rattle.md_seam.specs.declared.inline.Chunk.{Chunk}
-use Rattle.md_seam.specs.Ahead.{begins_white, from_ending, line_cells, line_end, point_after, white_end, white_rest}
+use Rattle.md_seam.specs.Ahead.{begins_white, from_ending, line_end, point_after, white_end, white_rest}
 use Rattle.md_seam.specs.Events.Nested.{enter_link, exit, pair, is_exit}
 use Rattle.md_seam.specs.Standard.Rest.{is_white}
 use Rattle.md_seam.specs.Spaces.{small_indent}
 use Rattle.md_seam.specs.Standard.State.{Container, InFootnote, InItem, InQuote}
 use Rattle.md_seam.specs.Substituted.{Readings, Substituted}
-use Rattle.md_seam.proofs.SpelledLemmas.{Quiet, Roles, roles-append}
 use Rattle.markdown_blocks.specs.Change.{interrupts, open_behind, others_of}
 use Rattle.markdown_blocks.specs.FlowReads.{has_text}
-use Rattle.markdown_blocks.specs.Rows.{BlankRow, Front, Held, Passed, Row, RowKind, TextRow, ending_of, goes_at, held_at, in_front, inside_of, is_text, leaf_events, new_front, no_front, opens_at, quote_new, quote_on, row_events, row_events_by, row_kind, rows_at, rows_by, rows_events, tail_events, went_front}
-use Rattle.markdown_blocks.proofs.EachEvent.{Each}
+use Rattle.markdown_blocks.specs.Rows.{BlankRow, Front, Held, Row, RowKind, TextRow, ending_of, held_at, in_front, inside_of, is_text, leaf_events, new_front, no_front, row_events, row_kind, rows_at, rows_by, rows_events, tail_events, went_front, LeafRow}
+use Rattle.markdown_blocks.proofs.EachEvent.{Each, each-behind, each-front}
 use Rattle.markdown_blocks.proofs.EachRow.{EachRow}
-use Rattle.markdown_blocks.proofs.FrontNames.{AreFront, front-append}
-use Rattle.markdown_blocks.proofs.GroupLemmas.{AreOutside, around-outside, front-outside, outside-append, outside-passes, quiet-outside, tail-outside}
+use Rattle.markdown_blocks.specs.Registry.{is_own, goes_at, opens_at}
+use Rattle.markdown_blocks.proofs.OutsideFacts.{AreOutside, outside-append, IsNoEnd, IsOutside, NoEnds}
+use Rattle.markdown_blocks.proofs.OutsideLemmas.{front-outside, tail-outside, ending-own}
+use Rattle.markdown_blocks.proofs.Registry.{laws}
 use Rattle.markdown_blocks.proofs.JoinedLemmas.{EachNoContent, events-no_content, front-no_content, joined-passes}
 use Rattle.markdown_blocks.proofs.SubstitutedLemmas.{keeps, keeps-each}
-use Rattle.markdown_blocks.specs.Leaf.ThematicBreak.{first_cell}
 use Rattle.markdown_blocks.proofs.ContentFacts.{NoContent, no_content-append, no_content-unwanted, nothing}
+use Rattle.markdown_blocks.proofs.PrefixNames.{AreFront, front-append}
+use Rattle.markdown_blocks.specs.Passed.{Passed}
+use Rattle.markdown_blocks.specs.Containers.BlockQuote.{quote_new, quote_on}
 
 -- What stands in front of a line that flow reads.
 
@@ -123,30 +124,25 @@ held-are options cs going cells p =
 -- Lines.
 
 -- whitespace that may stand in a line
-white-quiet : (x : Bool) (p q : Point) → Roles Quiet (cond x (pair n.SpaceOrTab p q) [])
-white-quiet true p q = (tt, (tt, tt))
-white-quiet false p q = tt
+white-outside : (x : Bool) (p q : Point) → AreOutside (cond x (pair n.SpaceOrTab p q) [])
+white-outside true p q = (refl, (refl, tt))
+white-outside false p q = tt
 
--- what stands in a line that is no heading
-inside-quiet : (options : ParseOptions) (cells : List Cell) (p : Point) (kind : RowKind) → kind ≢ HeadingRow → Roles Quiet (inside_of options cells p kind)
-inside-quiet options cells p BlankRow other = white-quiet (begins_white cells) p (line_end cells p)
-inside-quiet options cells p HeadingRow other = absurd (other refl)
-inside-quiet options cells p BreakRow other =
-    let rest : List Cell = white_rest (small_indent options) cells in
-    let q : Point = white_end (small_indent options) cells p in
-    roles-append Quiet (cond (begins_white cells) (pair n.SpaceOrTab p q) []) (runs Apart (first_cell rest) (line_cells rest) q) (white-quiet (begins_white cells) p q)
-    (quiet-runs Apart (first_cell rest) (line_cells rest) q)
-inside-quiet options cells p TextRow other = tt
+-- where nothing ends in a line that a resolver rewrites, nothing begins
+inside-own : (options : ParseOptions) (cells : List Cell) (p : Point) (kind : RowKind) → NoEnds is_own (inside_of options cells p kind) → AreOutside (inside_of options cells p kind)
+inside-own options cells p BlankRow h = white-outside (begins_white cells) p (line_end cells p)
+inside-own options cells p (LeafRow l) h = (laws l).own options cells p h
+inside-own options cells p TextRow h = tt
 
--- prefixes and begins of containers stand in front of a line, and in one that is no heading nothing that the tree shows
+-- prefixes and begins of containers stand in front of a line, and in it begins nothing of a resolver that does not end there
 pub record IsFramed (row : Row) : Type 0 where
   pub front : AreFront row.front
-  pub inside : row.kind ≢ HeadingRow → Roles Quiet row.inside
+  pub own : NoEnds is_own row.inside → AreOutside row.inside
 
 -- so it is in the lines that flow reads
 rows_by-framed : (options : ParseOptions) (h : Held) (further : List Container → Bool → List Cell → Point → List Row) → AreFront h.front →
     ((open_before : List Container) (going : Bool) (cells : List Cell) (p : Point) → EachRow IsFramed (further open_before going cells p)) → EachRow IsFramed (rows_by options h further)
-rows_by-framed options h further front each = (record { front = front; inside = λ other. inside-quiet options h.cells h.point (row_kind options h.cells) other }, go (from_ending h.cells))
+rows_by-framed options h further front each = (record { front = front; own = inside-own options h.cells h.point (row_kind options h.cells) }, go (from_ending h.cells))
   where
     going : Bool
     going = is_text (row_kind options h.cells)
@@ -167,8 +163,7 @@ rows_at-framed options (suc size) open_before going cells p =
 text-kind : (kind : RowKind) → is_text kind ≡ false → kind ≢ TextRow
 text-kind TextRow e k = cc
 text-kind BlankRow e k = cc
-text-kind HeadingRow e k = cc
-text-kind BreakRow e k = cc
+text-kind (LeafRow l) e k = cc
 
 -- where no line is text there is no content
 rows-no_content : (wants : Content → Bool) → wants content.Text ≡ false → (rows : List Row) → EachRow IsFramed rows → EachNoContent rows → has_text rows ≡ false → NoContent wants (rows_events rows)
@@ -176,7 +171,7 @@ rows-no_content wants w [] framed quiet none = tt
 rows-no_content wants w (row ∷ rows) framed quiet none =
     let other = or_parts (is_text row.kind) (has_text rows) none in
     no_content-append wants (row_events row) (rows_events rows)
-    (events-no_content wants row row.kind refl (text-kind row.kind other.0) (front-no_content wants row.front framed.0.front) (quiet.0 wants (λ k. w)))
+    (events-no_content wants row row.kind refl (text-kind row.kind other.0) (front-no_content wants row.front framed.0.front) (quiet.0 wants w))
     (rows-no_content wants w rows framed.1 quiet.1 other.1)
 
 -- Where no line is text, reading content changes nothing.
@@ -210,37 +205,28 @@ settled-each P moves (chunk ∷ chunks) (e ∷ es) h = go (is_data_end e) (settl
     go true k l = (moves e chunk.after h.0, k)
     go false k l = (h.0, l)
 
--- Setting the text of headings.
+-- The resolvers behind that of content.
 
--- no heading begins with an event
-abbrev IsOutside : Event → Type 0
-IsOutside e = begins is_heading e ≡ false
+-- what flow adds for a line, but for what stands around it
+leaf-outside : (row : Row) (kind : RowKind) → IsFramed row → NoEnds is_own (leaf_events kind row) → AreOutside (leaf_events kind row)
+leaf-outside row BlankRow framed h = framed.own h
+leaf-outside row (LeafRow l) framed h = framed.own h
+leaf-outside row TextRow framed h = (refl, (refl, tt))
 
--- a line that is no heading
-row-outside : (row : Row) (kind : RowKind) → row.kind ≡ kind → row.kind ≢ HeadingRow → IsFramed row → AreOutside (row_events_by kind row)
-row-outside row kind e other framed =
-    outside-append (row.front ++ leaf_events kind row) (tail_events (ending_of kind) row)
-    (outside-append row.front (leaf_events kind row) (front-outside row.front framed.front) (leaf kind e)) (tail-outside (ending_of kind) row (ending kind))
-  where
-    inside : AreOutside row.inside
-    inside = quiet-outside row.inside (framed.inside other)
+row-outside : (row : Row) → IsFramed row → NoEnds is_own (row_events row) → AreOutside (row_events row)
+row-outside row framed h =
+    let leaf : List Event = leaf_events row.kind row in
+    let tail : List Event = tail_events (ending_of row.kind) row in
+    let inside = each-behind (IsNoEnd is_own) row.front leaf (each-front (IsNoEnd is_own) (row.front ++ leaf) tail h) in
+    outside-append (row.front ++ leaf) tail
+    (outside-append row.front leaf (front-outside row.front framed.front) (leaf-outside row row.kind framed inside)) (tail-outside (ending_of row.kind) row (ending-own row.kind))
 
-    leaf : (kind : RowKind) → row.kind ≡ kind → AreOutside (leaf_events kind row)
-    leaf BlankRow e = inside
-    leaf HeadingRow e = absurd (other e)
-    leaf BreakRow e = around-outside n.ThematicBreak row.first row.end row.inside refl inside
-    leaf TextRow e = (refl, (refl, tt))
-
-    ending : (kind : RowKind) → is_heading (ending_of kind) ≡ false
-    ending BlankRow = refl
-    ending HeadingRow = refl
-    ending BreakRow = refl
-    ending TextRow = refl
-
--- lines none of which is a heading
-pub rows-outside : (rows : List Row) → EachRow IsFramed rows → EachRow (λ (row : Row). row.kind ≢ HeadingRow) rows → AreOutside (rows_events rows)
-rows-outside [] framed other = tt
-rows-outside (row ∷ rows) framed other = outside-append (row_events row) (rows_events rows) (row-outside row row.kind refl other.0 framed.0) (rows-outside rows framed.1 other.1)
+-- where nothing of a resolver ends in the lines of a text, nothing of it begins
+pub rows-outside : (rows : List Row) → EachRow IsFramed rows → NoEnds is_own (rows_events rows) → AreOutside (rows_events rows)
+rows-outside [] framed h = tt
+rows-outside (row ∷ rows) framed h =
+    outside-append (row_events row) (rows_events rows) (row-outside row framed.0 (each-front (IsNoEnd is_own) (row_events row) (rows_events rows) h))
+    (rows-outside rows framed.1 (each-behind (IsNoEnd is_own) (row_events row) (rows_events rows) h))
 
 -- the lines of a paragraph
 lines-outside : (cells : List Cell) (p : Point) → AreOutside (line_events cells p)
@@ -259,12 +245,8 @@ content-outside bytes options chunks =
     let cells : List Cell = text_feed w.setting w.point in
     settled-each IsOutside (λ e q h. h) chunks (paragraph_over cells w.point) (refl, (refl, outside-append (line_events cells w.point) (exit n.Paragraph (point_after cells w.point) ∷ []) (lines-outside cells w.point) (refl, tt)))
 
--- so no heading begins behind it where none did before
+-- so nothing of a resolver begins behind it where nothing did before
 pub reading-outside : (bytes : List ℕ) (options : ParseOptions) (es out : List Event) → AreOutside es → Substituted wants_content (content_readings bytes options) [] 0 (joined es) out → AreOutside out
 reading-outside bytes options es out h s =
     keeps-each IsOutside wants_content (content_readings bytes options) (λ content chunks answer is. subst (Each IsOutside) (sym is) (content-outside bytes options chunks)) [] 0 (joined es) out tt
     (joined-each IsOutside (λ e q h. h) es h) s
-
--- Where no heading begins, setting their text changes nothing.
-pub headings-same : (es : List Event) → AreOutside es → headings_resolved es ≡ es
-headings-same es h = ap headings_resolved (sym (append-nil es)) ∙ outside-passes es [] h ∙ append-nil es

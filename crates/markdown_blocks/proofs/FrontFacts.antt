@@ -5,7 +5,7 @@ use Rattle.md_engine.specs.declared.event.Point.{Point}
 use Rattle.md_seam.specs.Events.Nested.{enter}
 use Rattle.md_seam.specs.Standard.State.{Container, InQuote}
 pub use Rattle.md_containers.proofs.QuoteLines.{IsPrefix}
-use Rattle.markdown_blocks.specs.Change.{container_name}
+use Rattle.markdown_blocks.specs.ContainerKinds.{container_name}
 
 -- What stands in front of the content of a container, by the container; there are only quotes yet.
 

@@ -17,13 +17,17 @@ use Rattle.md_seam.proofs.ContainerLemmas.{opens-leaves}
 use Rattle.md_seam.proofs.FeedLines.{Stops}
 use Rattle.md_seam.proofs.RestCells.{RestAt, past_rest, rest_cells}
 use Rattle.md_seam.proofs.TextsLemmas.{NoEnding}
-use Rattle.markdown_blocks.specs.Change.{change_by, container_name, interrupts, open_behind, others_of}
-use Rattle.markdown_blocks.specs.Fronted.{Contained, Prefixed, contained, contained_behind, contained_by, contained_of, no_prefix, one_more, prefixes_new, prefixes_on, rest_line}
+use Rattle.markdown_blocks.specs.Change.{change_by, interrupts, open_behind, others_of}
+use Rattle.markdown_blocks.specs.ContainerKinds.{container_name}
+use Rattle.markdown_blocks.specs.Containers.BlockQuote.{quote_new, quote_on}
+use Rattle.markdown_blocks.specs.Fronted.{Contained, Prefixed, contained, contained_behind, contained_by, contained_of, no_prefix, one_more, prefixes_new, prefixes_on}
 use Rattle.markdown_blocks.specs.Parsed.{IsBuilt}
-use Rattle.markdown_blocks.specs.Rows.{Front, Held, Passed, goes_at, held_at, held_behind, held_by, in_front, is_lazy, line_kind, new_front, no_front, opens_at, quote_new, quote_on, row_kind, went_front}
+use Rattle.markdown_blocks.specs.Passed.{Passed}
+use Rattle.markdown_blocks.specs.Registry.{goes_at, opens_at}
+use Rattle.markdown_blocks.specs.Rows.{Front, Held, held_at, held_behind, held_by, in_front, is_lazy, line_kind, new_front, no_front, row_kind, went_front}
 use Rattle.markdown_blocks.proofs.ContainedLemmas.{change-opens, quote-alone}
 use Rattle.markdown_blocks.proofs.FrontFacts.{Behind, Begins, LinePrefix, Goes, IsContinuationPrefix, IsOpeningPrefix}
-use Rattle.markdown_blocks.proofs.RestRows.{kind-rest}
+use Rattle.markdown_blocks.proofs.RowKinds.{kind-rest}
 
 -- The containers that flow reads; there are only quotes yet.
 
@@ -330,7 +334,6 @@ held-behind : (options : ParseOptions) (line : Line) (text past : List ℕ) (p e
 held-behind options line text past p end stop cells cs going went on built read k short is =
     let le = is.front.shorter in
     let size = ap length is.front.fed in
-    let off = built.code_indented in
     let interrupting : Bool = interrupts going (others_of cs went.containers) in
     let new : Front = new_front options interrupting (length went.cells) went.cells went.point in
     let more : Prefixed = prefixes_new options interrupting (length on.rest.bytes) on.rest in
@@ -339,11 +342,10 @@ held-behind options line text past p end stop cells cs going went on built read 
     (new-is options interrupting line text past (length (rest_cells line on.rest went.point ++ stop)) (length on.rest.bytes) on.rest stop went.point built is.front.stands is.front.no_ending k (omega (arith, le, size, short)) (omega arith) (omega arith)) in
     let shorter = opened.front.shorter in
     let few = ap length opened.front.fed in
-    let column = opened.front.stands.column in
-    let kind : row_kind options new.cells ≡ line_kind options (rest_line more.rest) =
+    let kind : row_kind options new.cells ≡ line_kind options more.rest =
     ap (row_kind options) opened.front.fed
-    ∙ kind-rest options line more.rest new.point stop off (omega (arith, le, shorter, few, short)) opened.front.no_ending k (omega (arith, column)) opened.front.stands.cut in
-    let lazy : is_lazy going new.containers (row_kind options new.cells) ≡ is_lazy going more.containers (line_kind options (rest_line more.rest)) = ap₂ (is_lazy going) opened.front.containers kind in
+    ∙ kind-rest options line text past more.rest new.point stop opened.front.stands opened.front.no_ending k (omega (arith, le, shorter, few, short)) in
+    let lazy : is_lazy going new.containers (row_kind options new.cells) ≡ is_lazy going more.containers (line_kind options more.rest) = ap₂ (is_lazy going) opened.front.containers kind in
     let behind : contained_of options cs going on more ≡ contained_behind options cs going on =
     ap (λ (w : List Container). contained_of options cs going on (prefixes_new options (interrupts going (others_of cs w)) (length on.rest.bytes) on.rest)) is.front.containers in
     subst (HasHeld line text past p end stop cells (held_behind options cs going went)) behind

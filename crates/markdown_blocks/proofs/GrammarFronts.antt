@@ -1,17 +1,19 @@
 -- What stands in front of a line and behind it keeps the grammar of events.
-use Rattle.std.proofs.Common.{◌≡◌, Bool, true, false, cond, ℕ, List, [], ◌∷◌, ◌++◌, refl, ap, sym, ◌∙◌, subst, append_assoc}
+use Rattle.std.proofs.Common.{◌≡◌, Bool, true, false, cond, ℕ, List, [], ◌∷◌, ◌++◌, refl, ap, sym, ◌∙◌, append_assoc}
 use Rattle.md_engine.specs.declared.event.Event.{Event}
 use Rattle.md_engine.specs.declared.event.Name.{Name}
-use Rattle.md_engine.specs.declared.event.Name.TheVariants as n
 use Rattle.md_engine.specs.declared.event.Point.{Point}
-use Rattle.md_seam.specs.Events.Grammar.{Expression, behind, behind_block, blocks, inside, left_of, may_end}
+use Rattle.md_seam.specs.Events.Grammar.{Expression, behind_block, blocks, left_of, may_end}
 use Rattle.md_seam.specs.Events.Nested.{enter, exit, pair}
-use Rattle.md_seam.specs.Standard.State.{Container, InQuote}
-use Rattle.md_seam.proofs.GrammarLemmas.{Leads, leads-append, leads-prefix, leads-rest}
-use Rattle.markdown_blocks.specs.Change.{container_name, ends_of}
-use Rattle.markdown_blocks.specs.Rows.{BlankRow, RowKind, TextRow, ending_of}
-use Rattle.markdown_blocks.proofs.FrontFacts.{Begins, Behind, LinePrefix, Goes, IsContinuationPrefix, IsOpeningPrefix, IsPrefix}
-use Rattle.markdown_blocks.proofs.FrontLemmas.{open_names}
+use Rattle.md_seam.specs.Standard.State.{Container}
+use Rattle.md_seam.proofs.GrammarLemmas.{Leads, leads-append, leads-rest}
+use Rattle.markdown_blocks.specs.ContainerKinds.{container_name}
+use Rattle.markdown_blocks.specs.Change.{ends_of}
+use Rattle.markdown_blocks.specs.Rows.{BlankRow, LeafRow, RowKind, TextRow, ending_of}
+use Rattle.markdown_blocks.proofs.FrontFacts.{Begins, Behind, LinePrefix, Goes}
+use Rattle.markdown_blocks.proofs.ContainerNames.{open_names}
+use Rattle.markdown_blocks.proofs.ContainerFacts.{continues-facts, opens-facts}
+use Rattle.markdown_blocks.proofs.PrefixNames.{TakesPrefixes}
 
 -- Open containers.
 
@@ -26,47 +28,32 @@ behinds-append [] ys = refl
 behinds-append (name ∷ xs) ys = ap (λ (l : List Expression). behind_block ∷ l) (behinds-append xs ys)
 
 -- with one around them
-behinds-around : (xs : List Name) (name : Name) (outer : List Expression) → behinds (xs ++ name ∷ []) ++ outer ≡ behinds xs ++ (behind_block ∷ outer)
+behinds-around : (xs : List Name) (name : Name) (outer : List Expression) →
+    behinds (xs ++ name ∷ []) ++ outer ≡ behinds xs ++ (behind_block ∷ outer)
 behinds-around xs name outer = ap (λ (l : List Expression). l ++ outer) (behinds-append xs (name ∷ [])) ∙ append_assoc (behinds xs) (behind_block ∷ []) outer
 
 -- LinePrefix.
 
--- a prefix of a quote
-prefix-leads : (text x y : Expression) (bytes : List ℕ) (p q : Point) (es : List Event) → behind n.BlockQuotePrefix x ≡ y →
-    behind n.BlockQuotePrefix (behind n.SpaceOrTab x) ≡ y → IsPrefix bytes p q es → Leads text (x ∷ []) (y ∷ []) es
-prefix-leads text x y bytes p q es h k is = subst (Leads text (x ∷ []) (y ∷ [])) (sym is.events) (leads-prefix text x y p is.marker is.behind q h k)
-
--- what stands in front of the content of a container that goes on
-further-leads : (text x : Expression) (bytes : List ℕ) (c : Container) (p q : Point) (es : List Event) → behind n.BlockQuotePrefix x ≡ x →
-    behind n.BlockQuotePrefix (behind n.SpaceOrTab x) ≡ x → IsContinuationPrefix bytes c p q es → Leads text (x ∷ []) (x ∷ []) es
-further-leads text x bytes InQuote p q es h k is = prefix-leads text x x bytes p q es h k is
-further-leads text x bytes c p q es h k is = absurd is
-
--- and of one that opens, with its begin
-opening-leads : (text : Expression) (bytes : List ℕ) (c : Container) (p q : Point) (es : List Event) → IsOpeningPrefix bytes c p q es →
-    Leads text (blocks ∷ []) (blocks ∷ behind_block ∷ []) (enter (container_name c) p ∷ es)
-opening-leads text bytes InQuote p q es is = λ outer. prefix-leads text (inside text n.BlockQuote) blocks bytes p q es refl refl is (behind_block ∷ outer)
-opening-leads text bytes c p q es is = absurd is
-
 -- in front of blocks, what stands there opens the containers that begin in it
-pub front-leads : (text : Expression) (bytes : List ℕ) (opens : List Container) (p q : Point) (front : List Event) → LinePrefix bytes opens p q front →
+pub front-leads : (text : Expression) (bytes : List ℕ) (opens : List Container) (p q : Point) (front : List Event) →
+    LinePrefix bytes opens p q front →
     Leads text (blocks ∷ []) (blocks ∷ behinds (open_names opens)) front
 front-leads text bytes _ p _ _ (Behind _) = λ outer. refl
 front-leads text bytes opens p r _ (Goes c _ _ q _ es fs is more) =
-    leads-append text (blocks ∷ []) (blocks ∷ []) (blocks ∷ behinds (open_names opens)) es fs (further-leads text blocks bytes c p q es refl refl is) (front-leads text bytes opens q r fs more)
+    leads-append text (blocks ∷ []) (blocks ∷ []) (blocks ∷ behinds (open_names opens)) es fs ((continues-facts bytes c p q es is).stays text blocks (refl, refl)) (front-leads text bytes opens q r fs more)
 front-leads text bytes _ p r _ (Begins c opens _ q _ es fs is more) =
     let further : Leads text (blocks ∷ behind_block ∷ []) (blocks ∷ behinds (open_names opens ++ container_name c ∷ [])) fs =
     λ outer. front-leads text bytes opens q r fs more (behind_block ∷ outer) ∙ ap (λ (l : List Expression). blocks ∷ l) (sym (behinds-around (open_names opens) (container_name c) outer)) in
-    leads-append text (blocks ∷ []) (blocks ∷ behind_block ∷ []) (blocks ∷ behinds (open_names opens ++ container_name c ∷ [])) (enter (container_name c) p ∷ es) fs (opening-leads text bytes c p q es is) further
+    leads-append text (blocks ∷ []) (blocks ∷ behind_block ∷ []) (blocks ∷ behinds (open_names opens ++ container_name c ∷ [])) (enter (container_name c) p ∷ es) fs ((opens-facts bytes c p q es is).leads text) further
 
 -- in front of a further line of a leaf, where prefixes may stand
 pub front-stays : (text x : Expression) (bytes : List ℕ) (opens : List Container) (p q : Point) (front : List Event) →
-    behind n.BlockQuotePrefix x ≡ x → behind n.BlockQuotePrefix (behind n.SpaceOrTab x) ≡ x → LinePrefix bytes opens p q front → opens ≡ [] →
+    TakesPrefixes x → LinePrefix bytes opens p q front → opens ≡ [] →
     Leads text (x ∷ []) (x ∷ []) front
-front-stays text x bytes _ p _ _ h k (Behind _) none = λ outer. refl
-front-stays text x bytes opens p r _ h k (Goes c _ _ q _ es fs is more) none =
-    leads-append text (x ∷ []) (x ∷ []) (x ∷ []) es fs (further-leads text x bytes c p q es h k is) (front-stays text x bytes opens q r fs h k more none)
-front-stays text x bytes _ p r _ h k (Begins c opens _ q _ es fs is more) none = cc
+front-stays text x bytes _ p _ _ takes (Behind _) none = λ outer. refl
+front-stays text x bytes opens p r _ takes (Goes c _ _ q _ es fs is more) none =
+    leads-append text (x ∷ []) (x ∷ []) (x ∷ []) es fs ((continues-facts bytes c p q es is).stays text x takes) (front-stays text x bytes opens q r fs takes more none)
+front-stays text x bytes _ p r _ takes (Begins c opens _ q _ es fs is more) none = cc
 
 -- Behind a line.
 
@@ -99,9 +86,7 @@ pub ending-leads : (text : Expression) (kind : RowKind) (p q : Point) (block : B
     Leads text (blocks_behind block ∷ []) (blocks ∷ []) (pair (ending_of kind) p q)
 ending-leads text BlankRow p q true outer = refl
 ending-leads text BlankRow p q false outer = refl
-ending-leads text HeadingRow p q true outer = refl
-ending-leads text HeadingRow p q false outer = refl
-ending-leads text BreakRow p q true outer = refl
-ending-leads text BreakRow p q false outer = refl
+ending-leads text (LeafRow l) p q true outer = refl
+ending-leads text (LeafRow l) p q false outer = refl
 ending-leads text TextRow p q true outer = refl
 ending-leads text TextRow p q false outer = refl

@@ -2,6 +2,7 @@
 use Rattle.std.proofs.Common.{◌≡◌, ◌≢◌, ◌<◌, ℕ, Bool, true, false, cond, List, [], ◌∷◌, ◌++◌, refl, ap, sym, ◌∙◌, subst, append_assoc, arith}
 use Rattle.std.specs.Prelude.{Option, Some, None}
 use Rattle.std.proofs.lemmas.Bool.Decides.{nat_tests}
+use Rattle.std.specs.Option.{is_some}
 use Rattle.md_engine.specs.declared.configuration.ParseOptions.{ParseOptions}
 use Rattle.md_engine.specs.declared.event.Event.{Event}
 use Rattle.md_engine.specs.declared.event.Name.{Name}
@@ -9,32 +10,26 @@ use Rattle.md_engine.specs.declared.event.Name.TheVariants as n
 use Rattle.md_engine.specs.declared.event.Point.{Point}
 use Rattle.md_engine.specs.Place.{first_point}
 use Rattle.md_content.specs.Paragraph.{text_link}
-use Rattle.md_leaves.specs.HeadingRule.{is_heading}
-use Rattle.md_leaves.specs.HeadingText.{linked_text}
-use Rattle.md_leaves.proofs.GrammarLeaves.{title-word}
-use Rattle.md_seam.specs.declared.inline.Chunk.{Chunk}
-use Rattle.md_seam.specs.Events.Grammar.{Expression, behind, behind_block, blocks, inside, is_whole, keeps_grammar, left_of, may_end, plain_text, unread_text}
-use Rattle.md_seam.specs.Events.Inline.{line_end, pair_unless_empty, plain_chunk}
+use Rattle.md_seam.specs.Events.Grammar.{Expression, behind, behind_block, blocks, is_whole, keeps_grammar, left_of, plain_text, unread_text}
+use Rattle.md_seam.specs.Events.Inline.{pair_unless_empty, plain_chunk}
 use Rattle.md_seam.specs.Events.Nested.{around, enter_link, exit, pair}
 use Rattle.md_seam.specs.Events.Places.{same_place}
 use Rattle.md_seam.specs.Standard.Preamble.{has_mark}
-use Rattle.md_seam.specs.Standard.Rest.{trim_start}
 use Rattle.md_seam.specs.Standard.State.{Container}
 use Rattle.md_seam.proofs.FeedLines.{ending-some}
 use Rattle.md_seam.proofs.GrammarLemmas.{IsWord, Leads, keeps-blocks, keeps-marked, leads-append, leads-around, leads-pair, leads-rest, leads-unless, maybe, word-behind}
 use Rattle.markdown_blocks.specs.Change.{ends_of}
 use Rattle.markdown_blocks.specs.Document.{body_point, mark_end, mark_events}
-use Rattle.markdown_blocks.specs.Rows.{BlankRow, Group, Lines, Row, RowKind, Single, TextRow, behind_row, ending_events, ending_of, group_events, groups, groups_events, last_row, onto_groups, goes_on, read_lines, row_events_by, row_line, single_events_by, tail_events}
-use Rattle.markdown_blocks.specs.Unread.{linked_lines, titled_group, titled_groups, titled_row_by}
-use Rattle.markdown_blocks.proofs.FrontLemmas.{open_names}
+use Rattle.markdown_blocks.specs.Rows.{BlankRow, Group, Lines, Row, RowKind, Single, TextRow, behind_row, ending_events, ending_of, group_events, groups, groups_events, last_row, onto_groups, goes_on, read_lines, tail_events, LeafRow, leaf_done, leaf_unread}
+use Rattle.markdown_blocks.specs.Unread.{linked_lines, titled_group, titled_groups}
+use Rattle.markdown_blocks.proofs.ContainerNames.{open_names}
 use Rattle.markdown_blocks.proofs.GrammarFronts.{behind-ends, behinds, behinds-append, blocks_behind, ending-leads, ends-lead, front-leads, front-stays}
 use Rattle.markdown_blocks.proofs.GroupLemmas.{AreGroups, EndsBeforeGroups, IsParagraph, groups-are, line_end-ended, rows-end}
 use Rattle.markdown_blocks.proofs.JoinedLemmas.{EachEnds, EachNoContent, behind-is, ending-is}
-use Rattle.markdown_blocks.proofs.LineKinds.{heading-kind}
 use Rattle.markdown_blocks.proofs.NestedRows.{ByLines, Ordered, rows-hold}
 use Rattle.markdown_blocks.proofs.RowFacts.{AreRows, IsEnding, IsRow}
-use Rattle.markdown_blocks.proofs.HeadingAtx.Words.{IsHeadingText, linked-text, read-text}
-use Rattle.markdown_blocks.specs.Leaf.HeadingAtx.{read_text}
+use Rattle.markdown_blocks.proofs.ChunkFacts.{chunk-word, text_left}
+use Rattle.markdown_blocks.proofs.RowLeaf.{row-facts, block_of}
 
 -- A line that is no text has an ending if more follows.
 
@@ -44,10 +39,10 @@ AreEnded (Single row ∷ gs) = EndsBeforeGroups row gs × AreEnded gs
 AreEnded (Lines row rows ∷ gs) = AreEnded gs
 
 -- a line in front of groups
-onto-ended : (row : Row) (gs : List Group) → EndsBeforeGroups row gs → AreEnded gs → (kind : RowKind) → AreEnded (onto_groups row kind gs)
+onto-ended : (row : Row) (gs : List Group) → EndsBeforeGroups row gs → AreEnded gs → (kind : RowKind) →
+    AreEnded (onto_groups row kind gs)
 onto-ended row gs ends are BlankRow = (ends, are)
-onto-ended row gs ends are HeadingRow = (ends, are)
-onto-ended row gs ends are BreakRow = (ends, are)
+onto-ended row gs ends are (LeafRow l) = (ends, are)
 onto-ended row [] ends are TextRow = tt
 onto-ended row (Single below ∷ gs) ends are TextRow = are
 onto-ended row (Lines below rows ∷ gs) ends are TextRow = go (goes_on row below)
@@ -82,8 +77,10 @@ all_of each (group ∷ gs) = each group ++ all_of each gs
 
 -- so it is in each group, in these text parts
 record Reads (options : ParseOptions) (bytes : List ℕ) (text : Expression) (each : Group → List Event) : Type 0 where
-  single : (line : List ℕ) (row : Row) → IsRow options bytes line row → row.kind ≢ TextRow → (block : Bool) × Stands text block row row row.kind (each (Single row))
-  lines : (row : Row) (rows : List Row) → IsParagraph options bytes row rows → Stands text true row (last_row row rows) TextRow (each (Lines row rows))
+  single : (line : List ℕ) (row : Row) → IsRow options bytes line row → row.kind ≢ TextRow →
+      (block : Bool) × Stands text block row row row.kind (each (Single row))
+  lines : (row : Row) (rows : List Row) → IsParagraph options bytes row rows →
+      Stands text true row (last_row row rows) TextRow (each (Lines row rows))
 
 -- the text is whole behind events
 abbrev Whole : Expression → List Expression → List Event → Type 0
@@ -104,7 +101,8 @@ leaf-left text bytes block names p row last kind events more o s =
     ∙ ap (λ (l : List Expression). left_of text (blocks_behind block ∷ l) (tail ++ more)) (sym (behinds-append (open_names row.change.opens) names))
 
 -- where nothing follows, nothing is open
-none-whole : (block : Bool) (names : List Name) → is_whole (blocks ∷ behinds names) ≡ true → is_whole (blocks_behind block ∷ behinds names) ≡ true
+none-whole : (block : Bool) (names : List Name) → is_whole (blocks ∷ behinds names) ≡ true →
+    is_whole (blocks_behind block ∷ behinds names) ≡ true
 none-whole block [] h = behind-ends block
 none-whole block (name ∷ names) h = cc
 
@@ -114,13 +112,16 @@ ending-whole : (text : Expression) (each : Group → List Event) (block : Bool) 
     Whole text (blocks_behind block ∷ behinds kept) (ending_events (ending_of kind) row ++ all_of each gs)
 ending-whole text each block kept row kind gs ends h = go row.after refl gs ends h
   where
-    some : (q : Point) (more : List Event) → row.after ≡ Some q → Whole text (blocks ∷ behinds kept) more → Whole text (blocks_behind block ∷ behinds kept) (ending_events (ending_of kind) row ++ more)
+    some : (q : Point) (more : List Event) → row.after ≡ Some q → Whole text (blocks ∷ behinds kept) more →
+        Whole text (blocks_behind block ∷ behinds kept) (ending_events (ending_of kind) row ++ more)
     some q more after k =
         ap (λ (es : List Event). is_whole (left_of text (blocks_behind block ∷ behinds kept) (es ++ more))) (ending-is (ending_of kind) row q after)
         ∙ ap is_whole (leads-rest text (blocks_behind block ∷ []) (blocks ∷ []) (behinds kept) (pair (ending_of kind) row.end q) more (ending-leads text kind row.end q block))
         ∙ k
 
-    go : (after : Option Point) → row.after ≡ after → (gs : List Group) → EndsBeforeGroups row gs → Whole text (blocks ∷ behinds kept) (all_of each gs) → Whole text (blocks_behind block ∷ behinds kept) (ending_events (ending_of kind) row ++ all_of each gs)
+    go : (after : Option Point) → row.after ≡ after → (gs : List Group) → EndsBeforeGroups row gs →
+        Whole text (blocks ∷ behinds kept) (all_of each gs) →
+        Whole text (blocks_behind block ∷ behinds kept) (ending_events (ending_of kind) row ++ all_of each gs)
     go (Some q) after gs ends h = some q (all_of each gs) after h
     go None after [] ends h =
         ap (λ (x : Option Point). is_whole (left_of text (blocks_behind block ∷ behinds kept) (elim x [ None ↦ [] | Some q ↦ pair (ending_of kind) row.end q ] ++ []))) after
@@ -129,7 +130,8 @@ ending-whole text each block kept row kind gs ends h = go row.after refl gs ends
 
 -- what is open behind the leaf ends, or stays open
 tail-whole : (text : Expression) (each : Group → List Event) (block : Bool) (all kept : List Name) (row : Row) (kind : RowKind) (gs : List Group) →
-    all ≡ open_names row.leaves ++ kept → EndsBeforeGroups row gs → Whole text (blocks ∷ behinds kept) (all_of each gs) →
+    all ≡ open_names row.leaves ++ kept → EndsBeforeGroups row gs →
+    Whole text (blocks ∷ behinds kept) (all_of each gs) →
     Whole text (blocks_behind block ∷ behinds all) (tail_events (ending_of kind) row ++ all_of each gs)
 tail-whole text each block all kept row kind gs keeps ends h =
     let ended : (after : Bool) × Leads text (blocks_behind block ∷ behinds (open_names row.leaves)) (blocks_behind after ∷ []) (ends_of row.leaves row.end) = ends-lead text row.leaves row.end block in
@@ -144,7 +146,8 @@ abbrev WholeUnder : ParseOptions → List ℕ → Expression → (Group → List
 WholeUnder options bytes text each names p gs = AreGroups options bytes gs → AreEnded gs → Whole text (blocks ∷ behinds names) (all_of each gs)
 
 -- line by line
-whole-by_lines : (options : ParseOptions) (bytes : List ℕ) (text : Expression) (each : Group → List Event) → Reads options bytes text each →
+whole-by_lines : (options : ParseOptions) (bytes : List ℕ) (text : Expression) (each : Group → List Event) →
+    Reads options bytes text each →
     ByLines bytes (WholeUnder options bytes text each)
 whole-by_lines options bytes text each reads = record {
   none = λ p are ended. refl;
@@ -183,41 +186,10 @@ rows-keep options bytes text each lines rows reads are quiet = go (has_mark byte
         rows-hold bytes (WholeUnder options bytes text each) (whole-by_lines options bytes text each reads) options p lines rows are
         (groups-are options bytes [] false p lines rows are quiet) (groups-ended rows (rows-end options bytes [] false p lines rows are))
 
-    go : (mark : Bool) → keeps_grammar text (cond mark (pair n.ByteOrderMark first_point mark_end) [] ++ all_of each (groups rows)) ≡ true
+    go : (mark : Bool) →
+        keeps_grammar text (cond mark (pair n.ByteOrderMark first_point mark_end) [] ++ all_of each (groups rows)) ≡ true
     go true = keeps-marked text first_point mark_end (all_of each (groups rows)) whole
     go false = keeps-blocks text (all_of each (groups rows)) whole
-
--- Lines that are no text, by what stands in the place of the text of a heading.
-
-abbrev single_by : (Option Chunk → List Event) → List ℕ → RowKind → Row → List Event
-single_by heading bytes HeadingRow row = row.front ++ around n.HeadingAtx row.first row.end ((row_title bytes row).front ++ heading (row_title bytes row).text ++ (row_title bytes row).back) ++ tail_events n.LineEnding row
-single_by heading bytes kind row = row_events_by kind row
-
--- what stands in the place of such a line
-single-stands : (options : ParseOptions) (bytes line : List ℕ) (text : Expression) (heading : Option Chunk → List Event) (row : Row) →
-    ((chunk : Option Chunk) → IsHeadingText text (heading chunk)) → IsRow options bytes line row → row.kind ≢ TextRow →
-    (kind : RowKind) → row.kind ≡ kind → (block : Bool) × Stands text block row row kind (single_by heading bytes kind row)
-single-stands options bytes line text heading row texts is other BlankRow e =
-    let inside : IsInside row = is.inside (λ k. cc) in
-    let blank : Worded BlankRow row.inside = subst (λ (kind : RowKind). Worded kind row.inside) e inside.words in
-    (false, record { leaf = row.inside; leads = blank text; is = refl })
-single-stands options bytes line text heading row texts is other HeadingRow e =
-    let title : Expression = inside text n.HeadingAtx in
-    let words : IsHeadingText text (heading (row_title bytes row).text) = texts (row_title bytes row).text in
-    let begins : is_heading (trim_start (row_line bytes row)) ≡ true = ap (λ (l : List ℕ). is_heading (trim_start l)) is.text ∙ heading-kind options line (sym is.kind ∙ e) in
-    let within : List Event = (row_title bytes row).front ++ heading (row_title bytes row).text ++ (row_title bytes row).back in (
-      true,
-      record {
-        leaf = around n.HeadingAtx row.first row.end within;
-        leads = leads-around text blocks n.HeadingAtx row.first row.end within (title-word text (row_line bytes row) row.first words.0 (heading (row_title bytes row).text) begins words.1);
-        is = refl;
-      },
-    )
-single-stands options bytes line text heading row texts is other BreakRow e =
-    let inside : IsInside row = is.inside (λ k. cc) in
-    let rule : Worded BreakRow row.inside = subst (λ (kind : RowKind). Worded kind row.inside) e inside.words in
-    (true, record { leaf = around n.ThematicBreak row.first row.end row.inside; leads = leads-around text blocks n.ThematicBreak row.first row.end row.inside (rule text); is = refl })
-single-stands options bytes line text heading row texts is other TextRow e = absurd (other e)
 
 -- Before text parts are read.
 
@@ -226,29 +198,24 @@ abbrev unread_rest : Expression
 unread_rest = behind n.Data unread_text
 
 -- and that of a paragraph is one a line
-linked-word : (options : ParseOptions) (bytes : List ℕ) (x : Expression) (row : Row) (rows : List Row) → behind n.Data x ≡ unread_rest →
+linked-word : (options : ParseOptions) (bytes : List ℕ) (x : Expression) (row : Row) (rows : List Row) →
+    behind n.Data x ≡ unread_rest →
     IsParagraph options bytes row rows → IsWord unread_text (x ∷ []) (linked_lines n.Data text_link row rows)
 linked-word options bytes x row [] e is = record { left = unread_rest; leads = λ outer. ap (λ (y : Expression). y ∷ outer) e; ends = refl }
 linked-word options bytes x row (next ∷ rows) e is =
     let chunk : List Event = enter_link n.Data row.first text_link ∷ exit n.Data (behind_row row) ∷ [] in
-    let front : Leads unread_text (unread_rest ∷ []) (unread_rest ∷ []) next.front = front-stays unread_text unread_rest bytes [] is.3 next.first next.front refl refl is.6 refl in
+    let front : Leads unread_text (unread_rest ∷ []) (unread_rest ∷ []) next.front = front-stays unread_text unread_rest bytes [] is.3 next.first next.front (refl, refl) is.6 refl in
     word-behind unread_text (x ∷ []) (unread_rest ∷ []) (chunk ++ next.front) (linked_lines n.Data text_link next rows)
     (leads-append unread_text (x ∷ []) (unread_rest ∷ []) (unread_rest ∷ []) chunk next.front (λ outer. ap (λ (y : Expression). y ∷ outer) e) front)
     (linked-word options bytes unread_rest next rows refl is.7)
 
--- the lines that are no text
-titled-single : (bytes : List ℕ) (row : Row) (kind : RowKind) → titled_row_by bytes kind row ≡ single_by linked_text bytes kind row
-titled-single bytes row BlankRow = refl
-titled-single bytes row HeadingRow = refl
-titled-single bytes row BreakRow = refl
-titled-single bytes row TextRow = refl
-
 -- each group
-titled-reads : (options : ParseOptions) (bytes : List ℕ) → Reads options bytes unread_text (titled_group bytes)
-titled-reads options bytes = record {
-  single = λ line row is other.
-      let s : (block : Bool) × Stands unread_text block row row row.kind (single_by linked_text bytes row.kind row) = single-stands options bytes line unread_text linked_text row linked-text is other row.kind refl in
-      (s.0, subst (Stands unread_text s.0 row row row.kind) (sym (titled-single bytes row row.kind)) s.1);
+unread-reads : (options : ParseOptions) (bytes : List ℕ) → Reads options bytes unread_text (titled_group bytes)
+unread-reads options bytes = record {
+  single = λ line row is other. (
+    is_some (block_of row.kind is.rest),
+    record { leaf = leaf_unread bytes row.kind row; leads = (row-facts options bytes line row is other).unread_word; is = refl },
+  );
   lines = λ row rows is.
       let inner : List Event = linked_lines n.Data text_link row rows in
       let end : Point = (last_row row rows).end in
@@ -256,54 +223,27 @@ titled-reads options bytes = record {
 }
 
 -- all of them
-titled-all : (bytes : List ℕ) (gs : List Group) → titled_groups bytes gs ≡ all_of (titled_group bytes) gs
-titled-all bytes [] = refl
-titled-all bytes (g ∷ gs) = ap (λ (es : List Event). titled_group bytes g ++ es) (titled-all bytes gs)
+unread-all : (bytes : List ℕ) (gs : List Group) → titled_groups bytes gs ≡ all_of (titled_group bytes) gs
+unread-all bytes [] = refl
+unread-all bytes (g ∷ gs) = ap (λ (es : List Event). titled_group bytes g ++ es) (unread-all bytes gs)
 
 -- The events of a text keep the grammar before its text parts are read.
 pub blocks-grammar : (options : ParseOptions) (bytes : List ℕ) (lines : List (List ℕ)) (rows : List Row) →
     AreRows options bytes [] false (body_point bytes) lines rows → EachNoContent rows →
     keeps_grammar unread_text (mark_events bytes ++ titled_groups bytes (groups rows)) ≡ true
 blocks-grammar options bytes lines rows are quiet =
-    ap (λ (es : List Event). keeps_grammar unread_text (mark_events bytes ++ es)) (titled-all bytes (groups rows))
-    ∙ rows-keep options bytes unread_text (titled_group bytes) lines rows (titled-reads options bytes) are quiet
+    ap (λ (es : List Event). keeps_grammar unread_text (mark_events bytes ++ es)) (unread-all bytes (groups rows))
+    ∙ rows-keep options bytes unread_text (titled_group bytes) lines rows (unread-reads options bytes) are quiet
 
 -- Once they are read.
-
--- what is left of a text at the begin of a line: of the first one, and behind an ending
-abbrev text_left : Bool → Expression
-text_left true = plain_text
-text_left false = behind n.LineEnding plain_text
-
--- a chunk: its line and its ending, either of which may be empty
-pub chunk-word : (bytes : List ℕ) (first : Bool) (chunk : Chunk) → IsWord plain_text (text_left first ∷ []) (plain_chunk bytes chunk)
-chunk-word bytes first chunk =
-    let end : Point = line_end bytes chunk in
-    let line = leads-unless plain_text (text_left first) n.Data chunk.first end refl in
-    let mid : Expression = maybe line.0 n.Data (text_left first) in
-    let ending = leads-unless plain_text mid n.LineEnding end chunk.after refl in
-    record {
-      left = maybe ending.0 n.LineEnding mid;
-      leads = leads-append plain_text (text_left first ∷ []) (mid ∷ []) (maybe ending.0 n.LineEnding mid ∷ []) (pair_unless_empty n.Data chunk.first end) (pair_unless_empty n.LineEnding end chunk.after) line.1 ending.1;
-      ends = ends first line.0 ending.0;
-    }
-  where
-    ends : (first line ending : Bool) → may_end (maybe ending n.LineEnding (maybe line n.Data (text_left first))) ≡ true
-    ends true true true = refl
-    ends true true false = refl
-    ends true false true = refl
-    ends true false false = refl
-    ends false true true = refl
-    ends false true false = refl
-    ends false false true = refl
-    ends false false false = refl
 
 -- an ending has a byte at least
 ending-grows : (bytes : List ℕ) (p q : Point) → IsEnding bytes p q → p.index < q.index
 ending-grows bytes p q is = let some = ending-some is.ending in omega (arith, some, is.size)
 
 -- a line in front of another one has an ending
-ended-leads : (options : ParseOptions) (bytes line : List ℕ) (first : Bool) (row : Row) (q : Point) → IsRow options bytes line row →
+ended-leads : (options : ParseOptions) (bytes line : List ℕ) (first : Bool) (row : Row) (q : Point) →
+    IsRow options bytes line row →
     row.after ≡ Some q → IsEnding bytes row.end q →
     Leads plain_text (text_left first ∷ []) (text_left false ∷ []) (plain_chunk bytes (record { first = row.first; after = behind_row row }))
 ended-leads options bytes line first row q is after ending =
@@ -333,29 +273,24 @@ ended-leads options bytes line first row q is after ending =
         (leads-append plain_text (text_left first ∷ []) (mid text.0 ∷ []) (behind n.LineEnding (mid text.0) ∷ []) (pair_unless_empty n.Data row.first row.end) (pair n.LineEnding row.end q) text.1 (leads-pair plain_text (mid text.0) n.LineEnding row.end q refl))
 
 -- the text of a paragraph
-read-word : (options : ParseOptions) (bytes : List ℕ) (first : Bool) (row : Row) (rows : List Row) → IsParagraph options bytes row rows →
+read-word : (options : ParseOptions) (bytes : List ℕ) (first : Bool) (row : Row) (rows : List Row) →
+    IsParagraph options bytes row rows →
     IsWord plain_text (text_left first ∷ []) (read_lines bytes row rows)
 read-word options bytes first row [] is = chunk-word bytes first (record { first = row.first; after = row.end })
 read-word options bytes first row (next ∷ rows) is =
     let chunk : List Event = plain_chunk bytes (record { first = row.first; after = behind_row row }) in
-    let front : Leads plain_text (text_left false ∷ []) (text_left false ∷ []) next.front = front-stays plain_text (text_left false) bytes [] is.3 next.first next.front refl refl is.6 refl in
+    let front : Leads plain_text (text_left false ∷ []) (text_left false ∷ []) next.front = front-stays plain_text (text_left false) bytes [] is.3 next.first next.front (refl, refl) is.6 refl in
     word-behind plain_text (text_left first ∷ []) (text_left false ∷ []) (chunk ++ next.front) (read_lines bytes next rows)
     (leads-append plain_text (text_left first ∷ []) (text_left false ∷ []) (text_left false ∷ []) chunk next.front (ended-leads options bytes is.0 first row is.3 is.1 is.4 is.5) front)
     (read-word options bytes false next rows is.7)
 
--- the lines that are no text
-read-single : (bytes : List ℕ) (row : Row) (kind : RowKind) → single_events_by bytes kind row ≡ single_by (read_text bytes) bytes kind row
-read-single bytes row BlankRow = refl
-read-single bytes row HeadingRow = refl
-read-single bytes row BreakRow = refl
-read-single bytes row TextRow = refl
-
 -- each group
 group-reads : (options : ParseOptions) (bytes : List ℕ) → Reads options bytes plain_text (group_events bytes)
 group-reads options bytes = record {
-  single = λ line row is other.
-      let s : (block : Bool) × Stands plain_text block row row row.kind (single_by (read_text bytes) bytes row.kind row) = single-stands options bytes line plain_text (read_text bytes) row (read-text bytes) is other row.kind refl in
-      (s.0, subst (Stands plain_text s.0 row row row.kind) (sym (read-single bytes row row.kind)) s.1);
+  single = λ line row is other. (
+    is_some (block_of row.kind is.rest),
+    record { leaf = leaf_done bytes row.kind row; leads = (row-facts options bytes line row is other).word; is = refl },
+  );
   lines = λ row rows is.
       let inner : List Event = read_lines bytes row rows in
       let end : Point = (last_row row rows).end in

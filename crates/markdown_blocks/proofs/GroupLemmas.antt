@@ -1,11 +1,9 @@
 -- The events of the lines of a text, joined and read, are those of its blocks.
-use Rattle.std.proofs.Common.{◌≡◌, ◌≢◌, ℕ, ◌+◌, ◌-◌, ◌<◌, ◌≤◌, Bool, true, false, cond, ◌&&◌, List, [], ◌∷◌, ◌++◌, length, drop, slice_range, refl, ap, sym, ◌∙◌, subst, append_assoc, append-nil, drop-drop, arith}
-use Rattle.std.specs.Prelude.{◌==◌, not, Option, Some, None}
+use Rattle.std.proofs.Common.{◌≡◌, ◌≢◌, ℕ, ◌+◌, ◌-◌, ◌<◌, ◌≤◌, Bool, true, false, cond, ◌&&◌, List, [], ◌∷◌, ◌++◌, length, drop, slice_range, refl, ap, sym, ◌∙◌, subst, append_assoc, append-nil, arith, length-append}
+use Rattle.std.specs.Prelude.{◌==◌, Option, Some, None}
 use Rattle.std.specs.List.{list_all}
-use Rattle.std.proofs.lemmas.Bool.{and_from, eq-eqb, and_right}
+use Rattle.std.proofs.lemmas.Bool.{and_from, eq-eqb}
 use Rattle.std.proofs.lemmas.Bool.Decides.{nat_tests}
-use Rattle.std.proofs.lemmas.List.{take-append-drop}
-use Rattle.std.proofs.lemmas.List.Sums.{take_while-cons}
 use Rattle.md_engine.specs.declared.configuration.ParseOptions.{ParseOptions}
 use Rattle.md_engine.specs.declared.event.Content.{Content}
 use Rattle.md_engine.specs.declared.event.Content.TheVariants as content
@@ -17,40 +15,40 @@ use Rattle.md_engine.specs.declared.event.Point.{Point}
 use Rattle.md_content.specs.Chunks.{content_link}
 use Rattle.md_content.specs.Joined.{joined}
 use Rattle.md_content.specs.Paragraph.{text_link}
-use Rattle.md_leaves.specs.HeadingText.{Before, Outside, begins, headings_resolved, is_heading, resolved}
-use Rattle.md_leaves.specs.HeadingTitle.{Title, title_of, unread_title}
 use Rattle.md_seam.specs.declared.inline.Chunk.{Chunk}
 use Rattle.md_seam.specs.declared.inline.PartKind.TheVariants.{Text}
 use Rattle.md_seam.specs.Events.Inline.{are_lines, is_none, is_one_line, line_end, pair_unless_empty, plain_chunk, plain_events}
-use Rattle.md_seam.specs.Standard.Lines.{is_ending, without_ending}
-use Rattle.md_seam.specs.Events.Nested.{around, enter, enter_link, exit, pair, is_enter}
-use Rattle.md_seam.specs.Events.Places.{past_byte, past_text, same_place}
-use Rattle.md_seam.specs.Events.Spelled.{role}
+use Rattle.md_seam.specs.Standard.Lines.{without_ending}
+use Rattle.md_seam.specs.Events.Nested.{around, enter, enter_link, exit, pair}
+use Rattle.md_seam.specs.Events.Places.{past_text, same_place}
 use Rattle.md_seam.specs.Standard.State.{Container}
 use Rattle.md_seam.specs.Substituted.{Readings, Substituted, belongs, chunks_behind}
 use Rattle.md_seam.specs.Standard.Texts.{split_lines}
-use Rattle.md_seam.proofs.SpelledLemmas.{Quiet, Roles}
-use Rattle.md_seam.proofs.TextsLemmas.{Ending, EndsBefore, LineFeed, NoEnding, Return, Both, ending_bytes, split-line, split-next}
-use Rattle.markdown_blocks.specs.Change.{container_name, ends_of}
+use Rattle.markdown_blocks.specs.Change.{ends_of}
 use Rattle.markdown_blocks.specs.Change as change
-use Rattle.markdown_blocks.specs.Rows.{BlankRow, Group, Lines, Row, RowKind, Single, TextRow, behind_row, chunks_of, ending_events, goes_on, group_events, groups, groups_events, is_text, last_row, line_kind, onto_groups, paragraph_events, read_lines, row_events, row_events_by, rows_events, single_events_by, tail_events}
-use Rattle.markdown_blocks.specs.Fronted.{contained, rest_from, rest_line}
+use Rattle.markdown_blocks.specs.Registry.{LeafName, first_of, leaf as line_leaf, resolved, trials}
+use Rattle.markdown_blocks.specs.Rows.{BlankRow, Group, LeafRow, Lines, Row, RowKind, Single, TextRow, behind_row, blank_line, chunks_of, ending_events, ending_of, goes_on, group_events, groups, groups_events, is_text, kind_of, last_row, leaf_done, leaf_events, leaf_unread, line_kind, onto_groups, paragraph_events, read_lines, row_events, row_events_by, rows_events, single_events_by, tail_events}
+use Rattle.markdown_blocks.specs.Fronted.{contained, cut_tab, rest_from, rest_line}
 use Rattle.markdown_blocks.specs.Unread.{joined_groups, linked, linked_lines, titled_group, titled_groups, titled_row_by, unread_group, unread_groups, unread_paragraph}
-use Rattle.md_seam.proofs.FeedLines.{ending-some, past_text-whole}
+use Rattle.md_seam.proofs.FeedLines.{ending-some}
 pub use Rattle.markdown_blocks.proofs.FrontNames.{HasFront}
-use Rattle.markdown_blocks.proofs.EachEvent.{Each, each-append}
-use Rattle.markdown_blocks.proofs.FrontNames.{AreFront, ArePrefixes, container-prefix, ends-are, ends-first, front-heading, fronts-are, fronts-prefixes, prefixes-front}
+use Rattle.markdown_blocks.proofs.FrontNames.{ends-first, fronts-prefixes}
 use Rattle.markdown_blocks.proofs.FrontPlaces.{fronts-grow}
-use Rattle.markdown_blocks.proofs.JoinedLemmas.{EachEnds, EachFront, EachNoContent, HasNoContent, behind-is, ending-is, events-no_content, has_front-no_content, joined-rows, tail-no_content}
-use Rattle.markdown_blocks.proofs.LineKinds.{heading-kind}
+use Rattle.markdown_blocks.proofs.JoinedLemmas.{EachEnds, EachFront, EachNoContent, HasNoContent, behind-is, ending-is, ending-other, events-no_content, has_front-no_content, joined-rows, tail-no_content}
 use Rattle.markdown_blocks.proofs.FrontFacts.{LinePrefix}
 use Rattle.markdown_blocks.proofs.RowFacts.{AreRows, IsEnding, IsLine, IsRow, behind_line, line-text}
-use Rattle.markdown_blocks.proofs.SubstitutedLemmas.{AllBelong, Becomes, CutAt, EachPrefixed, NextBelongs, Rest, Unwanted, becomes-append, becomes-around, becomes-same, behind-exit, line_after, lines-becomes, passes, places}
-use Rattle.markdown_blocks.proofs.HeadingAtx.Facts.{heading-resolved}
+use Rattle.markdown_blocks.proofs.SubstitutedLemmas.{AllBelong, Becomes, CutAt, EachPrefixed, NextBelongs, Rest, Unwanted, becomes-append, becomes-same, behind-exit, line_after, lines-becomes, passes, places}
 use Rattle.markdown_blocks.proofs.LeafFacts.{ReadsText}
-use Rattle.markdown_blocks.proofs.HeadingAtx.Texts.{title-becomes}
-use Rattle.markdown_blocks.specs.Leaf.HeadingAtx.{read_title}
 use Rattle.markdown_blocks.proofs.ContentFacts.{no_content-unwanted}
+use Rattle.markdown_blocks.proofs.ContainerNames.{container-prefix}
+use Rattle.markdown_blocks.specs.ContainerKinds.{container_name}
+use Rattle.md_seam.specs.Standard.Rest.{Rest as LineRest, is_blank}
+use Rattle.markdown_blocks.proofs.LineTexts.{one-last, one-next, piece, without-none, without-one}
+use Rattle.markdown_blocks.proofs.OutsideFacts.{AreOutside}
+use Rattle.markdown_blocks.proofs.OutsideLemmas.{around-outside, ending-own, has_front-outside, leaf-set, linked-outside, tail-outside}
+use Rattle.markdown_blocks.proofs.Registry.{laws, outside-passes}
+use Rattle.markdown_blocks.proofs.RowLeaf.{row-becomes}
+use Rattle.markdown_blocks.proofs.KindLemmas.{kind-starts}
 
 -- The groups of a text.
 
@@ -88,8 +86,7 @@ FrontAt bytes p (Lines row rows ∷ gs) = LinePrefix bytes row.change.opens p ro
 
 onto-front : (bytes : List ℕ) (p : Point) (row : Row) (kind : RowKind) (gs : List Group) → LinePrefix bytes row.change.opens p row.first row.front → FrontAt bytes p (onto_groups row kind gs)
 onto-front bytes p row BlankRow gs h = h
-onto-front bytes p row HeadingRow gs h = h
-onto-front bytes p row BreakRow gs h = h
+onto-front bytes p row (LeafRow l) gs h = h
 onto-front bytes p row TextRow [] h = h
 onto-front bytes p row TextRow (Single first ∷ gs) h = h
 onto-front bytes p row TextRow (Lines first rows ∷ gs) h = go (goes_on row first)
@@ -111,8 +108,7 @@ alone-is options bytes line p row is other = record { line = line; is = is.is; o
 onto-are : (options : ParseOptions) (bytes line : List ℕ) (p : Point) (row : Row) (q : Point) (gs : List Group) → IsBegun options bytes line p row → row.after ≡ Some q → IsEnding bytes row.end q →
     FrontAt bytes q gs → AreGroups options bytes gs → (kind : RowKind) → row.kind ≡ kind → AreGroups options bytes (onto_groups row kind gs)
 onto-are options bytes line p row q gs is after ending first are BlankRow e = (alone-is options bytes line p row is (λ k. cc), are)
-onto-are options bytes line p row q gs is after ending first are HeadingRow e = (alone-is options bytes line p row is (λ k. cc), are)
-onto-are options bytes line p row q gs is after ending first are BreakRow e = (alone-is options bytes line p row is (λ k. cc), are)
+onto-are options bytes line p row q gs is after ending first are (LeafRow l) e = (alone-is options bytes line p row is (λ k. cc), are)
 onto-are options bytes line p row q [] is after ending first are TextRow e = ((line, is.is, e), tt, (p, is.front), tt)
 onto-are options bytes line p row q (Single below ∷ gs) is after ending first are TextRow e = ((line, is.is, e), (q, after), (p, is.front), are)
 onto-are options bytes line p row q (Lines below rows ∷ gs) is after ending first are TextRow e = go (change.is_none row.leaves) below.change.opens refl
@@ -124,8 +120,7 @@ onto-are options bytes line p row q (Lines below rows ∷ gs) is after ending fi
 
 last-are : (options : ParseOptions) (bytes line : List ℕ) (p : Point) (row : Row) → IsBegun options bytes line p row → (kind : RowKind) → row.kind ≡ kind → AreGroups options bytes (onto_groups row kind [])
 last-are options bytes line p row is BlankRow e = (alone-is options bytes line p row is (λ k. cc), tt)
-last-are options bytes line p row is HeadingRow e = (alone-is options bytes line p row is (λ k. cc), tt)
-last-are options bytes line p row is BreakRow e = (alone-is options bytes line p row is (λ k. cc), tt)
+last-are options bytes line p row is (LeafRow l) e = (alone-is options bytes line p row is (λ k. cc), tt)
 last-are options bytes line p row is TextRow e = ((line, is.is, e), tt, (p, is.front), tt)
 
 line-begun : (options : ParseOptions) (bytes : List ℕ) (open_before : List Container) (going : Bool) (p : Point) (line : List ℕ) (row : Row) → IsLine options bytes open_before going p line row → HasNoContent row → IsBegun options bytes (rest_line (contained options open_before going (rest_from p line)).rest) p row
@@ -175,46 +170,28 @@ rows-front options bytes open_before going p (line ∷ next ∷ lines) (row ∷ 
 
 -- Where the lines stand.
 
--- a piece of a text, and what stands behind it
-pub piece : (bytes : List ℕ) (i j : ℕ) → i ≤ j → drop i bytes ≡ slice_range bytes i j ++ drop j bytes
-piece bytes i j le =
-    sym (take-append-drop (j - i) (drop i bytes))
-    ∙ ap (λ (l : List ℕ). slice_range bytes i j ++ l) (drop-drop (j - i) i bytes ∙ ap (λ (k : ℕ). drop k bytes) (omega arith))
-
 pub row-line : (options : ParseOptions) (bytes line : List ℕ) (row : Row) → IsRow options bytes line row → drop row.first.index bytes ≡ line ++ drop row.end.index bytes
 row-line options bytes line row is = piece bytes row.first.index row.end.index (omega (arith, is.size)) ∙ ap (λ (l : List ℕ). l ++ drop row.end.index bytes) is.text
 
 -- The chunks of a paragraph are lines.
 
 -- a line of text is not empty
-pub text-some : (options : ParseOptions) (line : List ℕ) → line_kind options line ≡ TextRow → 0 < length line
-text-some options [] h = cc
-text-some options (b ∷ bs) h = omega arith
+rest-some : (options : ParseOptions) (r : LineRest) (bytes : List ℕ) → r.bytes ≡ bytes → line_kind options r ≡ TextRow → 0 < length bytes
+rest-some options r [] e h = let blank : BlankRow ≡ TextRow = sym (ap (λ (l : List ℕ). cond (is_blank l) BlankRow (kind_of (first_of (λ (l : LeafName). (line_leaf l).starts options r) trials))) e) ∙ h in cc
+rest-some options r (b ∷ bs) e h = omega arith
 
-pub one-last : (line : List ℕ) → 0 < length line → NoEnding line → (ends : Bool) → ends ≡ true → is_one_line (split_lines line) ends ≡ true
-one-last [] some h ends e = absurd (omega arith)
-one-last (b ∷ bs) some h ends e = ap (λ (lines : List (List ℕ)). is_one_line lines ends) (split-line (b ∷ bs) h) ∙ e
-
-pub one-next : (line : List ℕ) (ending : Ending) → NoEnding line → (ends : Bool) → is_one_line (split_lines (line ++ ending_bytes ending)) ends ≡ true
-one-next line ending h ends =
-    ap (λ (l : List ℕ). is_one_line (split_lines l) ends) (sym (append-nil (line ++ ending_bytes ending)))
-    ∙ ap (λ (lines : List (List ℕ)). is_one_line lines ends) (split-next line ending [] h (before ending))
-    ∙ go line
-  where
-    before : (ending : Ending) → EndsBefore ending []
-    before LineFeed = tt
-    before Return = refl
-    before Both = tt
-
-    go : (line : List ℕ) → is_one_line (line ∷ [] ∷ []) ends ≡ true
-    go [] = refl
-    go (b ∷ line) = refl
+pub text-some : (options : ParseOptions) (bytes line : List ℕ) (row : Row) → IsRow options bytes line row → row.kind ≡ TextRow → 0 < length line
+text-some options bytes line row is text =
+    let r : LineRest = is.rest in
+    let some = rest-some options r r.bytes refl (sym is.kind ∙ text) in
+    let size = ap length is.line_is ∙ length-append (cut_tab r.spaces) r.bytes in
+    omega arith
 
 pub paragraph-lines : (options : ParseOptions) (bytes : List ℕ) (row : Row) (rows : List Row) → IsParagraph options bytes row rows → are_lines bytes (last_row row rows).end (chunks_of row rows) ≡ true
 paragraph-lines options bytes row [] h =
     and_from _ _
     (ap (λ (l : List ℕ). is_one_line (split_lines l) (same_place row.end row.end)) h.1.text
-    ∙ one-last h.0 (text-some options h.0 (sym h.1.kind ∙ h.2)) h.1.no_ending (same_place row.end row.end) (and_from _ _ (eq-eqb row.end.index row.end.index refl) (eq-eqb row.end.vs row.end.vs refl)))
+    ∙ one-last h.0 (text-some options bytes h.0 row h.1 h.2) h.1.no_ending (same_place row.end row.end) (and_from _ _ (eq-eqb row.end.index row.end.index refl) (eq-eqb row.end.vs row.end.vs refl)))
     refl
 paragraph-lines options bytes row (next ∷ rows) h =
     let ends : Bool = is_none (chunks_of next rows) && same_place (behind_row row) (last_row next rows).end in
@@ -250,14 +227,14 @@ behind-lines wants row gs h = tail row.leaves
         ∙ ends-first (λ (l : List Event). chunks_behind wants l ≡ []) c leaves row.end (ending_events n.LineEnding row ++ joined_groups gs) (λ d es. behind-exit wants (container_name d) row.end es (container-prefix d))
 
 -- what stands around the parts of a line is not read later
-tail-unwanted : (wants : Content → Bool) (row : Row) → Unwanted wants (tail_events n.LineEnding row)
-tail-unwanted wants row = no_content-unwanted wants (tail_events n.LineEnding row) (tail-no_content wants n.LineEnding row refl)
+tail-unwanted : (wants : Content → Bool) (kind : RowKind) (row : Row) → Unwanted wants (tail_events (ending_of kind) row)
+tail-unwanted wants kind row = no_content-unwanted wants (tail_events (ending_of kind) row) (tail-no_content wants (ending_of kind) row (ending-other kind))
 
 front-unwanted : (wants : Content → Bool) (bytes : List ℕ) (row : Row) → HasFront bytes row → Unwanted wants row.front
 front-unwanted wants bytes row h = no_content-unwanted wants row.front (has_front-no_content wants bytes row h)
 
 -- a line that is no text, of which a reader reads no text
-single-unwanted : (options : ParseOptions) (bytes : List ℕ) (wants : Content → Bool) (row : Row) → IsSingle options bytes row → (row.kind ≡ HeadingRow → wants content.Text ≡ false) → Unwanted wants (row_events row)
+single-unwanted : (options : ParseOptions) (bytes : List ℕ) (wants : Content → Bool) (row : Row) → IsSingle options bytes row → wants content.Text ≡ false → Unwanted wants (row_events row)
 single-unwanted options bytes wants row is w = no_content-unwanted wants (row_events row) (events-no_content wants row row.kind refl is.other (has_front-no_content wants bytes row is.front) (is.quiet wants w))
 
 -- in front of the further lines of a paragraph stand prefixes alone
@@ -269,7 +246,7 @@ paragraph-fronts options bytes row (next ∷ rows) h = (fronts-prefixes bytes []
 
 -- a line of text is not empty
 pub line-grows : (options : ParseOptions) (bytes line : List ℕ) (row : Row) → IsRow options bytes line row → row.kind ≡ TextRow → row.first.index < row.end.index
-line-grows options bytes line row is text = let some = text-some options line (sym is.kind ∙ text) in omega (arith, is.size)
+line-grows options bytes line row is text = let some = text-some options bytes line row is text in omega (arith, is.size)
 
 -- a line, its ending, and the next line
 pub record AreApart (row next : Row) : Type 0 where
@@ -368,7 +345,7 @@ groups-content : (options : ParseOptions) (bytes : List ℕ) (wants : Content �
 groups-content options bytes wants reads w other unique [] are left out s = s
 groups-content options bytes wants reads w other unique (Single row ∷ gs) are left out s =
     let one : (rest : List Event) × (is : out ≡ row_events row ++ rest) × Substituted wants reads left 0 (joined_groups gs) rest =
-    passes wants reads left 0 (row_events row) (joined_groups gs) out (single-unwanted options bytes wants row are.0 (λ k. other)) s in
+    passes wants reads left 0 (row_events row) (joined_groups gs) out (single-unwanted options bytes wants row are.0 other) s in
     one.1 ∙ ap (λ (l : List Event). row_events row ++ l) (groups-content options bytes wants reads w other unique gs are.1 left one.0 one.2)
 groups-content options bytes wants reads w other unique (Lines row rows ∷ gs) are left out s =
     let tail : List Event = tail_events n.LineEnding (last_row row rows) in
@@ -381,7 +358,7 @@ groups-content options bytes wants reads w other unique (Lines row rows ∷ gs) 
     let rest : Rest wants reads given ys begun.0 =
     places wants reads left n.Content content_link row rows ys given begun.0 w (behind-lines wants (last_row row rows) gs are.1) (paragraph-fronts options bytes row rows are.0)
     (λ answer read. subst (λ (l : List Event). CutAt row rows l given) (sym (unique row rows are.0 answer read)) (paragraph-cut options bytes row rows are.0)) begun.2 in
-    let two : (more : List Event) × (is : rest.0 ≡ tail ++ more) × Substituted wants reads rest.1 0 (joined_groups gs) more = passes wants reads rest.1 0 tail (joined_groups gs) rest.0 (tail-unwanted wants (last_row row rows)) rest.3 in
+    let two : (more : List Event) × (is : rest.0 ≡ tail ++ more) × Substituted wants reads rest.1 0 (joined_groups gs) more = passes wants reads rest.1 0 tail (joined_groups gs) rest.0 (tail-unwanted wants TextRow (last_row row rows)) rest.3 in
     group-joins row.front given tail (unread_groups gs) out begun.0 rest.0 two.0 begun.1 rest.2 two.1 (groups-content options bytes wants reads w other unique gs are.3 rest.1 two.0 two.2)
 
 -- The events of the lines of a text, joined, and their content read: paragraphs whose text is not read yet.
@@ -392,85 +369,28 @@ content-read options bytes open_before going p lines rows are quiet wants reads 
     groups-content options bytes wants reads w other unique (groups rows) (groups-are options bytes open_before going p lines rows are quiet) [] unread
     (subst (λ (l : List Event). Substituted wants reads [] 0 l unread) (joined-rows bytes rows (rows-front options bytes open_before going p lines rows are) (rows-end options bytes open_before going p lines rows are) quiet) s)
 
--- The text of headings.
+-- Resolvers.
 
--- no heading begins among some events
-abbrev pub AreOutside : List Event → Type 0
-AreOutside es = Each (λ (e : Event). begins is_heading e ≡ false) es
+-- the whitespace of a blank line stays
+blank-outside : (line : List ℕ) (p : Point) → AreOutside (blank_line line p)
+blank-outside [] p = tt
+blank-outside (b ∷ line) p = (refl, (refl, tt))
 
-pub outside-append : (xs ys : List Event) → AreOutside xs → AreOutside ys → AreOutside (xs ++ ys)
-outside-append xs ys h k = each-append (λ (e : Event). begins is_heading e ≡ false) xs ys h k
-
--- they stay as they are
-pub outside-passes : (xs ys : List Event) → AreOutside xs → headings_resolved (xs ++ ys) ≡ xs ++ headings_resolved ys
-outside-passes [] ys h = refl
-outside-passes (e ∷ xs) ys h = ap (λ (x : Bool). e ∷ resolved (cond x Before Outside) (xs ++ ys)) h.0 ∙ ap (λ (l : List Event). e ∷ l) (outside-passes xs ys h.1)
-
-pub front-outside : (es : List Event) → AreFront es → AreOutside es
-front-outside [] h = tt
-front-outside (e ∷ es) h = (and_right (is_enter e.kind) (is_heading e.name) (front-heading e.name h.0), front-outside es h.2)
-
-quiet-name : (name : Name) → Quiet (role name) → is_heading name ≡ false
-quiet-name n.HeadingAtx h = absurd h
-quiet-name _ h = refl
-
-pub quiet-outside : (es : List Event) → Roles Quiet es → AreOutside es
-quiet-outside [] h = tt
-quiet-outside (e ∷ es) h = (and_right (is_enter e.kind) (is_heading e.name) (quiet-name e.name h.0), quiet-outside es h.1)
-
-prefixes-outside : (es : List Event) → ArePrefixes es → AreOutside es
-prefixes-outside es h = front-outside es (prefixes-front es h)
-
-linked-outside : (link : Link) (row : Row) (rows : List Row) → EachPrefixed rows → AreOutside (linked_lines n.Data link row rows)
-linked-outside link row [] h = (refl, (refl, tt))
-linked-outside link row (next ∷ rows) h = (refl, (refl, outside-append next.front (linked_lines n.Data link next rows) (prefixes-outside next.front h.0) (linked-outside link next rows h.1)))
-
-ending-outside : (name : Name) (row : Row) → is_heading name ≡ false → AreOutside (ending_events name row)
-ending-outside name row h = go row.after
-  where
-    go : (after : Option Point) → AreOutside (elim after [ None ↦ [] | Some q ↦ pair name row.end q ])
-    go None = tt
-    go (Some q) = (h, (refl, tt))
-
-pub tail-outside : (name : Name) (row : Row) → is_heading name ≡ false → AreOutside (tail_events name row)
-tail-outside name row h = outside-append (ends_of row.leaves row.end) (ending_events name row) (front-outside (ends_of row.leaves row.end) (ends-are row.leaves row.end)) (ending-outside name row h)
-
-has_front-outside : (bytes : List ℕ) (row : Row) → HasFront bytes row → AreOutside row.front
-has_front-outside bytes row h = front-outside row.front (fronts-are bytes row.change.opens h.0 row.first row.front h.1)
-
-pub around-outside : (name : Name) (p q : Point) (inside : List Event) → is_heading name ≡ false → AreOutside inside → AreOutside (around name p q inside)
-around-outside name p q inside other h = (other, outside-append inside (exit name q ∷ []) h (refl, tt))
-
--- what stands between the front of a line and its tail
-leaf-set : (front leaf titled tail es : List Event) → AreOutside front → AreOutside tail → ((es : List Event) → headings_resolved (leaf ++ es) ≡ titled ++ headings_resolved es) →
-    headings_resolved (((front ++ leaf) ++ tail) ++ es) ≡ ((front ++ titled) ++ tail) ++ headings_resolved es
-leaf-set front leaf titled tail es h k set =
-    ap headings_resolved (append_assoc (front ++ leaf) tail es ∙ append_assoc front leaf (tail ++ es))
-    ∙ outside-passes front (leaf ++ (tail ++ es)) h
-    ∙ ap (λ (l : List Event). front ++ l) (set (tail ++ es) ∙ ap (λ (l : List Event). titled ++ l) (outside-passes tail es k))
-    ∙ sym (append_assoc front titled (tail ++ headings_resolved es))
-    ∙ sym (append_assoc (front ++ titled) tail (headings_resolved es))
-
--- the text of a line is set if it is a heading
+-- a line that is no text is set
 single-set : (options : ParseOptions) (bytes : List ℕ) (row : Row) (es : List Event) → IsSingle options bytes row → (kind : RowKind) → row.kind ≡ kind →
-    headings_resolved (row_events_by kind row ++ es) ≡ titled_row_by bytes kind row ++ headings_resolved es
-single-set options bytes row es is BlankRow e =
-    leaf-set row.front row.inside row.inside (tail_events n.BlankLineEnding row) es (has_front-outside bytes row is.front) (tail-outside n.BlankLineEnding row refl)
-    (λ es. outside-passes row.inside es (quiet-outside row.inside (is.is.inside (λ k. cc)).quiet))
-single-set options bytes row es is HeadingRow e =
-    let titled : Title → List Event = λ title. around n.HeadingAtx row.first row.end (unread_title title) in
-    leaf-set row.front (around n.HeadingAtx row.first row.end row.inside) (titled (row_title bytes row)) (tail_events n.LineEnding row) es (has_front-outside bytes row is.front) (tail-outside n.LineEnding row refl)
-    (λ es.
-    ap (λ (l : List Event). headings_resolved (around n.HeadingAtx row.first row.end l ++ es)) (is.is.heading e)
-    ∙ heading-resolved is.line row.first row.end es (heading-kind options is.line (sym is.is.kind ∙ e))
-    ∙ ap (λ (line : List ℕ). titled (title_of line row.first) ++ headings_resolved es) (sym is.is.text))
-single-set options bytes row es is BreakRow e =
-    let leaf = around n.ThematicBreak row.first row.end row.inside in
-    leaf-set row.front leaf leaf (tail_events n.LineEnding row) es (has_front-outside bytes row is.front) (tail-outside n.LineEnding row refl)
-    (λ es. outside-passes leaf es (around-outside n.ThematicBreak row.first row.end row.inside refl (quiet-outside row.inside (is.is.inside (λ k. cc)).quiet)))
-single-set options bytes row es is TextRow e = absurd (is.other e)
+    resolved (row_events_by kind row ++ es) ≡ titled_row_by bytes kind row ++ resolved es
+single-set options bytes row es is kind e =
+    leaf-set row.front (leaf_events kind row) (leaf_unread bytes kind row) (tail_events (ending_of kind) row) es (has_front-outside bytes row is.front) (tail-outside (ending_of kind) row (ending-own kind)) (leaf kind e)
+  where
+    leaf : (kind : RowKind) → row.kind ≡ kind → (es : List Event) → resolved (leaf_events kind row ++ es) ≡ leaf_unread bytes kind row ++ resolved es
+    leaf BlankRow e es = outside-passes row.inside es (subst AreOutside (sym (is.is.blank e)) (blank-outside is.line row.first))
+    leaf (LeafRow l) e es =
+        ap (λ (added : List Event). resolved (added ++ es)) (is.is.leaf_is l e ∙ ap (λ (line : List ℕ). (line_leaf l).added line row.first) is.is.line_is)
+        ∙ (laws l).set options is.is.rest row.first es (kind-starts options is.is.rest l (sym is.is.kind ∙ e))
+        ∙ ap (λ (line : List ℕ). (line_leaf l).unread line row.first ++ resolved es) (sym is.is.line_is ∙ sym is.is.text)
+    leaf TextRow e es = absurd (is.other e)
 
-groups-set : (options : ParseOptions) (bytes : List ℕ) (gs : List Group) → AreGroups options bytes gs → headings_resolved (unread_groups gs) ≡ titled_groups bytes gs
+groups-set : (options : ParseOptions) (bytes : List ℕ) (gs : List Group) → AreGroups options bytes gs → resolved (unread_groups gs) ≡ titled_groups bytes gs
 groups-set options bytes [] are = refl
 groups-set options bytes (Single row ∷ gs) are =
     single-set options bytes row (unread_groups gs) are.0 row.kind refl
@@ -481,17 +401,12 @@ groups-set options bytes (Lines row rows ∷ gs) are =
     (λ es. outside-passes (unread_paragraph row rows) es (around-outside n.Paragraph row.first last.end (linked_lines n.Data text_link row rows) refl (linked-outside text_link row rows (paragraph-fronts options bytes row rows are.0))))
     ∙ ap (λ (l : List Event). unread_group (Lines row rows) ++ l) (groups-set options bytes gs are.3)
 
--- The text of each heading is set.
-pub headings-set : (options : ParseOptions) (bytes : List ℕ) (open_before : List Container) (going : Bool) (p : Point) (lines : List (List ℕ)) (rows : List Row) → AreRows options bytes open_before going p lines rows → EachNoContent rows →
-    headings_resolved (unread_groups (groups rows)) ≡ titled_groups bytes (groups rows)
-headings-set options bytes open_before going p lines rows are quiet = groups-set options bytes (groups rows) (groups-are options bytes open_before going p lines rows are quiet)
+-- Each leaf is set, and all else stays.
+pub leaves-set : (options : ParseOptions) (bytes : List ℕ) (open_before : List Container) (going : Bool) (p : Point) (lines : List (List ℕ)) (rows : List Row) → AreRows options bytes open_before going p lines rows → EachNoContent rows →
+    resolved (unread_groups (groups rows)) ≡ titled_groups bytes (groups rows)
+leaves-set options bytes open_before going p lines rows are quiet = groups-set options bytes (groups rows) (groups-are options bytes open_before going p lines rows are quiet)
 
--- The text of headings and paragraphs.
-
--- behind some bytes no tab is cut
-pub past-whole : (line : List ℕ) (p : Point) → 0 < length line → (past_text line p).vs ≡ 0
-past-whole [] p h = absurd (omega arith)
-past-whole (b ∷ bs) p h = past_text-whole bs (past_byte b p) refl
+-- The text of leaves and paragraphs.
 
 -- what stands between the front of a line and its tail
 leaf-becomes : (wants : Content → Bool) (reads : Readings) (front leaf read tail : List Event) → Unwanted wants front → Unwanted wants tail → Becomes wants reads leaf read → Becomes wants reads ((front ++ leaf) ++ tail) ((front ++ read) ++ tail)
@@ -500,16 +415,10 @@ leaf-becomes wants reads front leaf read tail h k becomes =
     (becomes-append wants reads front front leaf read (becomes-same wants reads front h) becomes) (becomes-same wants reads tail k)
 
 single-becomes : (options : ParseOptions) (bytes : List ℕ) (row : Row) (wants : Content → Bool) (reads : Readings) → wants content.Text ≡ true → ReadsText bytes reads → IsSingle options bytes row →
-    (kind : RowKind) → row.kind ≡ kind → Becomes wants reads (titled_row_by bytes kind row) (single_events_by bytes kind row)
-single-becomes options bytes row wants reads w rt is BlankRow e = becomes-same wants reads (row_events_by BlankRow row) (subst (λ (kind : RowKind). Unwanted wants (row_events_by kind row)) e (single-unwanted options bytes wants row is (λ k. cc)))
-single-becomes options bytes row wants reads w rt is HeadingRow e =
-    leaf-becomes wants reads row.front (around n.HeadingAtx row.first row.end (unread_title (row_title bytes row))) (around n.HeadingAtx row.first row.end (read_title bytes (row_title bytes row))) (tail_events n.LineEnding row)
-    (front-unwanted wants bytes row is.front) (tail-unwanted wants row)
-    (becomes-around wants reads n.HeadingAtx row.first row.end (unread_title (row_title bytes row)) (read_title bytes (row_title bytes row))
-    (subst (λ (line : List ℕ). Becomes wants reads (unread_title (title_of line row.first)) (read_title bytes (title_of line row.first))) (sym is.is.text)
-    (title-becomes options bytes is.line row wants reads w rt is.is)))
-single-becomes options bytes row wants reads w rt is BreakRow e = becomes-same wants reads (row_events_by BreakRow row) (subst (λ (kind : RowKind). Unwanted wants (row_events_by kind row)) e (single-unwanted options bytes wants row is (λ k. cc)))
-single-becomes options bytes row wants reads w rt is TextRow e = absurd (is.other e)
+    Becomes wants reads (titled_row_by bytes row.kind row) (single_events_by bytes row.kind row)
+single-becomes options bytes row wants reads w rt is =
+    leaf-becomes wants reads row.front (leaf_unread bytes row.kind row) (leaf_done bytes row.kind row) (tail_events (ending_of row.kind) row) (front-unwanted wants bytes row is.front) (tail-unwanted wants row.kind row)
+    (row-becomes options bytes is.line row is.is is.other wants reads w rt)
 
 -- The text of a paragraph, cut at the ends of its lines.
 
@@ -530,23 +439,6 @@ plain-next : (p e : Point) (ys zs : List Event) (end : ℕ) → p.index < e.inde
 plain-next p e ys zs end h k =
     let apart : same_place p e ≡ false = grind (arith, nat_tests) in
     subst (λ (x : Bool). NextBelongs end ((cond x [] (pair n.Data p e) ++ ys) ++ zs)) (sym apart) (begins-behind n.Data p end k)
-
--- a line without its ending
-pub without-none : (line : List ℕ) → NoEnding line → without_ending line ≡ line
-without-none [] h = refl
-without-none (b ∷ line) h =
-    take_while-cons (λ (b : ℕ). not (is_ending b)) b line
-    ∙ ap (λ (x : Bool). cond (not x) (b ∷ without_ending line) []) h.0
-    ∙ ap (λ (l : List ℕ). b ∷ l) (without-none line h.1)
-
-pub without-one : (line : List ℕ) (ending : Ending) → NoEnding line → without_ending (line ++ ending_bytes ending) ≡ line
-without-one [] LineFeed h = refl
-without-one [] Return h = refl
-without-one [] Both h = refl
-without-one (b ∷ line) ending h =
-    take_while-cons (λ (b : ℕ). not (is_ending b)) b (line ++ ending_bytes ending)
-    ∙ ap (λ (x : Bool). cond (not x) (b ∷ without_ending (line ++ ending_bytes ending)) []) h.0
-    ∙ ap (λ (l : List ℕ). b ∷ l) (without-one line ending h.1)
 
 -- the plain layer finds the end of a line, without its ending and with it
 pub line_end-alone : (options : ParseOptions) (bytes line : List ℕ) (row : Row) → IsRow options bytes line row → line_end bytes (record { first = row.first; after = row.end }) ≡ row.end
@@ -598,7 +490,7 @@ lines-become options bytes row rows wants reads w rt is front =
     let given : List Event = read_lines bytes row rows in
     let unique : (answer : List Event) → reads content.Text (chunks_of row rows) answer → answer ≡ plain_events bytes (record { kind = Text; chunks = chunks_of row rows }) =
     λ answer r. rt (chunks_of row rows) answer r last.end (paragraph-lines options bytes row rows is) (paragraph-whole options bytes row rows is) in
-    leaf-becomes wants reads row.front (unread_paragraph row rows) (around n.Paragraph row.first last.end given) (tail_events n.LineEnding last) (front-unwanted wants bytes row front) (tail-unwanted wants last)
+    leaf-becomes wants reads row.front (unread_paragraph row rows) (around n.Paragraph row.first last.end given) (tail_events n.LineEnding last) (front-unwanted wants bytes row front) (tail-unwanted wants TextRow last)
     (lines-becomes wants reads n.Paragraph n.Data text_link row.first last.end row rows given w refl (paragraph-fronts options bytes row rows is)
     (λ answer r. subst (λ (l : List Event). CutAt row rows l given) (sym (unique answer r)) (text-cut options bytes row rows is)))
 
@@ -607,18 +499,18 @@ groups-become : (options : ParseOptions) (bytes : List ℕ) (wants : Content →
 groups-become options bytes wants reads w rt [] are = becomes-same wants reads [] tt
 groups-become options bytes wants reads w rt (Single row ∷ gs) are =
     becomes-append wants reads (titled_group bytes (Single row)) (group_events bytes (Single row)) (titled_groups bytes gs) (groups_events bytes gs)
-    (single-becomes options bytes row wants reads w rt are.0 row.kind refl) (groups-become options bytes wants reads w rt gs are.1)
+    (single-becomes options bytes row wants reads w rt are.0) (groups-become options bytes wants reads w rt gs are.1)
 groups-become options bytes wants reads w rt (Lines row rows ∷ gs) are =
     becomes-append wants reads (titled_group bytes (Lines row rows)) (group_events bytes (Lines row rows)) (titled_groups bytes gs) (groups_events bytes gs)
     (lines-become options bytes row rows wants reads w rt are.0 are.2) (groups-become options bytes wants reads w rt gs are.3)
 
--- The text of headings and paragraphs, read: the events of a text.
+-- The text of leaves and paragraphs, read: the events of a text.
 pub text-read : (options : ParseOptions) (bytes : List ℕ) (open_before : List Container) (going : Bool) (p : Point) (lines : List (List ℕ)) (rows : List Row) → AreRows options bytes open_before going p lines rows → EachNoContent rows →
     (wants : Content → Bool) (reads : Readings) → wants content.Text ≡ true → ReadsText bytes reads →
     (events : List Event) → Substituted wants reads [] 0 (titled_groups bytes (groups rows)) events → events ≡ groups_events bytes (groups rows)
 text-read options bytes open_before going p lines rows are quiet wants reads w rt events s =
-    let titled : List Event = titled_groups bytes (groups rows) in
+    let unread : List Event = titled_groups bytes (groups rows) in
     let rest : Rest wants reads (groups_events bytes (groups rows)) [] events =
     groups-become options bytes wants reads w rt (groups rows) (groups-are options bytes open_before going p lines rows are quiet) [] [] events
-    (subst (λ (l : List Event). Substituted wants reads [] 0 l events) (sym (append-nil titled)) s) in
+    (subst (λ (l : List Event). Substituted wants reads [] 0 l events) (sym (append-nil unread)) s) in
     rest.2 ∙ ap (λ (l : List Event). groups_events bytes (groups rows) ++ l) rest.3 ∙ append-nil (groups_events bytes (groups rows))

@@ -1,20 +1,20 @@
 -- ATX headings: what stands on their lines, and their laws.
 pub mod Between
+pub mod Cells
 pub mod Endings
-pub mod Facts
-pub mod Filled
+pub mod Found
 pub mod Hashes
-pub mod Joined
 pub mod Laws
-pub mod Nests
+pub mod Nested
+pub mod NoContent
+pub mod Outside
 pub mod Parted
-pub mod Parts
 pub mod Pieces
 pub mod Places
 pub mod Plain
-pub mod Runs
+pub mod Registers
 pub mod Spelled
-pub mod Spread
 pub mod Texts
 pub mod Tiled
+pub mod Trial
 pub mod Words

@@ -1,5 +1,5 @@
 -- Lines of text that follow one another, joined.
-use Rattle.std.proofs.Common.{◌≡◌, ℕ, zero, suc, Bool, true, false, cond, ◌&&◌, List, [], ◌∷◌, ◌++◌, refl, ap, sym, ◌∙◌, subst, append_assoc}
+use Rattle.std.proofs.Common.{◌≡◌, ◌≢◌, ℕ, zero, suc, Bool, true, false, cond, ◌&&◌, List, [], ◌∷◌, ◌++◌, refl, ap, sym, ◌∙◌, subst, append_assoc}
 use Rattle.std.specs.Prelude.{Option, Some, None}
 use Rattle.std.proofs.lemmas.Bool.{and_right}
 use Rattle.md_engine.specs.declared.configuration.ParseOptions.{ParseOptions}
@@ -12,27 +12,26 @@ use Rattle.md_engine.specs.declared.event.Point.{Point}
 use Rattle.md_engine.specs.Meaning.{Cell}
 use Rattle.md_content.specs.Chunks.{content_link}
 use Rattle.md_content.specs.Joined.{content_behind, goes_on, is_content, joined}
-use Rattle.md_leaves.specs.BreakRule.{Apart, runs}
-use Rattle.md_leaves.specs.HeadingRule as heading
-use Rattle.md_seam.specs.Ahead.{begins_white, from_ending, line_cells, line_end, white_end, white_rest}
+use Rattle.md_seam.specs.Ahead.{begins_white, from_ending, line_end}
 use Rattle.md_seam.specs.Events.Inline.{is_line_ending}
-use Rattle.md_seam.specs.Events.Nested.{around, enter_link, exit, pair, is_enter, is_exit}
-use Rattle.md_seam.specs.Spaces.{small_indent}
+use Rattle.md_seam.specs.Events.Nested.{enter_link, exit, pair, is_enter, is_exit}
 use Rattle.md_seam.specs.Standard.State.{Container, InFootnote, InItem, InQuote}
 use Rattle.md_seam.specs.Substituted.{is_prefix}
-use Rattle.markdown_blocks.specs.Change.{container_name, ends_of, is_none, open_behind}
-use Rattle.markdown_blocks.specs.Rows.{BlankRow, Group, Held, Lines, Row, RowKind, Single, TextRow, behind_row, ending_events, ending_of, groups, held_at, inside_of, is_text, last_row, leaf_events, onto_groups, onto_lines, row_events, row_events_by, row_kind, rows_at, rows_by, rows_events, tail_events}
+use Rattle.markdown_blocks.specs.Change.{ends_of, is_none, open_behind}
+use Rattle.markdown_blocks.specs.Rows.{BlankRow, Group, Held, Lines, Row, RowKind, Single, TextRow, behind_row, ending_events, ending_of, groups, held_at, inside_of, is_text, last_row, leaf_events, onto_groups, onto_lines, row_events, row_events_by, row_kind, rows_at, rows_by, rows_events, tail_events, LeafRow}
 use Rattle.markdown_blocks.specs.Rows as lines
 use Rattle.markdown_blocks.specs.Unread.{joined_groups, linked_lines}
-use Rattle.markdown_blocks.proofs.FrontNames.{AreFront, HasFront, end-stops, ends-are, ends-first, front-content, fronts-are, fronts-prefixes, fronts-stop, prefixes-content}
+use Rattle.markdown_blocks.proofs.FrontNames.{HasFront, ends-are, ends-first, front-content, fronts-are, fronts-prefixes, fronts-stop, prefixes-content}
 use Rattle.markdown_blocks.proofs.SubstitutedLemmas.{no_link-unwanted}
-use Rattle.markdown_blocks.proofs.HeadingAtx.Joined.{title-no_content}
-use Rattle.markdown_blocks.specs.Leaf.ThematicBreak.{first_cell}
+use Rattle.markdown_blocks.proofs.Registry.{laws}
 use Rattle.markdown_blocks.proofs.ContentFacts.{NoContent, no_content-append, nothing}
+use Rattle.markdown_blocks.proofs.PrefixNames.{AreFront}
+use Rattle.markdown_blocks.proofs.ContainerNames.{end-stops}
+use Rattle.markdown_blocks.specs.ContainerKinds.{container_name}
 
--- no content stands inside a line, and a heading alone has links, all to text
+-- no content stands inside a line, and its links are to text
 abbrev pub HasNoContent : Row → Type 0
-HasNoContent row = (wants : Content → Bool) → (row.kind ≡ HeadingRow → wants content.Text ≡ false) → NoContent wants row.inside
+HasNoContent row = (wants : Content → Bool) → wants content.Text ≡ false → NoContent wants row.inside
 
 abbrev pub EachNoContent : List Row → Type 0
 EachNoContent [] = Unit {0}
@@ -44,19 +43,10 @@ white-no_content : (wants : Content → Bool) (x : Bool) (p q : Point) → NoCon
 white-no_content wants true p q = (refl, refl, (refl, refl, tt))
 white-no_content wants false p q = tt
 
-inside-no_content : (wants : Content → Bool) (options : ParseOptions) (cells : List Cell) (p : Point) (kind : RowKind) → (kind ≡ HeadingRow → wants content.Text ≡ false) → NoContent wants (inside_of options cells p kind)
-inside-no_content wants options cells p BlankRow w = white-no_content wants (begins_white cells) p (line_end cells p)
-inside-no_content wants options cells p HeadingRow w =
-    let room : ℕ = small_indent options in
-    let rest : List Cell = white_rest room cells in
-    let q : Point = white_end room cells p in
-    no_content-append wants (cond (begins_white cells) (pair n.SpaceOrTab p q) []) (heading.runs heading.Apart (line_cells rest) q) (white-no_content wants (begins_white cells) p q) (title-no_content wants (w refl) heading.Apart (line_cells rest) q)
-inside-no_content wants options cells p BreakRow w =
-    let room : ℕ = small_indent options in
-    let rest : List Cell = white_rest room cells in
-    let q : Point = white_end room cells p in
-    no_content-append wants (cond (begins_white cells) (pair n.SpaceOrTab p q) []) (runs Apart (first_cell rest) (line_cells rest) q) (white-no_content wants (begins_white cells) p q) (runs-no_content wants Apart (first_cell rest) (line_cells rest) q)
-inside-no_content wants options cells p TextRow w = tt
+inside-no_content : (wants : Content → Bool) → wants content.Text ≡ false → (options : ParseOptions) (cells : List Cell) (p : Point) (kind : RowKind) → NoContent wants (inside_of options cells p kind)
+inside-no_content wants w options cells p BlankRow = white-no_content wants (begins_white cells) p (line_end cells p)
+inside-no_content wants w options cells p (LeafRow l) = (laws l).no_content wants w options cells p
+inside-no_content wants w options cells p TextRow = tt
 
 -- no content stands inside the lines that flow reads
 pub rows_at-no_content : (options : ParseOptions) (size : ℕ) (open_before : List Container) (going : Bool) (cells : List Cell) (p : Point) → EachNoContent (rows_at options size open_before going cells p)
@@ -64,7 +54,7 @@ rows_at-no_content options zero open_before going cells p = tt
 rows_at-no_content options (suc size) open_before going cells p = by (rows_at-no_content options size) (held_at options open_before going cells p)
   where
     by : ((open_before : List Container) (going : Bool) (cells : List Cell) (p : Point) → EachNoContent (rows_at options size open_before going cells p)) → (h : Held) → EachNoContent (rows_by options h (rows_at options size))
-    by further h = (λ wants w. inside-no_content wants options h.cells h.point (row_kind options h.cells) w, go (from_ending h.cells))
+    by further h = (λ wants w. inside-no_content wants w options h.cells h.point (row_kind options h.cells), go (from_ending h.cells))
       where
         go : (rest : List Cell) → EachNoContent (elim rest [ [] ↦ [] | c ∷ cs ↦ rows_at options size (open_behind h.change) (is_text (row_kind options h.cells)) cs c.after ])
         go [] = tt
@@ -94,29 +84,24 @@ ends-no_content wants cs p = front-no_content wants (ends_of cs p) (ends-are cs 
 pub tail-no_content : (wants : Content → Bool) (name : Name) (row : Row) → is_content name ≡ false → NoContent wants (tail_events name row)
 tail-no_content wants name row h = no_content-append wants (ends_of row.leaves row.end) (ending_events name row) (ends-no_content wants row.leaves row.end) (ending-no_content wants name row h)
 
--- what stands in a block on a line
-around-no_content : (wants : Content → Bool) (name : Name) (row : Row) → is_content name ≡ false → NoContent wants row.inside → NoContent wants (around name row.first row.end row.inside)
-around-no_content wants name row other h = (refl, other, no_content-append wants row.inside (exit name row.end ∷ []) h (refl, other, tt))
+-- the name of an ending is not that of content
+pub ending-other : (kind : RowKind) → is_content (ending_of kind) ≡ false
+ending-other BlankRow = refl
+ending-other (LeafRow l) = refl
+ending-other TextRow = refl
 
 -- what a line adds that is not text
-pub events-no_content : (wants : Content → Bool) (row : Row) (kind : RowKind) → row.kind ≡ kind → (kind ≡ TextRow → ⊥) → NoContent wants row.front → NoContent wants row.inside → NoContent wants (row_events row)
+pub events-no_content : (wants : Content → Bool) (row : Row) (kind : RowKind) → row.kind ≡ kind → kind ≢ TextRow → NoContent wants row.front → NoContent wants row.inside → NoContent wants (row_events row)
 events-no_content wants row kind e other front h =
     subst (λ (k : RowKind). NoContent wants (row_events_by k row)) (sym e)
     (no_content-append wants (row.front ++ leaf_events kind row) (tail_events (ending_of kind) row)
     (no_content-append wants row.front (leaf_events kind row) front (leaf kind other))
-    (tail-no_content wants (ending_of kind) row (ending kind)))
+    (tail-no_content wants (ending_of kind) row (ending-other kind)))
   where
-    leaf : (kind : RowKind) → (kind ≡ TextRow → ⊥) → NoContent wants (leaf_events kind row)
+    leaf : (kind : RowKind) → kind ≢ TextRow → NoContent wants (leaf_events kind row)
     leaf BlankRow other = h
-    leaf HeadingRow other = around-no_content wants n.HeadingAtx row refl h
-    leaf BreakRow other = around-no_content wants n.ThematicBreak row refl h
+    leaf (LeafRow l) other = h
     leaf TextRow other = absurd (other refl)
-
-    ending : (kind : RowKind) → is_content (ending_of kind) ≡ false
-    ending BlankRow = refl
-    ending HeadingRow = refl
-    ending BreakRow = refl
-    ending TextRow = refl
 
 -- Joining.
 
@@ -227,33 +212,42 @@ text-apart bytes row es front h =
     ∙ ap (λ (l : List Event). row.front ++ l) (text-ends row es h)
     ∙ sym (ap (λ (l : List Event). l ++ joined es) (append_assoc row.front text tail) ∙ append_assoc row.front (text ++ tail) (joined es))
 
+-- no line of content goes on behind the ending of a line that is no text
+ending-stops : (kind : RowKind) (p q : Point) (es : List Event) → content_behind (pair (ending_of kind) p q ++ es) ≡ false
+ending-stops BlankRow p q es = refl
+ending-stops (LeafRow l) p q es = refl
+ending-stops TextRow p q es = refl
+
 -- behind a line that is no text the one before does not go on
-other-behind : (bytes : List ℕ) (row : Row) (rows : List Row) → EachEnds (row ∷ rows) → HasFront bytes row → NoContent nothing row.inside → (kind : RowKind) → row.kind ≡ kind → (kind ≡ TextRow → ⊥) → content_behind (rows_events (row ∷ rows)) ≡ false
+other-behind : (bytes : List ℕ) (row : Row) (rows : List Row) → EachEnds (row ∷ rows) → HasFront bytes row → NoContent nothing row.inside → (kind : RowKind) → row.kind ≡ kind → kind ≢ TextRow → content_behind (rows_events (row ∷ rows)) ≡ false
 other-behind bytes row rows ends front h kind e other =
     ap content_behind (events-front row (rows_events rows))
     ∙ ap (λ (k : RowKind). content_behind (row.front ++ ((leaf_events k row ++ tail_events (ending_of k) row) ++ rows_events rows))) e
     ∙ behind-passes row.front ((leaf_events kind row ++ tail_events (ending_of kind) row) ++ rows_events rows) (has_front-no_content nothing bytes row front) (go kind other)
   where
-    ending : (rows : List Row) → EachEnds (row ∷ rows) → content_behind (ending_events n.BlankLineEnding row ++ rows_events rows) ≡ false
-    ending [] ends = last row.after
+    ending : (kind : RowKind) (rows : List Row) → EachEnds (row ∷ rows) → content_behind (ending_events (ending_of kind) row ++ rows_events rows) ≡ false
+    ending kind [] ends = last row.after
       where
-        last : (after : Option Point) → content_behind (elim after [ None ↦ [] | Some q ↦ pair n.BlankLineEnding row.end q ] ++ []) ≡ false
+        last : (after : Option Point) → content_behind (elim after [ None ↦ [] | Some q ↦ pair (ending_of kind) row.end q ] ++ []) ≡ false
         last None = refl
-        last (Some q) = refl
-    ending (below ∷ rows) ends = ap (λ (l : List Event). content_behind (l ++ rows_events (below ∷ rows))) (ending-is n.BlankLineEnding row ends.0 ends.1)
+        last (Some q) = ending-stops kind row.end q []
+    ending kind (below ∷ rows) ends =
+        ap (λ (l : List Event). content_behind (l ++ rows_events (below ∷ rows))) (ending-is (ending_of kind) row ends.0 ends.1) ∙ ending-stops kind row.end ends.0 (rows_events (below ∷ rows))
 
-    tail : (leaves : List Container) → content_behind ((ends_of leaves row.end ++ ending_events n.BlankLineEnding row) ++ rows_events rows) ≡ false
-    tail [] = ending rows ends
-    tail (c ∷ leaves) =
-        ap content_behind (append_assoc (ends_of (c ∷ leaves) row.end) (ending_events n.BlankLineEnding row) (rows_events rows))
-        ∙ ends-first (λ (l : List Event). content_behind l ≡ false) c leaves row.end (ending_events n.BlankLineEnding row ++ rows_events rows) (λ d fs. end-stops d row.end fs)
+    tail : (kind : RowKind) (leaves : List Container) → content_behind ((ends_of leaves row.end ++ ending_events (ending_of kind) row) ++ rows_events rows) ≡ false
+    tail kind [] = ending kind rows ends
+    tail kind (c ∷ leaves) =
+        ap content_behind (append_assoc (ends_of (c ∷ leaves) row.end) (ending_events (ending_of kind) row) (rows_events rows))
+        ∙ ends-first (λ (l : List Event). content_behind l ≡ false) c leaves row.end (ending_events (ending_of kind) row ++ rows_events rows) (λ d fs. end-stops d row.end fs)
 
-    go : (kind : RowKind) → (kind ≡ TextRow → ⊥) → content_behind ((leaf_events kind row ++ tail_events (ending_of kind) row) ++ rows_events rows) ≡ false
-    go BlankRow other =
-        ap content_behind (append_assoc row.inside (tail_events n.BlankLineEnding row) (rows_events rows))
-        ∙ behind-passes row.inside (tail_events n.BlankLineEnding row ++ rows_events rows) h (tail row.leaves)
-    go HeadingRow other = refl
-    go BreakRow other = refl
+    inside : (kind : RowKind) → content_behind ((row.inside ++ tail_events (ending_of kind) row) ++ rows_events rows) ≡ false
+    inside kind =
+        ap content_behind (append_assoc row.inside (tail_events (ending_of kind) row) (rows_events rows))
+        ∙ behind-passes row.inside (tail_events (ending_of kind) row ++ rows_events rows) h (tail kind row.leaves)
+
+    go : (kind : RowKind) → kind ≢ TextRow → content_behind ((leaf_events kind row ++ tail_events (ending_of kind) row) ++ rows_events rows) ≡ false
+    go BlankRow other = inside BlankRow
+    go (LeafRow l) other = inside (LeafRow l)
     go TextRow other = absurd (other refl)
 
 -- a line of text begins a paragraph with those behind it
@@ -323,15 +317,14 @@ text-rows bytes row below rows q after fronts ends h kind e same = go kind e sam
     es : List Event
     es = rows_events (below ∷ rows)
 
-    other : (kind : RowKind) → below.kind ≡ kind → (kind ≡ TextRow → ⊥) → joined es ≡ joined_groups (Single below ∷ groups rows) → joined (row_events_by TextRow row ++ es) ≡ joined_groups (Lines row [] ∷ Single below ∷ groups rows)
+    other : (kind : RowKind) → below.kind ≡ kind → kind ≢ TextRow → joined es ≡ joined_groups (Single below ∷ groups rows) → joined (row_events_by TextRow row ++ es) ≡ joined_groups (Lines row [] ∷ Single below ∷ groups rows)
     other kind e apart same =
         text-apart bytes row es fronts.0 (tail-stops row es q after (and_right (is_none row.leaves) (content_behind es) (other-behind bytes below rows ends fronts.1.0 h kind e apart)))
         ∙ ap (λ (l : List Event). row_events_by TextRow row ++ l) same
 
     go : (kind : RowKind) → below.kind ≡ kind → joined es ≡ joined_groups (onto_groups below kind (groups rows)) → joined (row_events_by TextRow row ++ es) ≡ joined_groups (onto_groups row TextRow (onto_groups below kind (groups rows)))
     go BlankRow e same = other BlankRow e (λ k. cc) same
-    go HeadingRow e same = other HeadingRow e (λ k. cc) same
-    go BreakRow e same = other BreakRow e (λ k. cc) same
+    go (LeafRow l) e same = other (LeafRow l) e (λ k. cc) same
     go TextRow e same =
         lines-first (λ (gs : List Group). joined es ≡ joined_groups gs → joined (row_events_by TextRow row ++ es) ≡ joined_groups (onto_groups row TextRow gs)) below (groups rows)
         (λ more rest same. text-lines bytes row below more rows rest q after fronts.0 fronts.1.0 e same) same
@@ -356,21 +349,19 @@ pub joined-rows : (bytes : List ℕ) (rows : List Row) → EachFront bytes rows 
 joined-rows bytes [] fronts ends h = refl
 joined-rows bytes (row ∷ []) fronts ends h = go row.kind refl
   where
-    other : (kind : RowKind) → row.kind ≡ kind → (kind ≡ TextRow → ⊥) → joined (row_events row ++ []) ≡ joined_groups (Single row ∷ [])
-    other kind e apart = single-rows row [] (events-no_content nothing row kind e apart (has_front-no_content nothing bytes row fronts.0) (h.0 nothing (λ k. refl))) refl
+    other : (kind : RowKind) → row.kind ≡ kind → kind ≢ TextRow → joined (row_events row ++ []) ≡ joined_groups (Single row ∷ [])
+    other kind e apart = single-rows row [] (events-no_content nothing row kind e apart (has_front-no_content nothing bytes row fronts.0) (h.0 nothing refl)) refl
 
     go : (kind : RowKind) → row.kind ≡ kind → joined (row_events row ++ []) ≡ joined_groups (onto_groups row kind [])
     go BlankRow e = other BlankRow e (λ k. cc)
-    go HeadingRow e = other HeadingRow e (λ k. cc)
-    go BreakRow e = other BreakRow e (λ k. cc)
+    go (LeafRow l) e = other (LeafRow l) e (λ k. cc)
     go TextRow e = ap (λ (kind : RowKind). joined (row_events_by kind row ++ [])) e ∙ text-last bytes row fronts.0
 joined-rows bytes (row ∷ below ∷ rows) fronts ends h = go (joined-rows bytes (below ∷ rows) fronts.1 ends.2 h.1) row.kind refl
   where
-    other : joined (rows_events (below ∷ rows)) ≡ joined_groups (groups (below ∷ rows)) → (kind : RowKind) → row.kind ≡ kind → (kind ≡ TextRow → ⊥) → joined (row_events row ++ rows_events (below ∷ rows)) ≡ joined_groups (Single row ∷ groups (below ∷ rows))
-    other same kind e apart = single-rows row (below ∷ rows) (events-no_content nothing row kind e apart (has_front-no_content nothing bytes row fronts.0) (h.0 nothing (λ k. refl))) same
+    other : joined (rows_events (below ∷ rows)) ≡ joined_groups (groups (below ∷ rows)) → (kind : RowKind) → row.kind ≡ kind → kind ≢ TextRow → joined (row_events row ++ rows_events (below ∷ rows)) ≡ joined_groups (Single row ∷ groups (below ∷ rows))
+    other same kind e apart = single-rows row (below ∷ rows) (events-no_content nothing row kind e apart (has_front-no_content nothing bytes row fronts.0) (h.0 nothing refl)) same
 
     go : joined (rows_events (below ∷ rows)) ≡ joined_groups (groups (below ∷ rows)) → (kind : RowKind) → row.kind ≡ kind → joined (row_events row ++ rows_events (below ∷ rows)) ≡ joined_groups (onto_groups row kind (groups (below ∷ rows)))
     go same BlankRow e = other same BlankRow e (λ k. cc)
-    go same HeadingRow e = other same HeadingRow e (λ k. cc)
-    go same BreakRow e = other same BreakRow e (λ k. cc)
-    go same TextRow e = ap (λ (kind : RowKind). joined (row_events_by kind row ++ rows_events (below ∷ rows))) e ∙ text-rows bytes row below rows ends.0 ends.1 fronts ends.2 (h.1.0 nothing (λ k. refl)) below.kind refl same
+    go same (LeafRow l) e = other same (LeafRow l) e (λ k. cc)
+    go same TextRow e = ap (λ (kind : RowKind). joined (row_events_by kind row ++ rows_events (below ∷ rows))) e ∙ text-rows bytes row below rows ends.0 ends.1 fronts ends.2 (h.1.0 nothing refl) below.kind refl same

@@ -1,5 +1,5 @@
 -- The laws of a leaf on one line: what the frame asks of each (`LineLeaf`), and of the registry.
-use Rattle.std.proofs.Common.{◌≡◌, ℕ, ◌+◌, ◌^◌, ◌<◌, ◌≤◌, Bool, true, false, List, ◌++◌, length}
+use Rattle.std.proofs.Common.{◌≡◌, ℕ, ◌+◌, ◌^◌, ◌<◌, ◌≤◌, Bool, true, false, cond, List, ◌++◌, length}
 use Rattle.std.specs.Prelude.{Some}
 use Rattle.md_engine.specs.declared.configuration.ParseOptions.{ParseOptions}
 use Rattle.md_engine.specs.declared.event.Content.{Content}
@@ -16,7 +16,8 @@ use Rattle.md_seam.proofs.RestCells.{RestAt, rest_cells}
 use Rattle.md_seam.proofs.TextsLemmas.{NoEnding}
 use Rattle.markdown_blocks.specs.Fronted.{rest_line}
 use Rattle.markdown_blocks.specs.LineLeaf.{LineLeaf}
-use Rattle.markdown_blocks.specs.Registry.{resolved}
+use Rattle.markdown_blocks.specs.Registry.{is_own, resolved}
+use Rattle.markdown_blocks.proofs.OutsideFacts.{AreOutside, NoEnds}
 use Rattle.markdown_blocks.proofs.LeafFacts.{LeafFacts, LineAt, ReadsText}
 use Rattle.markdown_blocks.proofs.SubstitutedLemmas.{Becomes}
 use Rattle.md_seam.specs.Substituted.{Readings}
@@ -26,11 +27,16 @@ use Rattle.markdown_blocks.proofs.ContentFacts.{NoContent}
 abbrev pub shut_line : List Event → List Cell → Here → Outcome
 shut_line added cells h = Accepts (record h { events = h.events ++ added; point = line_end cells h.point; flags = record h.flags { interrupt = false } }) (from_ending cells)
 
--- what is left is no longer than what there was, and begins with an ending
+-- a line is taken or refused; what is left of one that is taken is no longer than what there was, and begins with an ending
 abbrev pub Shrinks : ℕ → Outcome → Type 0
 Shrinks n (Accepts h rest) = (length rest ≤ n) × (from_ending rest ≡ rest)
 Shrinks n (Refuses s g) = Unit {0}
-Shrinks n Fails = Unit {0}
+Shrinks n Fails = ⊥
+
+-- the same of what one of two outcomes comes to
+pub cond-shrinks : (n : ℕ) (x : Bool) (a b : Outcome) → Shrinks n a → Shrinks n b → Shrinks n (cond x a b)
+cond-shrinks n true a b p q = p
+cond-shrinks n false a b p q = q
 
 pub record LeafLaws (l : LineLeaf) : Type 1 where
   -- Its trial takes a line to its end, or refuses it and leaves all as it was.
@@ -44,6 +50,8 @@ pub record LeafLaws (l : LineLeaf) : Type 1 where
       l.starts options r ≡ true → l.adds options (rest_cells said r p ++ stop) p ≡ l.added (rest_line r) p
   -- No content stands in what it adds, and its links are to text.
   pub no_content : (wants : Content → Bool) → wants content.Text ≡ false → (options : ParseOptions) (cells : List Cell) (p : Point) → NoContent wants (l.adds options cells p)
+  -- Where no part ends in what it adds that a resolver rewrites, so that none is registered, none begins there.
+  pub own : (options : ParseOptions) (cells : List Cell) (p : Point) → NoEnds is_own (l.adds options cells p) → AreOutside (l.adds options cells p)
   -- Resolvers set what is its own.
   pub set : (options : ParseOptions) (r : Rest) (p : Point) (es : List Event) → l.starts options r ≡ true → resolved (l.added (rest_line r) p ++ es) ≡ l.unread (rest_line r) p ++ resolved es
   -- Its events are known, and show its block.

@@ -1,116 +1,32 @@
--- What one line does to the containers and the paragraph that are open, where of the leaves headings and breaks alone may be on.
-use Rattle.std.proofs.Common.{◌≡◌, ℕ, zero, suc, ◌+◌, ◌≤◌, Bool, true, false, cond, ◌==◌, ◌&&◌, ◌||◌, List, [], ◌∷◌, ◌++◌, length, drop, refl, ap, sym, ◌∙◌, subst, append-nil, arith}
-use Rattle.std.specs.Prelude.{nat_le, Option, Some, None}
-use Rattle.std.specs.List.{prefix_len}
-use Rattle.std.specs.Option.{is_some, option_or}
+-- What one line does to the containers and the paragraph that are open, where only leaves that are built may be on.
+use Rattle.std.proofs.Common.{◌≡◌, ℕ, zero, suc, ◌+◌, ◌≤◌, Bool, true, false, cond, ◌&&◌, ◌||◌, List, [], ◌∷◌, ◌++◌, length, refl, ap, sym, ◌∙◌, subst, append-nil, arith}
+use Rattle.std.specs.Prelude.{Option, Some, None}
+use Rattle.std.specs.Option.{is_some}
 use Rattle.std.proofs.lemmas.Bool.{and_parts}
 use Rattle.md_engine.specs.declared.configuration.ParseOptions.{ParseOptions}
-use Rattle.md_leaves.specs.HeadingRule.{is_heading}
 use Rattle.md_seam.specs.Standard.Containers.{Taken, continues, opens}
-use Rattle.md_seam.specs.Standard.Leaves.{ParagraphContext, Came, Finished, LazyText, NoText, Text, break_at, code_at, fence_at, fence_from, heading_at, html_at, is_fence_marker, is_rule, starts, table_at, underline_depth, with_line}
-use Rattle.md_seam.specs.Standard.Rest.{Rest, has_small_indent, indent, is_blank, is_parted, is_white, run_len, trim_start}
+use Rattle.md_seam.specs.Standard.Leaves.{Came, LazyText, NoText, Text, with_line}
+use Rattle.md_seam.specs.Standard.Rest.{Rest, is_blank}
 use Rattle.md_seam.specs.Standard.State.{At, Container, Kept, Leaf, NoLeaf, OpenParagraph, Path, Spot, Within, at_spot, closed, container_block, kept, shut, shut_paragraph, spot, texts, then_block, then_paragraph}
 use Rattle.md_seam.specs.Standard.Step.{all_continued, all_continued_by, entered, fresh_by, fresh_line, is_concrete, is_open_text, lazy_by, leaf_line, opened, spot_of, step, stopped, stopped_by, text_by, text_line, with_lazy}
-use Rattle.md_seam.specs.Standard.Tree.{Blocks, Break, End}
+use Rattle.md_seam.specs.Standard.Tree.{Blocks, End}
 use Rattle.md_seam.proofs.ColumnLemmas.{opened_by, step_by}
 use Rattle.md_seam.proofs.ContainerLemmas.{LeavesFewer, opens-leaves}
 use Rattle.markdown_blocks.specs.Change.{Change, change_by, interrupts, is_none, open_behind, others_of}
-use Rattle.markdown_blocks.specs.Fronted.{Contained, Prefixed, contained, cut_tab, no_prefix, one_more, prefixes_new, prefixes_on, rest_line}
+use Rattle.markdown_blocks.specs.Fronted.{Contained, Prefixed, contained, no_prefix, one_more, prefixes_new, prefixes_on}
 use Rattle.markdown_blocks.specs.Parsed.{IsBuilt}
-use Rattle.markdown_blocks.specs.Rows.{BlankRow, RowKind, TextRow, is_lazy, is_text, line_kind}
+use Rattle.markdown_blocks.specs.Registry.{LeafName, leaf}
+use Rattle.markdown_blocks.specs.Rows.{BlankRow, LeafRow, RowKind, TextRow, is_lazy, is_text, kind_of, line_kind}
 use Rattle.markdown_blocks.specs.Stands.{IsPlain, IsPlainLeaf, containers_of, is_going}
 use Rattle.markdown_blocks.proofs.ContainedLemmas.{change-opens, contained-size, lazy-opens, lazy-some}
-use Rattle.markdown_blocks.specs.Leaf.HeadingAtx.{heading_block}
-
-code-off : (options : ParseOptions) (against : ParagraphContext) (r : Rest) → options.constructs.code_indented ≡ false → code_at options against r ≡ None
-unfolding code_at
-code-off options against r off = rw off refl
-
-no_fence : (options : ParseOptions) (m : ℕ) → options.constructs.code_fenced ≡ false → options.constructs.math_flow ≡ false → is_fence_marker options m ≡ false
-no_fence options m off none = go (m == 36)
-  where
-    go : (x : Bool) → cond x options.constructs.math_flow (options.constructs.code_fenced && ((m == 96) || (m == 126))) ≡ false
-    go true = none
-    go false = rw off refl
-
-no_fence-from : (options : ParseOptions) (columns : ℕ) (bytes : List ℕ) → options.constructs.code_fenced ≡ false → options.constructs.math_flow ≡ false → fence_from options columns bytes ≡ None
-no_fence-from options columns [] off none = refl
-no_fence-from options columns (m ∷ bytes) off none = rw (no_fence options m off none) refl
-
-fence-off : (options : ParseOptions) (r : Rest) → options.constructs.code_fenced ≡ false → options.constructs.math_flow ≡ false → fence_at options r ≡ None
-unfolding fence_at
-fence-off options r off none = go (has_small_indent options r)
-  where
-    go : (x : Bool) → cond x (fence_from options (indent r) (trim_start r.bytes)) None ≡ None
-    go true = no_fence-from options (indent r) (trim_start r.bytes) off none
-    go false = refl
-
-html-off : (options : ParseOptions) (against : ParagraphContext) (r : Rest) → options.constructs.html_flow ≡ false → html_at options against r ≡ None
-unfolding html_at
-html-off options against r off = rw off refl
-
-underline-off : (options : ParseOptions) (r : Rest) → options.constructs.heading_setext ≡ false → underline_depth options r ≡ None
-unfolding underline_depth
-underline-off options r off = rw off refl
-
-table-off : (options : ParseOptions) (bs : Blocks) (lines : List Kept) (r : Rest) → options.constructs.gfm_table ≡ false → table_at options bs lines r ≡ None
-unfolding table_at
-table-off options bs lines r off = rw off refl
-
--- What is on.
-
--- whether a line is a heading
-abbrev heads : ParseOptions → List ℕ → Bool
-heads options line = options.constructs.heading_atx && is_heading (trim_start line)
-
--- whether a line is a break
-abbrev breaks : ParseOptions → List ℕ → Bool
-breaks options line = options.constructs.thematic_break && is_rule (trim_start line)
-
--- a heading, or a break, if the line is one
-abbrev block_if : Bool → Bool → List ℕ → Option Came
-block_if x y line = cond x (Some (Finished (heading_block line))) (cond y (Some (Finished Break)) None)
-
--- however far it is indented
-heading-found : (options : ParseOptions) (r : Rest) → options.constructs.code_indented ≡ false → heading_at options r ≡ block_if (heads options r.bytes) false r.bytes
-unfolding heading_at
-heading-found options r off =
-    let text = trim_start r.bytes in
-    let depth = run_len 35 text in
-    let same : depth ≡ 0 + depth = omega arith in
-    rw off (ap (λ (x : Bool). block_if x false r.bytes) (go options.constructs.heading_atx (nat_le 1 depth) (nat_le depth 6) (nat_le (0 + depth) 6) (is_parted (drop depth text)) (ap (λ (k : ℕ). nat_le k 6) same)))
-  where
-    go : (x a b c d : Bool) → b ≡ c → (x && true && a && b && d) ≡ (x && (a && (c && d)))
-    go false a b c d e = refl
-    go true false b c d e = refl
-    go true true b c d e = ap (λ (z : Bool). z && d) e
-
-break-found : (options : ParseOptions) (r : Rest) → options.constructs.code_indented ≡ false → break_at options r ≡ block_if false (breaks options r.bytes) r.bytes
-unfolding break_at
-break-found options r off = rw off (go options.constructs.thematic_break)
-  where
-    go : (x : Bool) → block_if false (x && true && is_rule (trim_start r.bytes)) r.bytes ≡ block_if false (x && is_rule (trim_start r.bytes)) r.bytes
-    go true = refl
-    go false = refl
-
--- nothing else starts
-starts-found : (options : ParseOptions) (against : ParagraphContext) (r : Rest) → IsBuilt options → starts options against r ≡ block_if (heads options r.bytes) (breaks options r.bytes) r.bytes
-unfolding starts
-starts-found options against r built =
-    rw (code-off options against r built.code_indented, fence-off options r built.code_fenced built.math_flow, html-off options against r built.html_flow, heading-found options r built.code_indented, break-found options r built.code_indented)
-    (go (heads options r.bytes))
-  where
-    go : (x : Bool) → option_or (block_if x false r.bytes) (block_if false (breaks options r.bytes) r.bytes) ≡ block_if x (breaks options r.bytes) r.bytes
-    go true = refl
-    go false = refl
+use Rattle.markdown_blocks.proofs.RegistryFound.{came_of, leaf_at, starts-found, table-off, underline-off}
 
 -- Lines, one after another.
 
 -- what is open behind a line of this kind
 abbrev pub spot_by : Blocks → List Kept → Rest → RowKind → Spot
 spot_by bs held r BlankRow = spot_of (then_paragraph bs (texts held))
-spot_by bs held r HeadingRow = spot_of (then_block (then_paragraph bs (texts held)) (heading_block r.bytes))
-spot_by bs held r BreakRow = spot_of (then_block (then_paragraph bs (texts held)) Break)
+spot_by bs held r (LeafRow l) = spot_of (then_block (then_paragraph bs (texts held)) ((leaf l).block r))
 spot_by bs held r TextRow = with_line bs held r
 
 pub shut-lines : (options : ParseOptions) (bs : Blocks) (lines : List (List ℕ)) → options.constructs.definition ≡ false → shut_paragraph options bs lines ≡ then_paragraph bs lines
@@ -118,27 +34,29 @@ unfolding shut_paragraph
 shut-lines options bs lines off = rw off refl
 
 -- a line where nothing is open
-pub fresh-found : (options : ParseOptions) (bs : Blocks) (r : Rest) → IsBuilt options → fresh_line options bs r ≡ spot_by bs [] r (line_kind options r.bytes)
+pub fresh-found : (options : ParseOptions) (bs : Blocks) (r : Rest) → IsBuilt options →
+    fresh_line options bs r ≡ spot_by bs [] r (line_kind options r)
 unfolding fresh_line
-fresh-found options bs r built = rw (starts-found options NoText r built) (go (is_blank r.bytes) (heads options r.bytes) (breaks options r.bytes))
+fresh-found options bs r built = rw (starts-found options NoText r built) (go (is_blank r.bytes) (leaf_at options r))
   where
-    go : (x y z : Bool) → cond x (spot_of bs) (fresh_by bs r (block_if y z r.bytes)) ≡ spot_by bs [] r (cond x BlankRow (cond y HeadingRow (cond z BreakRow TextRow)))
-    go true y z = refl
-    go false true z = refl
-    go false false true = refl
-    go false false false = refl
+    go : (x : Bool) (o : Option LeafName) →
+        cond x (spot_of bs) (fresh_by bs r (came_of r o)) ≡ spot_by bs [] r (cond x BlankRow (kind_of o))
+    go true o = refl
+    go false (Some l) = refl
+    go false None = refl
 
 -- a line where a paragraph is open
-text-found : (options : ParseOptions) (bs : Blocks) (lines : List Kept) (k : Kept) (r : Rest) → IsBuilt options → text_line options bs (k ∷ lines) r ≡ spot_by bs (k ∷ lines) r (line_kind options r.bytes)
+text-found : (options : ParseOptions) (bs : Blocks) (lines : List Kept) (k : Kept) (r : Rest) → IsBuilt options →
+    text_line options bs (k ∷ lines) r ≡ spot_by bs (k ∷ lines) r (line_kind options r)
 unfolding text_line
 text-found options bs lines k r built =
-    rw (underline-off options r built.heading_setext, starts-found options Text r built, shut-lines options bs (texts (k ∷ lines)) built.definition) (go (is_blank r.bytes) (heads options r.bytes) (breaks options r.bytes))
+    rw (underline-off options r built, starts-found options Text r built, shut-lines options bs (texts (k ∷ lines)) built.definition) (go (is_blank r.bytes) (leaf_at options r))
   where
-    go : (x y z : Bool) → cond x (spot_of (then_paragraph bs (texts (k ∷ lines)))) (text_by options bs (k ∷ lines) r (block_if y z r.bytes)) ≡ spot_by bs (k ∷ lines) r (cond x BlankRow (cond y HeadingRow (cond z BreakRow TextRow)))
-    go true y z = refl
-    go false true z = ap (λ (x : Blocks). spot_of (then_block x (heading_block r.bytes))) (shut-lines options bs (texts (k ∷ lines)) built.definition)
-    go false false true = ap (λ (x : Blocks). spot_of (then_block x Break)) (shut-lines options bs (texts (k ∷ lines)) built.definition)
-    go false false false = rw (table-off options bs (k ∷ lines) r built.gfm_table) refl
+    go : (x : Bool) (o : Option LeafName) →
+        cond x (spot_of (then_paragraph bs (texts (k ∷ lines)))) (text_by options bs (k ∷ lines) r (came_of r o)) ≡ spot_by bs (k ∷ lines) r (cond x BlankRow (kind_of o))
+    go true o = refl
+    go false (Some l) = ap (λ (x : Blocks). spot_of (then_block x ((leaf l).block r))) (shut-lines options bs (texts (k ∷ lines)) built.definition)
+    go false None = rw (table-off options bs (k ∷ lines) r built) refl
 
 -- The containers that open.
 
@@ -224,7 +142,7 @@ new_line options (c ∷ cs) r bs = Within bs c (new_line options cs r End)
 -- all else is closed, and it begins in the new ones.
 abbrev pub stepped : ParseOptions → Path → List Container → Prefixed → Path
 stepped options p went new =
-    cond (is_lazy (is_going p) new.containers (line_kind options (rest_line new.rest))) (longer (renewed (went ++ others_of (containers_of p) went) p) (kept new.rest ∷ []))
+    cond (is_lazy (is_going p) new.containers (line_kind options new.rest)) (longer (renewed (went ++ others_of (containers_of p) went) p) (kept new.rest ∷ []))
     (behind_path (kept_to options went p) (new_line options new.containers new.rest))
 
 renewed-same : (p : Path) → renewed (containers_of p) p ≡ p
@@ -236,28 +154,10 @@ renewed-spot [] p = refl
 renewed-spot (c ∷ cs) (At s) = refl
 renewed-spot (c ∷ cs) (Within before container p) = renewed-spot cs p
 
--- A tab in front of a line does not change what it is.
-trim-tab : (bytes : List ℕ) → trim_start (9 ∷ bytes) ≡ trim_start bytes
-trim-tab bytes = let size : 1 + prefix_len is_white bytes ≡ suc (prefix_len is_white bytes) = omega arith in ap (λ (n : ℕ). drop n (9 ∷ bytes)) size
-
-pub rest_line-trim : (r : Rest) → trim_start (rest_line r) ≡ trim_start r.bytes
-rest_line-trim r = go r.spaces
-  where
-    go : (n : ℕ) → trim_start (cut_tab n ++ r.bytes) ≡ trim_start r.bytes
-    go zero = refl
-    go (suc n) = trim-tab r.bytes
-
-pub rest_line-kind : (options : ParseOptions) (r : Rest) → line_kind options (rest_line r) ≡ line_kind options r.bytes
-rest_line-kind options r = go r.spaces
-  where
-    go : (n : ℕ) → line_kind options (cut_tab n ++ r.bytes) ≡ line_kind options r.bytes
-    go zero = refl
-    go (suc n) = ap (λ (l : List ℕ). cond (is_blank r.bytes) BlankRow (cond (options.constructs.heading_atx && is_heading l) HeadingRow (cond (options.constructs.thematic_break && is_rule l) BreakRow TextRow))) (trim-tab r.bytes)
-
 stepped-more : (options : ParseOptions) (p : Path) (went : List Container) (c : Container) (new : Prefixed) → stepped options p went (one_more c new) ≡ behind_path (kept_to options went p) (new_line options (c ∷ new.containers) new.rest)
 stepped-more options p went c new =
     ap (λ (x : Bool). cond x (longer (renewed (went ++ others_of (containers_of p) went) p) (kept new.rest ∷ [])) (behind_path (kept_to options went p) (new_line options (c ∷ new.containers) new.rest)))
-    (lazy-some (is_going p) c new.containers (line_kind options (rest_line new.rest)))
+    (lazy-some (is_going p) c new.containers (line_kind options new.rest))
 
 -- the containers that open in a new one
 opened-new : (options : ParseOptions) (n : ℕ) (r : Rest) → opened options n r ≡ new_line options (prefixes_new options false n r).containers (prefixes_new options false n r).rest End
@@ -279,17 +179,15 @@ leaf-stepped : (options : ParseOptions) (bs : Blocks) (leaf : Leaf) (r : Rest) �
 leaf-stepped options bs NoLeaf r built plain = refl
 leaf-stepped options bs (OpenParagraph (k ∷ ks)) r built plain =
     ap At (text-found options bs ks k r built)
-    ∙ go (line_kind options r.bytes)
-    ∙ sym (ap (λ (s : Spot). by (line_kind options r.bytes) s) (ap (λ (x : Blocks). fresh_line options x r) (shut-lines options bs (texts (k ∷ ks)) built.definition) ∙ fresh-found options (then_paragraph bs (texts (k ∷ ks))) r built))
-    ∙ sym (ap (λ (x : RowKind). by x (fresh_line options (shut_paragraph options bs (texts (k ∷ ks))) r)) (rest_line-kind options r))
+    ∙ go (line_kind options r)
+    ∙ sym (ap (by (line_kind options r)) (ap (λ (x : Blocks). fresh_line options x r) (shut-lines options bs (texts (k ∷ ks)) built.definition) ∙ fresh-found options (then_paragraph bs (texts (k ∷ ks))) r built))
   where
     by : RowKind → Spot → Path
     by kind s = cond (is_lazy true [] kind) (At (with_line bs (k ∷ ks) r)) (At s)
 
     go : (kind : RowKind) → At (spot_by bs (k ∷ ks) r kind) ≡ by kind (spot_by (then_paragraph bs (texts (k ∷ ks))) [] r kind)
     go BlankRow = refl
-    go HeadingRow = refl
-    go BreakRow = refl
+    go (LeafRow l) = refl
     go TextRow = refl
 leaf-stepped options bs leaf r built plain = absurd plain
 
@@ -320,12 +218,11 @@ at_spot-longer (Within before container p) lines more e = ap (Within before cont
 -- where this container does not go on, and none opens
 lazy-stepped : (options : ParseOptions) (before : Blocks) (c : Container) (p : Path) (r : Rest) → IsBuilt options → (leaf : Leaf) → (spot p).leaf ≡ leaf → IsPlainLeaf leaf →
     lazy_by options before c p r (with_lazy options leaf r) ≡
-    cond (is_lazy (is_open_text leaf) [] (line_kind options (rest_line r))) (Within before c (longer (renewed (containers_of p) p) (kept r ∷ []))) (At (fresh_line options (then_block before (container_block c (closed options p))) r))
+    cond (is_lazy (is_open_text leaf) [] (line_kind options r)) (Within before c (longer (renewed (containers_of p) p) (kept r ∷ []))) (At (fresh_line options (then_block before (container_block c (closed options p))) r))
 lazy-stepped options before c p r built NoLeaf e plain = refl
 lazy-stepped options before c p r built (OpenParagraph (k ∷ ks)) e plain =
     ap (λ (o : Option Came). lazy_by options before c p r (cond (is_blank r.bytes || is_some o) None (Some (OpenParagraph (k ∷ ks ++ kept r ∷ []))))) (starts-found options LazyText r built)
-    ∙ go (is_blank r.bytes) (heads options r.bytes) (breaks options r.bytes)
-    ∙ sym (ap by (rest_line-kind options r))
+    ∙ go (is_blank r.bytes) (leaf_at options r)
   where
     other : Path
     other = At (fresh_line options (then_block before (container_block c (closed options p))) r)
@@ -333,11 +230,11 @@ lazy-stepped options before c p r built (OpenParagraph (k ∷ ks)) e plain =
     by : RowKind → Path
     by kind = cond (is_lazy true [] kind) (Within before c (longer (renewed (containers_of p) p) (kept r ∷ []))) other
 
-    go : (x y z : Bool) → lazy_by options before c p r (cond (x || is_some (block_if y z r.bytes)) None (Some (OpenParagraph (k ∷ ks ++ kept r ∷ [])))) ≡ by (cond x BlankRow (cond y HeadingRow (cond z BreakRow TextRow)))
-    go true y z = refl
-    go false true z = refl
-    go false false true = refl
-    go false false false = ap (Within before c) (at_spot-longer p (k ∷ ks) (kept r ∷ []) e ∙ ap (λ (q : Path). longer q (kept r ∷ [])) (sym (renewed-same p)))
+    go : (x : Bool) (o : Option LeafName) →
+        lazy_by options before c p r (cond (x || is_some (came_of r o)) None (Some (OpenParagraph (k ∷ ks ++ kept r ∷ [])))) ≡ by (cond x BlankRow (kind_of o))
+    go true o = refl
+    go false (Some l) = refl
+    go false None = ap (Within before c) (at_spot-longer p (k ∷ ks) (kept r ∷ []) e ∙ ap (λ (q : Path). longer q (kept r ∷ [])) (sym (renewed-same p)))
 lazy-stepped options before c p r built leaf e plain = absurd plain
 
 step-stopped : (options : ParseOptions) (before : Blocks) (c : Container) (p : Path) (r : Rest) → IsBuilt options → IsPlain p → stopped options before c p r ≡ stepped options (Within before c p) [] (all_new options (interrupts (is_going p) (c ∷ containers_of p)) r)
@@ -355,7 +252,7 @@ step-stopped options before c p r built plain =
     go (Some t) = entered-new options (then_block before (container_block c (closed options p))) t ∙ sym (stepped-more options (Within before c p) [] t.container (all_new options false t.rest))
 
 stepped-within : (options : ParseOptions) (before : Blocks) (c d : Container) (p : Path) (went : List Container) (new : Prefixed) → Within before d (stepped options p went new) ≡ stepped options (Within before c p) (d ∷ went) new
-stepped-within options before c d p went new = go (is_lazy (is_going p) new.containers (line_kind options (rest_line new.rest)))
+stepped-within options before c d p went new = go (is_lazy (is_going p) new.containers (line_kind options new.rest))
   where
     lazy : Path
     lazy = longer (renewed (went ++ others_of (containers_of p) went) p) (kept new.rest ∷ [])
@@ -391,7 +288,7 @@ contained_at options p r = contained options (containers_of p) (is_going p) r
 
 -- whether a line goes on the open paragraph
 abbrev pub goes_lazy : ParseOptions → Path → Contained → Bool
-goes_lazy options p c = is_lazy (is_going p) c.change.opens (line_kind options (rest_line c.rest))
+goes_lazy options p c = is_lazy (is_going p) c.change.opens (line_kind options c.rest)
 
 -- where it does not: some containers stay, and behind them it opens others, and is a line where nothing is open
 abbrev pub new_path : ParseOptions → Path → Contained → Path
@@ -401,7 +298,7 @@ new_path options p c = behind_path (kept_to options c.change.stays p) (new_line 
 pub step-contained : (options : ParseOptions) (p : Path) (r : Rest) → IsBuilt options → IsPlain p →
     let c = contained_at options p r in step options p r ≡ cond (goes_lazy options p c) (longer (renewed c.change.stays p) (kept c.rest ∷ [])) (new_path options p c)
 unfolding contained
-step-contained options p r built plain = step-new options p r built plain ∙ go lazy ∙ sym (ap (λ (opens : List Container). by (is_lazy (is_going p) opens (line_kind options (rest_line new.rest))) lazy) (change-opens lazy on.containers others new.containers))
+step-contained options p r built plain = step-new options p r built plain ∙ go lazy ∙ sym (ap (λ (opens : List Container). by (is_lazy (is_going p) opens (line_kind options new.rest)) lazy) (change-opens lazy on.containers others new.containers))
   where
     on : Prefixed
     on = prefixes_on options (containers_of p) r
@@ -413,7 +310,7 @@ step-contained options p r built plain = step-new options p r built plain ∙ go
     new = all_new options (interrupts (is_going p) others) on.rest
 
     lazy : Bool
-    lazy = is_lazy (is_going p) new.containers (line_kind options (rest_line new.rest))
+    lazy = is_lazy (is_going p) new.containers (line_kind options new.rest)
 
     by : Bool → Bool → Path
     by x y = let change : Change = change_by y on.containers others new.containers in cond x (longer (renewed change.stays p) (kept new.rest ∷ [])) (behind_path (kept_to options change.stays p) (new_line options change.opens new.rest))
@@ -425,7 +322,7 @@ step-contained options p r built plain = step-new options p r built plain ∙ go
 -- a line that goes on the open paragraph closes nothing
 pub contained-lazy : (options : ParseOptions) (p : Path) (r : Rest) → goes_lazy options p (contained_at options p r) ≡ true → (contained_at options p r).change.closes ≡ []
 unfolding contained
-contained-lazy options p r h = go lazy (sym (ap (λ (opens : List Container). is_lazy (is_going p) opens (line_kind options (rest_line new.rest))) (change-opens lazy on.containers others new.containers)) ∙ h)
+contained-lazy options p r h = go lazy (sym (ap (λ (opens : List Container). is_lazy (is_going p) opens (line_kind options new.rest)) (change-opens lazy on.containers others new.containers)) ∙ h)
   where
     on : Prefixed
     on = prefixes_on options (containers_of p) r
@@ -437,7 +334,7 @@ contained-lazy options p r h = go lazy (sym (ap (λ (opens : List Container). is
     new = all_new options (interrupts (is_going p) others) on.rest
 
     lazy : Bool
-    lazy = is_lazy (is_going p) new.containers (line_kind options (rest_line new.rest))
+    lazy = is_lazy (is_going p) new.containers (line_kind options new.rest)
 
     go : (x : Bool) → x ≡ true → (change_by x on.containers others new.containers).closes ≡ []
     go true e = refl
@@ -467,12 +364,11 @@ plain-behind (At s) f each = each s.here
 plain-behind (Within before container p) f each = plain-behind p f each
 
 plain-fresh : (options : ParseOptions) (bs : Blocks) (r : Rest) → IsBuilt options → IsPlainLeaf (fresh_line options bs r).leaf
-plain-fresh options bs r built = subst (λ (s : Spot). IsPlainLeaf s.leaf) (sym (fresh-found options bs r built)) (go (line_kind options r.bytes))
+plain-fresh options bs r built = subst (λ (s : Spot). IsPlainLeaf s.leaf) (sym (fresh-found options bs r built)) (go (line_kind options r))
   where
     go : (kind : RowKind) → IsPlainLeaf (spot_by bs [] r kind).leaf
     go BlankRow = tt
-    go HeadingRow = tt
-    go BreakRow = tt
+    go (LeafRow l) = tt
     go TextRow = tt
 
 plain-new_line : (options : ParseOptions) (cs : List Container) (r : Rest) (bs : Blocks) → IsBuilt options → IsPlain (new_line options cs r bs)
@@ -533,7 +429,7 @@ containers-step options p r built plain = ap containers_of (step-contained optio
         containers-longer (renewed c.change.stays p) (kept c.rest ∷ [])
         ∙ containers-renewed c.change.stays p (let none : length c.change.closes ≡ 0 = ap length (contained-lazy options p r e) in omega (arith, sizes))
         ∙ sym (append-nil c.change.stays)
-        ∙ ap (λ (l : List Container). c.change.stays ++ l) (sym (lazy-opens (is_going p) c.change.opens (line_kind options (rest_line c.rest)) e))
+        ∙ ap (λ (l : List Container). c.change.stays ++ l) (sym (lazy-opens (is_going p) c.change.opens (line_kind options c.rest) e))
     go false e =
         containers-behind (kept_to options c.change.stays p) (new_line options c.change.opens c.rest) c.change.opens (λ bs. containers-new_line options c.change.opens c.rest bs)
         ∙ ap (λ (l : List Container). l ++ c.change.opens) (containers-kept options c.change.stays p (omega (arith, sizes)))
@@ -548,27 +444,28 @@ going-behind : (p : Path) (f : Blocks → Path) (x : Bool) → ((bs : Blocks) �
 going-behind (At s) f x each = each s.here
 going-behind (Within before container p) f x each = going-behind p f x each
 
-going-new_line : (options : ParseOptions) (cs : List Container) (r : Rest) (bs : Blocks) → IsBuilt options → is_going (new_line options cs r bs) ≡ is_text (line_kind options r.bytes)
-going-new_line options [] r bs built = ap (λ (s : Spot). is_open_text s.leaf) (fresh-found options bs r built) ∙ go (line_kind options r.bytes)
+going-new_line : (options : ParseOptions) (cs : List Container) (r : Rest) (bs : Blocks) → IsBuilt options →
+    is_going (new_line options cs r bs) ≡ is_text (line_kind options r)
+going-new_line options [] r bs built = ap (λ (s : Spot). is_open_text s.leaf) (fresh-found options bs r built) ∙ go (line_kind options r)
   where
     go : (kind : RowKind) → is_open_text (spot_by bs [] r kind).leaf ≡ is_text kind
     go BlankRow = refl
-    go HeadingRow = refl
-    go BreakRow = refl
+    go (LeafRow l) = refl
     go TextRow = refl
 going-new_line options (c ∷ cs) r bs built = going-new_line options cs r End built
 
-pub going-step : (options : ParseOptions) (p : Path) (r : Rest) → IsBuilt options → IsPlain p → is_going (step options p r) ≡ is_text (line_kind options (rest_line (contained_at options p r).rest))
+pub going-step : (options : ParseOptions) (p : Path) (r : Rest) → IsBuilt options → IsPlain p →
+    is_going (step options p r) ≡ is_text (line_kind options (contained_at options p r).rest)
 going-step options p r built plain = ap is_going (step-contained options p r built plain) ∙ go (goes_lazy options p c) refl
   where
     c : Contained
     c = contained_at options p r
 
     kind : RowKind
-    kind = line_kind options (rest_line c.rest)
+    kind = line_kind options c.rest
 
     go : (x : Bool) → goes_lazy options p c ≡ x → is_going (cond x (longer (renewed c.change.stays p) (kept c.rest ∷ [])) (new_path options p c)) ≡ is_text kind
     go true e = going-longer (renewed c.change.stays p) (kept c.rest ∷ []) ∙ sym (lazy-text (is_going p) c.change.opens kind e)
     go false e =
         going-behind (kept_to options c.change.stays p) (new_line options c.change.opens c.rest) (is_text kind)
-        (λ bs. going-new_line options c.change.opens c.rest bs built ∙ ap is_text (sym (rest_line-kind options c.rest)))
+        (λ bs. going-new_line options c.change.opens c.rest bs built)

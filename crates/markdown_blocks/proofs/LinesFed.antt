@@ -26,6 +26,7 @@ use Rattle.md_engine.proofs.TextFeed.{text-follows}
 use Rattle.md_seam.specs.Ahead.{from_ending, line_end}
 use Rattle.md_seam.specs.Events.Nested.{pair}
 use Rattle.md_seam.specs.Standard.State.{Container}
+use Rattle.md_seam.proofs.FeedLines.{Stops}
 use Rattle.markdown_blocks.specs.Change.{ends_of, open_behind}
 use Rattle.markdown_blocks.specs.Fed.{fed, feeds, flow_begins, line_begins, not_left, place_behind}
 use Rattle.markdown_blocks.specs.FlowRule.{Rule, ended, flow_behaves_by, line_then}
@@ -34,10 +35,9 @@ use Rattle.markdown_blocks.specs.Rows.{Held, Row, after_ending, behind_row, clos
 use Rattle.markdown_blocks.specs.Stands.{AreOpen}
 use Rattle.markdown_blocks.specs.States.{FlowStep, flow_table_scheme, flow_transition}
 use Rattle.markdown_blocks.specs.TextRows.{text_cells, text_rows, text_setting}
-use Rattle.markdown_blocks.proofs.FlowEnds.{AtEnding, from_ending-at}
-use Rattle.markdown_blocks.proofs.FlowLemmas.{from_ending-shrinks}
 use Rattle.markdown_blocks.proofs.FlowMeans.{Takes, ending-taken, flow-steps-by, flow_stands}
 use Rattle.markdown_blocks.proofs.FlowRows.{Begins, Done, held-shorter, leaving, line-done, next-begins, next_here, no-closes, row-adds, rows_below, text-begins}
+use Rattle.markdown_blocks.proofs.FromEnding.{from_ending-shrinks, from_ending-stops}
 
 -- Behind some lines.
 
@@ -154,9 +154,9 @@ line-next options from all n left h l rest new is = by l.size l.fits l.rows
 
     by : (size : ℕ) → length left < size → drop n all ≡ rows_at options size l.containers l.going left h.point → LineAt options from all (suc n) rest new
     by zero fits rows = absurd (omega arith)
-    by (suc m) fits rows = go (from_ending x.cells) refl (from_ending-at x.cells) (omega (arith, from_ending-shrinks x.cells, held-shorter options l.containers l.going left h.point)) rows
+    by (suc m) fits rows = go (from_ending x.cells) refl (from_ending-stops x.cells) (omega (arith, from_ending-shrinks x.cells, held-shorter options l.containers l.going left h.point)) rows
       where
-        go : (ls : List Cell) → from_ending x.cells ≡ ls → AtEnding ls → length ls < suc m → drop n all ≡ onto_rows options x (rows_below options m behind text ls) → LineAt options from all (suc n) rest new
+        go : (ls : List Cell) → from_ending x.cells ≡ ls → Stops ls → length ls < suc m → drop n all ≡ onto_rows options x (rows_below options m behind text ls) → LineAt options from all (suc n) rest new
         go [] e stops short rows =
             let none : line_stop rest new ≡ ended line_stop [] d.new = sym is ∙ d.is ∙ ap (λ (cells : List Cell). ended line_stop cells d.new) e in
             absurd (subst (AtStop (λ cells k. Unit {0})) none tt)
@@ -442,9 +442,9 @@ line-last options from all n left h l new is = by l.size l.fits l.rows
 
     by : (size : ℕ) → length left < size → drop n all ≡ rows_at options size l.containers l.going left h.point → suc n ≡ length all
     by zero fits rows = absurd (omega arith)
-    by (suc m) fits rows = go (from_ending x.cells) refl (from_ending-at x.cells) rows
+    by (suc m) fits rows = go (from_ending x.cells) refl (from_ending-stops x.cells) rows
       where
-        go : (ls : List Cell) → from_ending x.cells ≡ ls → AtEnding ls → drop n all ≡ onto_rows options x (rows_below options m behind text ls) → suc n ≡ length all
+        go : (ls : List Cell) → from_ending x.cells ≡ ls → Stops ls → drop n all ≡ onto_rows options x (rows_below options m behind text ls) → suc n ≡ length all
         go [] e stops rows = let one = ap length rows in omega (arith, one, length-drop n all)
         go (c ∷ xs) e stops rows =
             let stopped : Accepts new [] ≡ line_stop xs (next_here c d.new) =

@@ -21,11 +21,12 @@ use Rattle.markdown_blocks.specs.Fronted.{contained, rest_from, rest_line}
 use Rattle.markdown_blocks.specs.Rows.{LeafRow, ending_of, leaf_done, BlankRow, Group, Lines, Row, RowKind, Single, TextRow, behind_row, closes_before, ending_events, goes_on, groups, groups_events, is_text, last_row, onto_groups, read_lines, row_line, tail_events}
 use Rattle.markdown_blocks.proofs.ContainedLemmas.{contained-shapes, none-nil}
 use Rattle.markdown_blocks.proofs.FrontFacts.{LinePrefix}
-use Rattle.markdown_blocks.proofs.FrontLemmas.{Turns, ends-spans, ends-turn, fronts-balanced, fronts-spans, fronts-turn, names-append, open_names, shapes-names, turns-balanced}
+use Rattle.markdown_blocks.proofs.FrontLemmas.{Turns, ends-spans, ends-turn, fronts-balanced, fronts-spans, fronts-turn, names-append, shapes-names, turns-balanced}
 use Rattle.markdown_blocks.proofs.JoinedLemmas.{behind-is, behind-none}
 use Rattle.markdown_blocks.proofs.RowLeaf.{IsLeaf, row-leaf}
 use Rattle.markdown_blocks.proofs.RowFacts.{AreRows, IsEnding, IsLine, IsRow, behind_line}
 use Rattle.markdown_blocks.proofs.SpanLemmas.{Nested_in, Spans, around-nested, chunk-nested}
+use Rattle.markdown_blocks.proofs.ContainerNames.{open_names}
 
 -- Chunks.
 

@@ -28,7 +28,8 @@ use Rattle.md_seam.proofs.TextsLemmas.{Ending, EndsBefore, NoEnding, ending_byte
 use Rattle.markdown_blocks.specs.Rows.{Row, TextRow, behind_row, chunks_of, last_row}
 use Rattle.markdown_blocks.specs.Unread.{linked}
 use Rattle.markdown_blocks.proofs.FrontPlaces.{fronts-grow, fronts-line}
-use Rattle.markdown_blocks.proofs.GroupLemmas.{IsParagraph, ReadsContent, piece, row-line, text-some}
+use Rattle.markdown_blocks.proofs.GroupLemmas.{IsParagraph, ReadsContent, row-line, text-some}
+use Rattle.markdown_blocks.proofs.LineTexts.{piece}
 use Rattle.markdown_blocks.proofs.RowFacts.{IsRow}
 
 -- Where the lines stand.
@@ -36,7 +37,7 @@ use Rattle.markdown_blocks.proofs.RowFacts.{IsRow}
 -- a line lies within the text
 row-within : (options : ParseOptions) (bytes line : List ℕ) (row : Row) → IsRow options bytes line row → row.kind ≡ TextRow → row.end.index ≤ length bytes
 row-within options bytes line row is text =
-    let some = text-some options line (sym is.kind ∙ text) in
+    let some = text-some options bytes line row is text in
     let size : length (drop row.first.index bytes) ≡ length line + length (drop row.end.index bytes) = ap length (row-line options bytes line row is) ∙ length-append line (drop row.end.index bytes) in
     let left = length-drop row.first.index bytes in
     let more = length-drop row.end.index bytes in

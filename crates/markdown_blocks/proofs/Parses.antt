@@ -1,4 +1,4 @@
--- What a text is read as, where quotes, headings and breaks may be on: its events nest, spell its tree and tile it.
+-- What a text is read as, where only constructs that are built may be on: its events nest, spell its tree and tile it.
 use Rattle.std.proofs.Common.{◌≡◌, ◌^◌, ◌<◌, arith, ℕ, Bool, true, false, suc, List, [], ◌++◌, length, drop, refl, ap, sym, ◌∙◌, subst}
 use Rattle.std.specs.Prelude.{IsTrue}
 use Rattle.std.specs.Str.{IsUtf8}
@@ -10,7 +10,6 @@ use Rattle.md_engine.specs.declared.event.Point.{Point}
 use Rattle.md_engine.specs.Found.{Found}
 use Rattle.md_engine.specs.World.{World}
 use Rattle.md_content.specs.ContentReads.{content_readings, wants_content}
-use Rattle.md_leaves.specs.HeadingText.{headings_resolved}
 use Rattle.md_seam.specs.Events.Endings.{endings_stand}
 use Rattle.md_seam.specs.Events.Grammar.{keeps_grammar, plain_text}
 use Rattle.md_seam.specs.Events.Inline.{pieces}
@@ -27,12 +26,13 @@ use Rattle.markdown_blocks.specs.BlockList.{block_list}
 use Rattle.markdown_blocks.specs.Document.{body_point, mark_events}
 use Rattle.markdown_blocks.specs.FlowReads.{FlowReads, text_cells, text_rows}
 use Rattle.markdown_blocks.specs.Parsed.{IsBuilt, IsSmall, reads_plain}
+use Rattle.markdown_blocks.specs.Registry.{resolved}
 use Rattle.markdown_blocks.specs.Rows.{Row, groups, groups_events}
 use Rattle.markdown_blocks.specs.Unread.{titled_groups, unread_groups}
 use Rattle.markdown_blocks.proofs.BetweenRows.{rows-between}
 use Rattle.markdown_blocks.proofs.EndingRows.{blocks-endings, events-endings}
 use Rattle.markdown_blocks.proofs.GrammarRows.{blocks-grammar, events-grammar}
-use Rattle.markdown_blocks.proofs.GroupLemmas.{content-read, headings-set, text-read}
+use Rattle.markdown_blocks.proofs.GroupLemmas.{content-read, leaves-set, text-read}
 use Rattle.markdown_blocks.proofs.JoinedLemmas.{EachNoContent, rows_at-no_content}
 use Rattle.markdown_blocks.proofs.MarkLemmas.{body-between, body-column, body-index, body-vs, mark-nested, mark-outlined, mark-spelled}
 use Rattle.markdown_blocks.proofs.NestedRows.{Nests, rows-nest}
@@ -67,25 +67,23 @@ content-are options bytes built small found new flow =
     content-read options bytes [] false (body_point bytes) (lines_of bytes) (rows_of options bytes) (text-are options bytes built small) (text-quiet options bytes (body_point bytes))
     wants_content (content_readings bytes options) refl refl (content-reads options options bytes small) flow.content flow.content_read
 
--- Then the text of headings was set.
-titles-are : (options : ParseOptions) (bytes : List ℕ) → IsBuilt options → length bytes < 2 ^ 61 → (found : Found) (new : World) → (flow : FlowReads bytes options (body_point bytes) found new) →
+-- Then the other resolvers ran.
+resolved-are : (options : ParseOptions) (bytes : List ℕ) → IsBuilt options → length bytes < 2 ^ 61 →
+    (found : Found) (new : World) → (flow : FlowReads bytes options (body_point bytes) found new) →
     new.events ≡ titled_groups bytes (groups (rows_of options bytes))
-titles-are options bytes built small found new flow =
+resolved-are options bytes built small found new flow =
     flow.events_are
-    ∙ ap headings_resolved (content-are options bytes built small found new flow)
-    ∙ headings-set options bytes [] false (body_point bytes) (lines_of bytes) (rows_of options bytes) (text-are options bytes built small) (text-quiet options bytes (body_point bytes))
+    ∙ ap resolved (content-are options bytes built small found new flow)
+    ∙ leaves-set options bytes [] false (body_point bytes) (lines_of bytes) (rows_of options bytes) (text-are options bytes built small) (text-quiet options bytes (body_point bytes))
 
 -- And then texts were read.
 pub events-are : (options : ParseOptions) (bytes : List ℕ) → IsBuilt options → length bytes < 2 ^ 61 → (found : Found) (new : World) → FlowReads bytes options (body_point bytes) found new →
     (wants : Content → Bool) (reads : Readings) → wants content.Text ≡ true → ReadsText bytes reads → (events : List Event) → Substituted wants reads [] 0 new.events events →
     events ≡ groups_events bytes (groups (text_rows options bytes (body_point bytes)))
 events-are options bytes built small found new flow wants reads wanted text events substituted =
-    let titled : new.events ≡ titled_groups bytes (groups (rows_of options bytes)) = titles-are options bytes built small found new flow in
+    let before : new.events ≡ titled_groups bytes (groups (rows_of options bytes)) = resolved-are options bytes built small found new flow in
     text-read options bytes [] false (body_point bytes) (lines_of bytes) (rows_of options bytes) (text-are options bytes built small) (text-quiet options bytes (body_point bytes)) wants reads wanted text events
-    (subst (λ (l : List Event). Substituted wants reads [] 0 l events) titled substituted)
-
-text-unlinked : (options : ParseOptions) (bytes : List ℕ) → EachUnlinked (rows_of options bytes)
-text-unlinked options bytes = rows_at-unlinked options (suc (length (text_cells bytes options (body_point bytes)))) [] false (text_cells bytes options (body_point bytes)) (body_point bytes)
+    (subst (λ (l : List Event). Substituted wants reads [] 0 l events) before substituted)
 
 -- With what was read in the place of its chunks, the block list of a text tiles it.
 tiles-are : (options : ParseOptions) (bytes : List ℕ) → IsBuilt options → length bytes < 2 ^ 61 → IsTrue (are_placed bytes (mark_events bytes ++ titled_groups bytes (groups (rows_of options bytes)))) →
@@ -101,8 +99,8 @@ tiles-are options bytes built small placed =
         block_list = record {
           nested = blocks-nested options bytes lines rows are;
           placed = placed;
-          lines = blocks-stand options bytes [] false p lines rows are (text-quiet options bytes p) (text-unlinked options bytes);
-          chunks = blocks-chunks options bytes [] false p lines rows are (text-quiet options bytes p) (text-unlinked options bytes);
+          lines = blocks-stand options bytes [] false p lines rows are (text-quiet options bytes p);
+          chunks = blocks-chunks options bytes [] false p lines rows are (text-quiet options bytes p);
           grammar = blocks-grammar options bytes lines rows are (text-quiet options bytes p);
           pieces_are = blocks-pieces options bytes lines rows are;
           endings = blocks-endings options bytes lines rows are (text-quiet options bytes p);
@@ -166,10 +164,10 @@ parsed-reads options bytes text start found new mark items body events same buil
     let body-is : body ≡ groups_events bytes (groups (rows_of options bytes)) =
     events-are options bytes built here found new from wants reads wanted plain body
     (subst (λ (l : List Event). Substituted wants reads [] 0 l body) are substituted) in
-    let titled : items ≡ titled_groups bytes (groups (rows_of options bytes)) = are ∙ titles-are options bytes built here found new from in
+    let before : items ≡ titled_groups bytes (groups (rows_of options bytes)) = are ∙ resolved-are options bytes built here found new from in
     let front : mark ≡ mark_events text = marks ∙ ap mark_events same in
     let blocks : mark ++ items ≡ mark_events text ++ titled_groups text (groups (rows_of options text)) =
-    ap (λ (l : List Event). l ++ items) front ∙ ap (λ (l : List Event). mark_events text ++ l) (titled ∙ ap (λ (l : List ℕ). titled_groups l (groups (rows_of options l))) same) in
+    ap (λ (l : List Event). l ++ items) front ∙ ap (λ (l : List Event). mark_events text ++ l) (before ∙ ap (λ (l : List ℕ). titled_groups l (groups (rows_of options l))) same) in
     subst (λ (l : List Event). Reads options text l events) (sym blocks)
     (subst (Reads options text (mark_events text ++ titled_groups text (groups (rows_of options text)))) (sym (is ∙ ap (λ (l : List Event). l ++ body) front))
     (text-reads options text built utf8 small body (subst (λ (l : List ℕ). body ≡ groups_events l (groups (rows_of options l))) same body-is)))

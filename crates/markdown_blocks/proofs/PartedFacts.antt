@@ -1,5 +1,5 @@
 -- Events that part no text, and points that cut no tab of a character.
-use Rattle.std.proofs.Common.{◌≡◌, ℕ, ◌+◌, ◌-◌, ◌≤◌, Bool, true, false, cond, ◌&&◌, ◌||◌, List, [], ◌∷◌, ◌++◌, refl, ap, sym, ◌∙◌, subst, append_assoc, arith}
+use Rattle.std.proofs.Common.{◌≡◌, ℕ, ◌+◌, ◌-◌, ◌≤◌, Bool, true, false, cond, ◌&&◌, ◌||◌, List, [], ◌∷◌, ◌++◌, refl, ap, sym, ◌∙◌, subst, append_assoc, arith, slice_range}
 use Rattle.std.specs.Prelude.{◌==◌, slice_index, Option, Some, None}
 use Rattle.md_engine.specs.declared.event.Event.{Event}
 use Rattle.md_engine.specs.declared.event.Kind.{Kind}
@@ -10,9 +10,12 @@ use Rattle.md_seam.specs.declared.inline.Chunk.{Chunk}
 use Rattle.md_seam.specs.Events.Inline.{plain_chunk}
 use Rattle.md_seam.specs.Events.Nested.{around, enter, exit}
 use Rattle.md_seam.specs.Events.Spelled.{IsEnding as EndingRole, IsPrefix as PrefixRole, IsQuiet, Role, Tells, byte_at, role}
+use Rattle.md_seam.specs.Standard.Rest.{is_blank}
+use Rattle.md_seam.specs.Events.Places.{last_line}
+use Rattle.md_seam.specs.Standard.Texts.{split_lines}
 use Rattle.md_seam.proofs.SpelledLemmas.{Quiet, QuietOrEnding, Roles}
 use Rattle.md_outline.specs.Between.{is_between}
-use Rattle.md_outline.specs.Outlined.{TextSpan as Span, are_parted, parts_by, span_by}
+use Rattle.md_outline.specs.Outlined.{TextSpan as Span, are_parted, parts_by, span_by, begins_line}
 use Rattle.markdown_blocks.proofs.PlainRoles.{chunk-roles}
 use Rattle.markdown_blocks.proofs.BetweenFacts.{between-behind, is_low}
 
@@ -109,3 +112,18 @@ from-none bytes s es e h = ap (λ (t : Option Span). are_parted bytes t es) e �
 pub around-sits : (bytes : List ℕ) (name : Name) (p q : Point) (inside : List Event) → Still (role name) → Sits bytes inside → Sits bytes (around name p q inside)
 around-sits bytes name p q inside h k =
     sits-append bytes (enter name p ∷ []) (inside ++ exit name q ∷ []) (sits-still bytes (enter name p ∷ []) (h, tt)) (sits-append bytes inside (exit name q ∷ []) k (sits-still bytes (exit name q ∷ []) (h, tt)))
+
+-- Texts that go on behind a prefix.
+
+-- a prefix may stand behind whitespace from a point on
+abbrev pub Marks : List ℕ → Point → Span → Type 0
+Marks bytes p span = (j : ℕ) → byte_at p ≤ j → is_blank (slice_range bytes p.index j) ≡ true →
+    (begins_line span (slice_range bytes span.from j) ≡ true) × (is_blank (last_line (split_lines (slice_range bytes span.from j))) ≡ true)
+
+-- behind a prefix
+abbrev pub behind_prefix : Point → Span
+behind_prefix q = record { from = byte_at q; is_parted = true }
+
+-- what may part a text where it stands, and leaves its next piece behind it
+abbrev pub PartsText : List ℕ → Point → Point → List Event → Type 0
+PartsText bytes p q es = (span : Span) (rest : List Event) → Marks bytes p span → is_between bytes (byte_at q) ≡ true → are_parted bytes (Some (behind_prefix q)) rest ≡ true → are_parted bytes (Some span) (es ++ rest) ≡ true

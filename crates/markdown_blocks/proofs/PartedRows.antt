@@ -1,6 +1,6 @@
 -- Prefixes part no text but that of a paragraph, and that at the begins of its lines.
-use Rattle.std.proofs.Common.{◌≡◌, ◌⊎◌, inl, inr, ℕ, zero, suc, ◌+◌, ◌-◌, ◌<◌, ◌≤◌, Bool, true, false, cond, ◌&&◌, ◌||◌, List, [], ◌∷◌, ◌++◌, length, get_or, take, drop, slice_range, refl, ap, sym, ◌∙◌, subst, append_assoc, arith}
-use Rattle.std.specs.Prelude.{◌==◌, IsTrue, not, slice_index, Option, Some, None}
+use Rattle.std.proofs.Common.{◌≡◌, ◌⊎◌, inl, inr, ℕ, zero, suc, ◌+◌, ◌-◌, ◌<◌, ◌≤◌, Bool, true, false, cond, ◌||◌, List, [], ◌∷◌, ◌++◌, length, get_or, take, drop, slice_range, refl, ap, sym, ◌∙◌, subst, append_assoc, arith, ◌≢◌}
+use Rattle.std.specs.Prelude.{◌==◌, not, slice_index, Option, Some, None}
 use Rattle.std.specs.List.{onto_first}
 use Rattle.std.proofs.lemmas.Bool.{and_from, and_parts, true≢false}
 use Rattle.std.proofs.lemmas.Bool.Decides.{nat_tests}
@@ -11,62 +11,48 @@ use Rattle.md_engine.specs.declared.event.Event.{Event}
 use Rattle.md_engine.specs.declared.event.Name.{Name}
 use Rattle.md_engine.specs.declared.event.Name.TheVariants as n
 use Rattle.md_engine.specs.declared.event.Point.{Point}
-use Rattle.md_leaves.specs.HeadingRule.{is_heading, opens}
 use Rattle.md_seam.specs.declared.inline.Chunk.{Chunk}
 use Rattle.md_seam.specs.Events.Inline.{plain_chunk}
-use Rattle.md_seam.specs.Standard.Leaves.{is_rule}
 use Rattle.md_seam.specs.Standard.Lines.{begins_with, ends_line, is_ending}
 use Rattle.md_seam.specs.Events.Nested.{around, enter, exit, pair}
-use Rattle.md_seam.specs.Events.Places.{at_or_before, last_line, same_place}
-use Rattle.md_seam.specs.Standard.Rest.{Rest, is_blank, is_white, trim_start}
+use Rattle.md_seam.specs.Events.Places.{last_line}
+use Rattle.md_seam.specs.Standard.Rest.{Rest, is_blank, is_white}
 use Rattle.md_seam.specs.Events.Spelled.{byte_at, role}
-use Rattle.md_seam.specs.Standard.State.{Container, InFootnote, InItem, InQuote}
+use Rattle.md_seam.specs.Standard.State.{Container}
 use Rattle.md_seam.specs.Standard.Texts.{split_lines}
 use Rattle.md_seam.proofs.RestCells.{Cut}
 use Rattle.md_seam.proofs.SpelledLemmas.{Roles, roles-append}
 use Rattle.md_seam.proofs.TextsLemmas.{Both, Ending, EndsBefore, LineFeed, NoEnding, Return, ending_bytes, split-line, split-next}
 use Rattle.md_outline.specs.Between.{is_between}
 use Rattle.md_outline.specs.Outlined.{TextSpan as Span, are_parted, begins_line}
-use Rattle.markdown_blocks.specs.Change.{container_name, ends_of, is_none}
+use Rattle.markdown_blocks.specs.Change.{ends_of, is_none}
 use Rattle.markdown_blocks.specs.Fronted.{contained, cut_tab, rest_from, rest_line}
-use Rattle.markdown_blocks.specs.Rows.{BlankRow, Group, Lines, Row, RowKind, Single, TextRow, behind_row, ending_events, goes_on, groups, groups_events, is_text, last_row, line_kind, onto_groups, read_lines, row_line, single_events_by, tail_events}
-use Rattle.markdown_blocks.proofs.BetweenRows.{further-between}
+use Rattle.markdown_blocks.specs.Rows.{BlankRow, Group, Lines, Row, RowKind, Single, TextRow, behind_row, ending_events, goes_on, groups, groups_events, is_text, last_row, line_kind, onto_groups, read_lines, tail_events, LeafRow, ending_of, leaf_done, kind_of}
+use Rattle.markdown_blocks.specs.Registry.{first_of, leaf, trials}
 use Rattle.markdown_blocks.proofs.ContainedLemmas.{none-nil}
-use Rattle.markdown_blocks.proofs.FrontFacts.{Begins, Behind, LinePrefix, Goes, IsContinuationPrefix, IsOpeningPrefix, IsPrefix}
+use Rattle.markdown_blocks.proofs.FrontFacts.{Begins, Behind, LinePrefix, Goes}
 use Rattle.markdown_blocks.proofs.FrontLemmas.{ends-roles, fronts-roles}
-use Rattle.markdown_blocks.proofs.FrontPlaces.{byte-order}
-use Rattle.markdown_blocks.proofs.RowFacts.{AreRows, IsEnding, IsLine, behind_line, slice-split}
-use Rattle.markdown_blocks.proofs.HeadingAtx.Places.{blank-no_heading, break-no_heading}
-use Rattle.markdown_blocks.proofs.PartedFacts.{Sits, Still, around-sits, byte-from, clear, clear-between, low-clear, passes-chunk, quiets-still, sits-append, sits-still}
-use Rattle.markdown_blocks.proofs.HeadingAtx.Parted.{title-sits}
-use Rattle.markdown_blocks.specs.Leaf.HeadingAtx.{read_title}
-use Rattle.markdown_blocks.proofs.BetweenFacts.{ending-behind, is_low, white-at}
+use Rattle.markdown_blocks.proofs.RowFacts.{AreRows, IsEnding, IsLine, behind_line, slice-split, IsRow}
+use Rattle.markdown_blocks.proofs.PartedFacts.{Sits, Still, byte-from, clear, clear-between, low-clear, passes-chunk, sits-append, sits-still, Marks, behind_prefix}
+use Rattle.markdown_blocks.proofs.BetweenFacts.{ending-behind, is_low}
+use Rattle.markdown_blocks.proofs.RowLeaf.{row-leaf}
+use Rattle.markdown_blocks.proofs.ContainerFacts.{continues-facts, opens-facts}
+use Rattle.markdown_blocks.proofs.PrefixFacts.{Continues}
+use Rattle.markdown_blocks.proofs.ContainerNames.{container-still}
 
 -- Points that cut a tab.
 
--- a prefix begins at such a point, and so does what stands in front of a line whose rest does
-prefix-clear : (bytes : List ℕ) (p q : Point) (es : List Event) → IsPrefix bytes p q es → clear bytes p ≡ true
-prefix-clear bytes p q es is = low-clear bytes p (λ e. white-at bytes p.index is.marker.index p.index is.white_before (omega arith) (before is.marker is.indent is.marker_whole e))
-  where
-    before : (m : Point) → IsTrue (at_or_before p m) → m.vs ≡ 0 → (p.vs == 0) ≡ false → p.index < m.index
-    before m h w e = grind (arith, nat_tests)
-
-further-clear : (bytes : List ℕ) (c : Container) (p q : Point) (es : List Event) → IsContinuationPrefix bytes c p q es → clear bytes p ≡ true
-further-clear bytes InQuote p q es is = prefix-clear bytes p q es is
-further-clear bytes c p q es is = absurd is
-
-opening-clear : (bytes : List ℕ) (c : Container) (p q : Point) (es : List Event) → IsOpeningPrefix bytes c p q es → clear bytes p ≡ true
-opening-clear bytes InQuote p q es is = prefix-clear bytes p q es is
-opening-clear bytes c p q es is = absurd is
-
-fronts-clear : (bytes : List ℕ) (opens : List Container) (p q : Point) (front : List Event) → LinePrefix bytes opens p q front → clear bytes q ≡ true → clear bytes p ≡ true
+-- what stands in front of a line begins at such a point, if its rest does
+fronts-clear : (bytes : List ℕ) (opens : List Container) (p q : Point) (front : List Event) →
+    LinePrefix bytes opens p q front → clear bytes q ≡ true → clear bytes p ≡ true
 fronts-clear bytes _ p _ _ (Behind _) h = h
-fronts-clear bytes opens p r _ (Goes c _ _ q _ es fs is more) h = further-clear bytes c p q es is
-fronts-clear bytes _ p r _ (Begins c opens _ q _ es fs is more) h = opening-clear bytes c p q es is
+fronts-clear bytes opens p r _ (Goes c _ _ q _ es fs is more) h = (continues-facts bytes c p q es is).common.clear
+fronts-clear bytes _ p r _ (Begins c opens _ q _ es fs is more) h = (opens-facts bytes c p q es is).common.clear
 
 -- Slices.
 
-begins-slice : (bytes : List ℕ) (i j : ℕ) → (slice_index bytes i == 10) ≡ false → begins_with 10 (slice_range bytes i j) ≡ false
+begins-slice : (bytes : List ℕ) (i j : ℕ) → (slice_index bytes i == 10) ≡ false →
+    begins_with 10 (slice_range bytes i j) ≡ false
 begins-slice bytes i j h =
     let same : i + 0 ≡ i = omega arith in
     let first : get_or (drop i bytes) 0 0 ≡ slice_index bytes i = get_or-drop i bytes 0 0 ∙ ap (λ (k : ℕ). get_or bytes k 0) same in
@@ -108,7 +94,8 @@ end-blank (line ∷ []) h = absurd h
 end-blank (line ∷ next ∷ lines) h = h
 
 -- a text that ends with an ending and whitespace
-ended-blank : (text : List ℕ) (ending : Ending) (white : List ℕ) → is_blank white ≡ true → EndBlank (split_lines (text ++ (ending_bytes ending ++ white)))
+ended-blank : (text : List ℕ) (ending : Ending) (white : List ℕ) → is_blank white ≡ true →
+    EndBlank (split_lines (text ++ (ending_bytes ending ++ white)))
 ended-blank [] ending white h =
     let lines : split_lines (ending_bytes ending ++ white) ≡ [] ∷ white ∷ [] = split-next [] ending white tt (before ending) ∙ ap (λ (ls : List (List ℕ)). [] ∷ ls) (split-line white (blank-plain white h)) in
     subst EndBlank (sym lines) h
@@ -121,7 +108,8 @@ ended-blank (b ∷ text) ending white h =
     let rest : List ℕ = text ++ (ending_bytes ending ++ white) in
     go (split_lines rest) (ended-blank text ending white h) (ends_line b rest) (is_ending b)
   where
-    go : (lines : List (List ℕ)) → EndBlank lines → (x y : Bool) → EndBlank (cond x ([] ∷ lines) (cond y lines (onto_first b lines)))
+    go : (lines : List (List ℕ)) → EndBlank lines → (x y : Bool) →
+        EndBlank (cond x ([] ∷ lines) (cond y lines (onto_first b lines)))
     go [] k x y = absurd k
     go (line ∷ []) k x y = absurd k
     go (line ∷ next ∷ lines) k true y = k
@@ -134,32 +122,27 @@ ended-blank (b ∷ text) ending white h =
 abbrev Fine : List ℕ → Span → Type 0
 Fine bytes span = (not span.is_parted || not (slice_index bytes span.from == 10)) ≡ true
 
-begins-fine : (bytes : List ℕ) (span : Span) (j : ℕ) → Fine bytes span → begins_line span (slice_range bytes span.from j) ≡ true
+begins-fine : (bytes : List ℕ) (span : Span) (j : ℕ) → Fine bytes span →
+    begins_line span (slice_range bytes span.from j) ≡ true
 begins-fine bytes span j h = go span.is_parted h
   where
     other : (x : Bool) → not x ≡ true → x ≡ false
     other true h = absurd (true≢false (sym h))
     other false h = refl
 
-    go : (x : Bool) → (not x || not (slice_index bytes span.from == 10)) ≡ true → (not x || not (begins_with 10 (slice_range bytes span.from j))) ≡ true
+    go : (x : Bool) → (not x || not (slice_index bytes span.from == 10)) ≡ true →
+        (not x || not (begins_with 10 (slice_range bytes span.from j))) ≡ true
     go false h = refl
     go true h = ap not (begins-slice bytes span.from j (other (slice_index bytes span.from == 10) h))
 
--- a prefix may stand behind whitespace from a point on
-abbrev Marks : List ℕ → Point → Span → Type 0
-Marks bytes p span = (j : ℕ) → byte_at p ≤ j → is_blank (slice_range bytes p.index j) ≡ true →
-    (begins_line span (slice_range bytes span.from j) ≡ true) × (is_blank (last_line (split_lines (slice_range bytes span.from j))) ≡ true)
-
--- behind a prefix
-abbrev behind_prefix : Point → Span
-behind_prefix q = record { from = byte_at q; is_parted = true }
-
+-- behind a prefix a further one may stand
 marks-behind : (bytes : List ℕ) (q : Point) → Marks bytes q (behind_prefix q)
 marks-behind bytes q j h blank =
     let white : is_blank (slice_range bytes (byte_at q) j) ≡ true = rest (q.vs == 0) h in
     (ap not (blank-begins (slice_range bytes (byte_at q) j) white), blank-last (slice_range bytes (byte_at q) j) white)
   where
-    rest : (x : Bool) → cond x q.index (q.index + 1) ≤ j → is_blank (slice_range bytes (cond x q.index (q.index + 1)) j) ≡ true
+    rest : (x : Bool) → cond x q.index (q.index + 1) ≤ j →
+        is_blank (slice_range bytes (cond x q.index (q.index + 1)) j) ≡ true
     rest true h = blank
     rest false h =
         let one : List ℕ = slice_range bytes q.index (q.index + 1) in
@@ -167,46 +150,18 @@ marks-behind bytes q j h blank =
         let both : is_blank (one ++ more) ≡ true = ap is_blank (sym (slice-split bytes q.index (q.index + 1) j (omega arith) h)) ∙ blank in
         (and_parts (is_blank one) (is_blank more) (sym (list_all-append is_white one more) ∙ both)).1
 
--- a prefix in a text
-prefix-parted : (bytes : List ℕ) (p q : Point) (es : List Event) (span : Span) (rest : List Event) → IsPrefix bytes p q es → Marks bytes p span → is_between bytes (byte_at q) ≡ true → are_parted bytes (Some (behind_prefix q)) rest ≡ true → are_parted bytes (Some span) (es ++ rest) ≡ true
-prefix-parted bytes p q es span rest is marks between more = subst (λ (l : List Event). are_parted bytes (Some span) (l ++ rest) ≡ true) (sym is.events) (go (same_place p is.marker) (same_place is.behind q))
-  where
-    marker : Point
-    marker = is.marker
-
-    behind : Point
-    behind = is.behind
-
-    piece : List ℕ
-    piece = slice_range bytes span.from marker.index
-
-    step : ((begins_line span piece && is_blank (last_line (split_lines piece))) && (is_between bytes (byte_at q) && are_parted bytes (Some (behind_prefix q)) rest)) ≡ true
-    step =
-        let at = marks marker.index (byte-order p marker is.indent is.marker_whole) is.white_before in
-        and_from (begins_line span piece && is_blank (last_line (split_lines piece))) (is_between bytes (byte_at q) && are_parted bytes (Some (behind_prefix q)) rest)
-        (and_from (begins_line span piece) (is_blank (last_line (split_lines piece))) at.0 at.1)
-        (and_from (is_between bytes (byte_at q)) (are_parted bytes (Some (behind_prefix q)) rest) between more)
-
-    go : (x y : Bool) →
-        are_parted bytes (Some span) ((cond x [] (pair n.SpaceOrTab p marker) ++ enter n.BlockQuotePrefix marker ∷ enter n.BlockQuoteMarker marker ∷ exit n.BlockQuoteMarker behind ∷ cond y [] (pair n.SpaceOrTab behind q) ++ exit n.BlockQuotePrefix q ∷ []) ++ rest) ≡ true
-    go true true = step
-    go true false = step
-    go false true = step
-    go false false = step
-
--- what stands in a text in front of the content of a container that goes on
-further-parted : (bytes : List ℕ) (c : Container) (p q : Point) (es : List Event) (span : Span) (rest : List Event) → IsContinuationPrefix bytes c p q es → Marks bytes p span → is_between bytes (byte_at q) ≡ true → are_parted bytes (Some (behind_prefix q)) rest ≡ true → are_parted bytes (Some span) (es ++ rest) ≡ true
-further-parted bytes InQuote p q es span rest is marks between more = prefix-parted bytes p q es span rest is marks between more
-further-parted bytes c p q es span rest is marks between more = absurd is
-
 -- what stands in front of a further line of a text
-fronts-parted : (bytes : List ℕ) (opens : List Container) (p q : Point) (front : List Event) (span : Span) (rest : List Event) → LinePrefix bytes opens p q front → opens ≡ [] → is_between bytes p.index ≡ true → clear bytes q ≡ true → Marks bytes p span →
-    ((next : Span) → ((next ≡ span) × (p ≡ q)) ⊎ (next ≡ behind_prefix q) → are_parted bytes (Some next) rest ≡ true) → are_parted bytes (Some span) (front ++ rest) ≡ true
+fronts-parted : (bytes : List ℕ) (opens : List Container) (p q : Point) (front : List Event) (span : Span) (rest : List Event) →
+    LinePrefix bytes opens p q front → opens ≡ [] → is_between bytes p.index ≡ true → clear bytes q ≡ true →
+    Marks bytes p span →
+    ((next : Span) → ((next ≡ span) × (p ≡ q)) ⊎ (next ≡ behind_prefix q) → are_parted bytes (Some next) rest ≡ true) →
+    are_parted bytes (Some span) (front ++ rest) ≡ true
 fronts-parted bytes _ p _ _ span rest (Behind _) e between at marks f = f span (inl (refl, refl))
 fronts-parted bytes opens p r _ span rest (Goes c _ _ q _ es fs is more) e between at marks f =
-    let here = further-between bytes c p q es between is in
-    let onward : are_parted bytes (Some (behind_prefix q)) (fs ++ rest) ≡ true = fronts-parted bytes opens q r fs (behind_prefix q) rest more e here.1 at (marks-behind bytes q) (λ next k. f next (inr (same next k))) in
-    ap (are_parted bytes (Some span)) (append_assoc es fs rest) ∙ further-parted bytes c p q es span (fs ++ rest) is marks (clear-between bytes q (fronts-clear bytes opens q r fs more at) here.1) onward
+    let facts : Continues bytes p q es = continues-facts bytes c p q es is in
+    let behind : is_between bytes q.index ≡ true = (facts.common.between between).1 in
+    let onward : are_parted bytes (Some (behind_prefix q)) (fs ++ rest) ≡ true = fronts-parted bytes opens q r fs (behind_prefix q) rest more e behind at (marks-behind bytes q) (λ next k. f next (inr (same next k))) in
+    ap (are_parted bytes (Some span)) (append_assoc es fs rest) ∙ facts.parted span (fs ++ rest) marks (clear-between bytes q (fronts-clear bytes opens q r fs more at) behind) onward
   where
     same : (next : Span) → ((next ≡ behind_prefix q) × (q ≡ r)) ⊎ (next ≡ behind_prefix r) → next ≡ behind_prefix r
     same next (inl c) = c.0 ∙ ap behind_prefix c.1
@@ -214,12 +169,6 @@ fronts-parted bytes opens p r _ span rest (Goes c _ _ q _ es fs is more) e betwe
 fronts-parted bytes _ p r _ span rest (Begins c opens _ q _ es fs is more) e between at marks f = cc
 
 -- Events outside of texts.
-
--- so is the name of a container
-container-still : (c : Container) → Still (role (container_name c))
-container-still InQuote = tt
-container-still (InItem digits marker width starts_blank) = tt
-container-still (InFootnote label) = tt
 
 -- the ends of containers, and an ending
 sits-tail : (bytes : List ℕ) (name : Name) (row : Row) → Still (role name) → Sits bytes (tail_events name row)
@@ -229,24 +178,18 @@ sits-tail bytes name row h = sits-still bytes (tail_events name row) (roles-appe
     go None = tt
     go (Some q) = (h, (h, tt))
 
--- Headings.
+-- A line that is no text.
 
--- Lines that are no text.
+-- whatever ends it
+ending-still : (kind : RowKind) → Still (role (ending_of kind))
+ending-still BlankRow = tt
+ending-still (LeafRow l) = tt
+ending-still TextRow = tt
 
-line-sits : (bytes : List ℕ) (name : Name) (front inside : List Event) (row : Row) → Still (role name) → Roles Still front → Sits bytes inside → Sits bytes (front ++ inside ++ tail_events name row)
+-- what stands in front of it, its leaf, and what stands behind it
+line-sits : (bytes : List ℕ) (name : Name) (front inside : List Event) (row : Row) → Still (role name) →
+    Roles Still front → Sits bytes inside → Sits bytes (front ++ inside ++ tail_events name row)
 line-sits bytes name front inside row u h k = sits-append bytes (front ++ inside) (tail_events name row) (sits-append bytes front inside (sits-still bytes front h) k) (sits-tail bytes name row u)
-
-blank-sits : (bytes : List ℕ) (row : Row) → Roles Still row.front → IsInside row → Sits bytes (single_events_by bytes BlankRow row)
-blank-sits bytes row front inside = line-sits bytes n.BlankLineEnding row.front row.inside row tt front (sits-still bytes row.inside (quiets-still row.inside inside.quiet))
-
-break-sits : (bytes : List ℕ) (row : Row) → Roles Still row.front → IsInside row → Sits bytes (single_events_by bytes BreakRow row)
-break-sits bytes row front inside =
-    line-sits bytes n.LineEnding row.front (around n.ThematicBreak row.first row.end row.inside) row tt front (around-sits bytes n.ThematicBreak row.first row.end row.inside tt (sits-still bytes row.inside (quiets-still row.inside inside.quiet)))
-
-heading-sits : (bytes : List ℕ) (row : Row) → Roles Still row.front → Sits bytes (single_events_by bytes HeadingRow row)
-heading-sits bytes row front =
-    let inside : List Event = read_title bytes (row_title bytes row) in
-    line-sits bytes n.LineEnding row.front (around n.HeadingAtx row.first row.end inside) row tt front (around-sits bytes n.HeadingAtx row.first row.end inside tt (title-sits bytes (row_line bytes row) row.first))
 
 -- Lines of text.
 
@@ -256,7 +199,8 @@ record BeginsText (bytes : List ℕ) (row : Row) : Type 0 where
   within : byte_at row.first ≤ row.end.index
 
 -- a line of text ends in front of an ending, behind which prefixes may stand
-marks-ended : (bytes : List ℕ) (p q : Point) (span : Span) → IsEnding bytes p q → Fine bytes span → span.from ≤ p.index → Marks bytes q span
+marks-ended : (bytes : List ℕ) (p q : Point) (span : Span) → IsEnding bytes p q → Fine bytes span →
+    span.from ≤ p.index → Marks bytes q span
 marks-ended bytes p q span ending fine within j h blank =
     let size : p.index ≤ q.index = omega (arith, ending.size) in
     let further : q.index ≤ j = later (byte-from q) h in
@@ -293,7 +237,9 @@ record Parted (bytes : List ℕ) (p : Point) (gs : List Group) : Type 0 where
   after : After bytes p gs
 
 -- a paragraph, by its text
-text-parted : (bytes : List ℕ) (p : Point) (row : Row) (rows : List Row) (gs : List Group) → LinePrefix bytes row.change.opens p row.first row.front → clear bytes row.first ≡ true → BeginsText bytes row → Core bytes row (read_lines bytes row rows ++ behind_text bytes (last_row row rows) gs) →
+text-parted : (bytes : List ℕ) (p : Point) (row : Row) (rows : List Row) (gs : List Group) →
+    LinePrefix bytes row.change.opens p row.first row.front → clear bytes row.first ≡ true → BeginsText bytes row →
+    Core bytes row (read_lines bytes row rows ++ behind_text bytes (last_row row rows) gs) →
     Parted bytes p (Lines row rows ∷ gs)
 text-parted bytes p row rows gs front at begins core =
     let last : Row = last_row row rows in
@@ -314,21 +260,26 @@ text-parted bytes p row rows gs front at begins core =
     later : (a b c d : ℕ) → a ≤ b → b ≤ c → c ≤ d → a ≤ d
     later a b c d h k l = omega (arith, h, k, l)
 
-    next : (span : Span) → Fine bytes span → span.from ≤ p.index → (after : Span) → ((after ≡ span) × (p ≡ row.first)) ⊎ (after ≡ behind_prefix row.first) → are_parted bytes (Some after) (read_lines bytes row rows ++ behind_text bytes (last_row row rows) gs) ≡ true
+    next : (span : Span) → Fine bytes span → span.from ≤ p.index → (after : Span) →
+        ((after ≡ span) × (p ≡ row.first)) ⊎ (after ≡ behind_prefix row.first) →
+        are_parted bytes (Some after) (read_lines bytes row rows ++ behind_text bytes (last_row row rows) gs) ≡ true
     next span fine within after (inl c) =
         let from : span.from ≤ row.end.index = later span.from p.index (byte_at row.first) row.end.index within (subst (λ (q : Point). p.index ≤ byte_at q) c.1 (byte-from p)) begins.within in
         core after (subst (Fine bytes) (sym c.0) fine) (subst (λ (s : Span). s.from ≤ row.end.index) (sym c.0) from)
     next span fine within after (inr c) = core after (subst (Fine bytes) (sym c) begins.fine) (subst (λ (s : Span). s.from ≤ row.end.index) (sym c) begins.within)
 
 -- the last line of a paragraph
-core-alone : (bytes : List ℕ) (row : Row) (gs : List Group) → are_parted bytes None (groups_events bytes gs) ≡ true → Core bytes row (read_lines bytes row [] ++ behind_text bytes row gs)
+core-alone : (bytes : List ℕ) (row : Row) (gs : List Group) → are_parted bytes None (groups_events bytes gs) ≡ true →
+    Core bytes row (read_lines bytes row [] ++ behind_text bytes row gs)
 core-alone bytes row gs h span fine within =
     passes-chunk bytes (Some span) (record { first = row.first; after = row.end }) (behind_text bytes row gs)
     ∙ and_from (begins_line span (slice_range bytes span.from row.end.index)) (are_parted bytes None (tail_events n.LineEnding row ++ groups_events bytes gs))
     (begins-fine bytes span row.end.index fine) (sits-tail bytes n.LineEnding row tt (groups_events bytes gs) h)
 
 -- a line in front of another
-core-next : (bytes : List ℕ) (row below : Row) (rows : List Row) (gs : List Group) (q : Point) → IsEnding bytes row.end q → below.change.opens ≡ [] → After bytes q (Lines below rows ∷ gs) → Core bytes row (read_lines bytes row (below ∷ rows) ++ behind_text bytes (last_row row (below ∷ rows)) gs)
+core-next : (bytes : List ℕ) (row below : Row) (rows : List Row) (gs : List Group) (q : Point) →
+    IsEnding bytes row.end q → below.change.opens ≡ [] → After bytes q (Lines below rows ∷ gs) →
+    Core bytes row (read_lines bytes row (below ∷ rows) ++ behind_text bytes (last_row row (below ∷ rows)) gs)
 core-next bytes row below rows gs q ending none after span fine within =
     let chunk : Chunk = record { first = row.first; after = behind_row row } in
     let events : List Event = plain_chunk bytes chunk in
@@ -343,35 +294,40 @@ core-next bytes row below rows gs q ending none after span fine within =
 -- Rows.
 
 -- a byte of a line
-line-at : (bytes line : List ℕ) (a e k b : ℕ) → slice_range bytes a e ≡ line → e ≡ a + length line → k < length line → get_or line k 0 ≡ b → slice_index bytes (a + k) ≡ b
+line-at : (bytes line : List ℕ) (a e k b : ℕ) → slice_range bytes a e ≡ line → e ≡ a + length line → k < length line →
+    get_or line k 0 ≡ b → slice_index bytes (a + k) ≡ b
 line-at bytes line a e k b text size h at =
     sym (get_or-drop a bytes k 0) ∙ sym (get_or-take (e - a) (drop a bytes) k 0 (omega (arith, size, h))) ∙ ap (λ (l : List ℕ). get_or l k 0) text ∙ at
 
 -- a line that begins within a tab begins with it
-line-clear : (bytes : List ℕ) (row : Row) (spaces : ℕ) (rest : List ℕ) → Cut spaces row.first → slice_range bytes row.first.index row.end.index ≡ cut_tab spaces ++ rest → row.end.index ≡ row.first.index + length (cut_tab spaces ++ rest) → clear bytes row.first ≡ true
+line-clear : (bytes : List ℕ) (row : Row) (spaces : ℕ) (rest : List ℕ) → Cut spaces row.first →
+    slice_range bytes row.first.index row.end.index ≡ cut_tab spaces ++ rest →
+    row.end.index ≡ row.first.index + length (cut_tab spaces ++ rest) → clear bytes row.first ≡ true
 line-clear bytes row zero rest cut text size = ap (λ (v : ℕ). (v == 0) || is_between bytes (byte_at row.first)) cut
 line-clear bytes row (suc spaces) rest cut text size =
     let zero_at : row.first.index + 0 ≡ row.first.index = omega arith in
     let tab : slice_index bytes row.first.index ≡ 9 = ap (slice_index bytes) (sym zero_at) ∙ line-at bytes (9 ∷ rest) row.first.index row.end.index 0 9 text size (omega arith) refl in
     low-clear bytes row.first (λ e. subst (λ (b : ℕ). is_low b ≡ true) (sym tab) refl)
 
-pub rest-clear : (options : ParseOptions) (bytes : List ℕ) (open_before : List Container) (going : Bool) (p : Point) (line : List ℕ) (row : Row) → IsLine options bytes open_before going p line row → clear bytes row.first ≡ true
-rest-clear options bytes open_before going p line row is =
-    let rest : Rest = (contained options open_before going (rest_from p line)).rest in
-    line-clear bytes row rest.spaces rest.bytes is.cut is.is.text is.is.size
+pub rest-clear : (options : ParseOptions) (bytes line : List ℕ) (row : Row) → IsRow options bytes line row →
+    clear bytes row.first ≡ true
+rest-clear options bytes line row is =
+    line-clear bytes row is.rest.spaces is.rest.bytes is.cut (is.text ∙ is.line_is) (is.size ∙ ap (λ (l : List ℕ). row.first.index + length l) is.line_is)
 
 -- a line of text is not blank
-text-nonblank : (options : ParseOptions) (line : List ℕ) → line_kind options line ≡ TextRow → is_blank line ≡ false
-text-nonblank options line = go (is_blank line) (options.constructs.heading_atx && is_heading (trim_start line)) (options.constructs.thematic_break && is_rule (trim_start line))
+text-nonblank : (options : ParseOptions) (r : Rest) → line_kind options r ≡ TextRow → is_blank r.bytes ≡ false
+text-nonblank options r = go (is_blank r.bytes)
   where
-    go : (x y z : Bool) → cond x BlankRow (cond y HeadingRow (cond z BreakRow TextRow)) ≡ TextRow → x ≡ false
-    go true y z h = cc
-    go false y z h = refl
+    go : (x : Bool) → cond x BlankRow (kind_of (first_of (λ l. (leaf l).starts options r) trials)) ≡ TextRow → x ≡ false
+    go true h = cc
+    go false h = refl
 
 feed-none : (b : ℕ) → is_ending b ≡ false → not (b == 10) ≡ true
 feed-none b h = grind (arith, nat_tests)
 
-line-begins : (bytes : List ℕ) (row : Row) (spaces : ℕ) (rest : List ℕ) → Cut spaces row.first → slice_range bytes row.first.index row.end.index ≡ cut_tab spaces ++ rest → row.end.index ≡ row.first.index + length (cut_tab spaces ++ rest) → is_blank (cut_tab spaces ++ rest) ≡ false →
+line-begins : (bytes : List ℕ) (row : Row) (spaces : ℕ) (rest : List ℕ) → Cut spaces row.first →
+    slice_range bytes row.first.index row.end.index ≡ cut_tab spaces ++ rest →
+    row.end.index ≡ row.first.index + length (cut_tab spaces ++ rest) → is_blank rest ≡ false →
     NoEnding (cut_tab spaces ++ rest) → BeginsText bytes row
 line-begins bytes row zero [] cut text size blank none = absurd (true≢false blank)
 line-begins bytes row zero (b ∷ rest) cut text size blank none =
@@ -388,10 +344,10 @@ line-begins bytes row (suc spaces) (b ∷ rest) cut text size blank none =
     positive : (v : ℕ) → 0 < v → (v == 0) ≡ false
     positive v h = grind (arith, nat_tests)
 
-text-begins : (options : ParseOptions) (bytes : List ℕ) (open_before : List Container) (going : Bool) (p : Point) (line : List ℕ) (row : Row) → IsLine options bytes open_before going p line row → row.kind ≡ TextRow → BeginsText bytes row
-text-begins options bytes open_before going p line row is e =
-    let rest : Rest = (contained options open_before going (rest_from p line)).rest in
-    line-begins bytes row rest.spaces rest.bytes is.cut is.is.text is.is.size (text-nonblank options (rest_line rest) (sym is.is.kind ∙ e)) is.is.no_ending
+text-begins : (options : ParseOptions) (bytes line : List ℕ) (row : Row) → IsRow options bytes line row →
+    row.kind ≡ TextRow → BeginsText bytes row
+text-begins options bytes line row is e =
+    line-begins bytes row is.rest.spaces is.rest.bytes is.cut (is.text ∙ is.line_is) (is.size ∙ ap (λ (l : List ℕ). row.first.index + length l) is.line_is) (text-nonblank options is.rest (sym is.kind ∙ e)) (subst NoEnding is.line_is is.no_ending)
 
 -- behind a line stands an ending, if lines of text follow it
 abbrev Linked : List ℕ → Row → Point → List Group → Type 0
@@ -399,37 +355,43 @@ Linked bytes row q [] = Unit {0}
 Linked bytes row q (group ∷ gs) = IsEnding bytes row.end q
 
 -- a line in front of others
-onto-parted : (options : ParseOptions) (bytes : List ℕ) (open_before : List Container) (going : Bool) (p q : Point) (line : List ℕ) (row : Row) (gs : List Group) → IsLine options bytes open_before going p line row → Linked bytes row q gs → Parted bytes q gs → (kind : RowKind) → row.kind ≡ kind → Parted bytes p (onto_groups row kind gs)
+onto-parted : (options : ParseOptions) (bytes : List ℕ) (open_before : List Container) (going : Bool) (p q : Point) (line : List ℕ) (row : Row) (gs : List Group) →
+    IsLine options bytes open_before going p line row → Linked bytes row q gs → Parted bytes q gs → (kind : RowKind) →
+    row.kind ≡ kind → Parted bytes p (onto_groups row kind gs)
 onto-parted options bytes open_before going p q line row gs is linked h kind e = go kind e gs linked h
   where
-    front : Roles Still row.front
-    front = fronts-roles Still bytes row.change.opens p row.first row.front tt tt container-still is.front
+    rest : List ℕ
+    rest = rest_line (contained options open_before going (rest_from p line)).rest
 
-    single : (kind : RowKind) → row.kind ≡ kind → (gs : List Group) → Parted bytes q gs → Sits bytes (single_events_by bytes kind row) → Parted bytes p (Single row ∷ gs)
-    single kind e gs h sits = record {
-      apart = subst (λ (k : RowKind). are_parted bytes None (single_events_by bytes k row ++ groups_events bytes gs) ≡ true) (sym e) (sits (groups_events bytes gs) h.apart);
-      after = tt;
-    }
+    single : row.kind ≢ TextRow → (gs : List Group) → Parted bytes q gs → Parted bytes p (Single row ∷ gs)
+    single other gs h =
+        let front : Roles Still row.front = fronts-roles Still bytes row.change.opens p row.first row.front tt tt container-still is.front in
+        let leaf : Sits bytes (leaf_done bytes row.kind row) = (row-leaf options bytes rest row is.is other).1.parted in
+        record { apart = line-sits bytes (ending_of row.kind) row.front (leaf_done bytes row.kind row) row (ending-still row.kind) front leaf (groups_events bytes gs) h.apart; after = tt }
 
-    text : row.kind ≡ TextRow → (rows : List Row) (gs : List Group) → Core bytes row (read_lines bytes row rows ++ behind_text bytes (last_row row rows) gs) → Parted bytes p (Lines row rows ∷ gs)
-    text e rows gs core = text-parted bytes p row rows gs is.front (rest-clear options bytes open_before going p line row is) (text-begins options bytes open_before going p line row is e) core
+    text : row.kind ≡ TextRow → (rows : List Row) (gs : List Group) →
+        Core bytes row (read_lines bytes row rows ++ behind_text bytes (last_row row rows) gs) →
+        Parted bytes p (Lines row rows ∷ gs)
+    text e rows gs core = text-parted bytes p row rows gs is.front (rest-clear options bytes rest row is.is) (text-begins options bytes rest row is.is e) core
 
-    go : (kind : RowKind) → row.kind ≡ kind → (gs : List Group) → Linked bytes row q gs → Parted bytes q gs → Parted bytes p (onto_groups row kind gs)
-    go BlankRow e gs linked h = single BlankRow e gs h (blank-sits bytes row front (is.is.inside (blank-no_heading row.kind e)))
-    go HeadingRow e gs linked h = single HeadingRow e gs h (heading-sits bytes row front)
-    go BreakRow e gs linked h = single BreakRow e gs h (break-sits bytes row front (is.is.inside (break-no_heading row.kind e)))
+    go : (kind : RowKind) → row.kind ≡ kind → (gs : List Group) → Linked bytes row q gs → Parted bytes q gs →
+        Parted bytes p (onto_groups row kind gs)
+    go BlankRow e gs linked h = single (λ k. cc) gs h
+    go (LeafRow l) e gs linked h = single (λ k. cc) gs h
     go TextRow e [] linked h = text e [] [] (core-alone bytes row [] h.apart)
     go TextRow e (Single below ∷ gs) linked h = text e [] (Single below ∷ gs) (core-alone bytes row (Single below ∷ gs) h.apart)
     go TextRow e (Lines below rows ∷ gs) linked h = by (goes_on row below) refl
       where
-        by : (x : Bool) → goes_on row below ≡ x → Parted bytes p (cond x (Lines row (below ∷ rows) ∷ gs) (Lines row [] ∷ Lines below rows ∷ gs))
+        by : (x : Bool) → goes_on row below ≡ x →
+            Parted bytes p (cond x (Lines row (below ∷ rows) ∷ gs) (Lines row [] ∷ Lines below rows ∷ gs))
         by false k = text e [] (Lines below rows ∷ gs) (core-alone bytes row (Lines below rows ∷ gs) h.apart)
         by true k =
             let parts = and_parts (is_none row.leaves) (is_none below.change.opens) k in
             text e (below ∷ rows) gs (core-next bytes row below rows gs q linked (none-nil below.change.opens parts.1) h.after)
 
 -- The lines of a text.
-lines-parted : (options : ParseOptions) (bytes : List ℕ) (open_before : List Container) (going : Bool) (p : Point) (lines : List (List ℕ)) (rows : List Row) → AreRows options bytes open_before going p lines rows → Parted bytes p (groups rows)
+lines-parted : (options : ParseOptions) (bytes : List ℕ) (open_before : List Container) (going : Bool) (p : Point) (lines : List (List ℕ)) (rows : List Row) →
+    AreRows options bytes open_before going p lines rows → Parted bytes p (groups rows)
 lines-parted options bytes open_before going p (line ∷ []) (row ∷ []) are = onto-parted options bytes open_before going p row.end line row [] are.0 tt (record { apart = refl; after = tt }) row.kind refl
 lines-parted options bytes open_before going p (line ∷ next ∷ lines) (row ∷ below ∷ rows) are =
     onto-parted options bytes open_before going p are.2 line row (groups (below ∷ rows)) are.0 (linked (groups (below ∷ rows)))
@@ -441,5 +403,7 @@ lines-parted options bytes open_before going p (line ∷ next ∷ lines) (row �
 lines-parted options bytes open_before going p lines rows are = absurd are
 
 -- no text of a whole text is parted but those of paragraphs, at the begins of their lines
-pub rows-parted : (options : ParseOptions) (bytes : List ℕ) (open_before : List Container) (going : Bool) (p : Point) (lines : List (List ℕ)) (rows : List Row) → AreRows options bytes open_before going p lines rows → are_parted bytes None (groups_events bytes (groups rows)) ≡ true
+pub rows-parted : (options : ParseOptions) (bytes : List ℕ) (open_before : List Container) (going : Bool) (p : Point) (lines : List (List ℕ)) (rows : List Row) →
+    AreRows options bytes open_before going p lines rows →
+    are_parted bytes None (groups_events bytes (groups rows)) ≡ true
 rows-parted options bytes open_before going p lines rows are = let parted : Parted bytes p (groups rows) = lines-parted options bytes open_before going p lines rows are in parted.apart

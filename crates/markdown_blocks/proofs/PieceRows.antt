@@ -1,112 +1,54 @@
 -- The pieces of every text stand over their bytes, before its text is read and behind.
-use Rattle.std.proofs.Common.{◌≡◌, ◌≢◌, ℕ, zero, suc, ◌-◌, ◌<◌, Bool, true, false, cond, List, [], ◌∷◌, ◌++◌, length, take, drop, slice_range, refl, ap, sym, ◌∙◌, subst, arith}
-use Rattle.std.specs.Prelude.{◌==◌, Option, Some, None, slice_get}
-use Rattle.std.proofs.lemmas.Bool.{and_from, or_right}
+use Rattle.std.proofs.Common.{◌≡◌, ◌≢◌, ℕ, ◌-◌, Bool, true, false, cond, List, [], ◌∷◌, ◌++◌, slice_range, refl, ap, sym, ◌∙◌, subst, arith}
+use Rattle.std.specs.Prelude.{Option, Some, None}
+use Rattle.std.proofs.lemmas.Bool.{and_from}
 use Rattle.md_engine.specs.declared.configuration.ParseOptions.{ParseOptions}
 use Rattle.md_engine.specs.declared.event.Event.{Event}
 use Rattle.md_engine.specs.declared.event.Name.{Name}
 use Rattle.md_engine.specs.declared.event.Name.TheVariants as n
 use Rattle.md_engine.specs.declared.event.Point.{Point}
 use Rattle.md_content.specs.Paragraph.{text_link}
-use Rattle.md_leaves.specs.HeadingTitle.{title_of, unread_title}
 use Rattle.md_seam.specs.Events.Inline.{pieces, plain_chunk}
 use Rattle.md_seam.specs.Events.Nested.{around, enter, enter_link, exit, pair}
 use Rattle.md_seam.specs.Events.Pieces.{piece_stands, pieces_stand, stands_over}
-use Rattle.md_seam.specs.Events.Places.{first_point, same_place}
+use Rattle.md_seam.specs.Events.Places.{first_point}
 use Rattle.md_seam.specs.Standard.Preamble.{has_mark}
-use Rattle.md_seam.specs.Standard.State.{Container, InQuote}
+use Rattle.md_seam.specs.Standard.State.{Container}
 use Rattle.md_seam.proofs.TextsLemmas.{Both, Ending, LineFeed, Return, ending_bytes}
-use Rattle.markdown_blocks.specs.Change.{container_name, ends_of}
+use Rattle.md_seam.proofs.PreambleLemmas.{mark-bytes}
+use Rattle.markdown_blocks.specs.ContainerKinds.{container_name}
+use Rattle.markdown_blocks.specs.Change.{ends_of}
 use Rattle.markdown_blocks.specs.Document.{body_point, mark_end, mark_events}
 use Rattle.markdown_blocks.specs.Fronted.{contained, rest_from, rest_line}
-use Rattle.markdown_blocks.specs.Rows.{BlankRow, Group, Lines, Row, RowKind, Single, TextRow, behind_row, ending_events, goes_on, group_events, groups, groups_events, is_text, last_row, line_kind, onto_groups, read_lines, row_events_by, single_events_by, tail_events}
-use Rattle.markdown_blocks.specs.Unread.{linked_lines, titled_group, titled_groups, titled_row_by}
+use Rattle.markdown_blocks.specs.Rows.{BlankRow, Group, Lines, Row, RowKind, Single, TextRow, behind_row, ending_events, goes_on, group_events, groups, groups_events, is_text, last_row, onto_groups, read_lines, tail_events, LeafRow, ending_of, leaf_done, leaf_unread}
+use Rattle.markdown_blocks.specs.Unread.{linked_lines, titled_group, titled_groups}
 use Rattle.markdown_blocks.proofs.EachRow.{EachRow, last-each}
-use Rattle.markdown_blocks.proofs.FrontFacts.{Behind, Begins, LinePrefix, Goes, IsContinuationPrefix, IsOpeningPrefix, IsPrefix}
+use Rattle.markdown_blocks.proofs.FrontFacts.{Behind, Begins, LinePrefix, Goes}
 use Rattle.markdown_blocks.proofs.GroupLemmas.{text-some}
-use Rattle.md_seam.proofs.PreambleLemmas.{mark-bytes}
-use Rattle.markdown_blocks.proofs.PieceFacts.{Starts, Stood, begins-cut, begins-whole, chunk_span, over-stands, piece-stands, span, starts-append, stood-append, stood-around, stood-exit, stood-none, stood-pair}
-use Rattle.markdown_blocks.proofs.HeadingAtx.Pieces.{Chunked, Titled, chunked-alone, chunked-ended, ending-stands, line-ending, starts-tiled, titled}
-use Rattle.markdown_blocks.proofs.PiecesLemmas.{pieces-before}
+use Rattle.markdown_blocks.proofs.PieceFacts.{Starts, Stood, chunk_span, over-stands, starts-append, stood-append, stood-around, stood-exit, stood-none, stood-pair}
+use Rattle.markdown_blocks.proofs.ChunkFacts.{Chunked, chunked-alone, chunked-ended, ending-stands, line-ending}
+use Rattle.markdown_blocks.proofs.PiecesLemmas.{pieces-before, Tiled}
 use Rattle.markdown_blocks.proofs.RowFacts.{AreRows, IsEnding, IsLine, IsRow, behind_line}
-use Rattle.markdown_blocks.proofs.HeadingAtx.Places.{blank-no_heading, break-no_heading}
-use Rattle.markdown_blocks.specs.Leaf.HeadingAtx.{read_title}
+use Rattle.markdown_blocks.proofs.RowLeaf.{row-leaf}
+use Rattle.markdown_blocks.proofs.ContainerFacts.{continues-facts, opens-facts}
+use Rattle.markdown_blocks.proofs.PrefixFacts.{Opens}
 
 -- Containers.
 
--- one byte of a text
-slice-one : (bytes : List ℕ) (i b : ℕ) → slice_get bytes i ≡ Some b → slice_range bytes i (suc i) ≡ b ∷ []
-slice-one bytes i b e = ap (λ (k : ℕ). take k (drop i bytes)) one ∙ go bytes i e
-  where
-    one : suc i - i ≡ 1
-    one = omega arith
+-- the begin of a container in front of what stands behind it
+begun-stood : (bytes : List ℕ) (name : Name) (p q : Point) (es : List Event) → es ≢ [] → Tiled p q es → Stood bytes es →
+    Stood bytes (enter name p ∷ es)
+begun-stood bytes name p q [] some tiled h = absurd (some refl)
+begun-stood bytes name p q (e ∷ es) some tiled h = record { ends = h.ends; stand = ap (pieces_stand bytes) (pieces-before (enter name p) (e ∷ es) tiled.begins) ∙ h.stand }
 
-    go : (bytes : List ℕ) (i : ℕ) → slice_get bytes i ≡ Some b → take 1 (drop i bytes) ≡ b ∷ []
-    go [] i e = cc
-    go (c ∷ bytes) zero e = let same : c ≡ b = cc in ap (λ (x : ℕ). x ∷ []) same
-    go (c ∷ bytes) (suc i) e = go bytes i e
-
--- the marker of a quote
-marker-stands : (bytes : List ℕ) (p q : Point) (es : List Event) → (is : IsPrefix bytes p q es) → piece_stands bytes (span n.BlockQuoteMarker is.marker is.behind) ≡ true
-marker-stands bytes p q es is =
-    let past : is.behind.index ≡ suc is.marker.index = is.past in
-    over-stands bytes n.BlockQuoteMarker is.marker is.behind (62 ∷ [])
-    (record { some = omega arith; whole = is.behind_whole; slice = ap (slice_range bytes is.marker.index) past ∙ slice-one bytes is.marker.index 62 is.byte })
-    (begins-whole n.BlockQuoteMarker is.marker is.marker_whole) refl
-
--- whitespace that may be cut from a tab at both ends
-white-stands : (bytes : List ℕ) (p q : Point) → same_place p q ≡ false → stands_over n.SpaceOrTab (slice_range bytes p.index q.index) ≡ true → piece_stands bytes (span n.SpaceOrTab p q) ≡ true
-white-stands bytes p q apart blank = piece-stands bytes n.SpaceOrTab p q apart (begins-cut n.SpaceOrTab p refl) (or_right (q.vs == 0) true refl) blank
-
--- What stands in front of the content of a container: its pieces stand, and it begins with an enter.
-record FrontStands (bytes : List ℕ) (es : List Event) : Type 0 where
-  stood : Stood bytes es
-  starts : Starts es
-
--- the prefix of a quote
-prefix-stands : (bytes : List ℕ) (p q : Point) (es : List Event) → IsPrefix bytes p q es → FrontStands bytes es
-prefix-stands bytes p q es is = subst (FrontStands bytes) (sym is.events) (go (same_place p is.marker) refl (same_place is.behind q) refl)
-  where
-    prefix : Bool → Bool → List Event
-    prefix x y =
-        cond x [] (pair n.SpaceOrTab p is.marker) ++ enter n.BlockQuotePrefix is.marker ∷ enter n.BlockQuoteMarker is.marker ∷ exit n.BlockQuoteMarker is.behind ∷ cond y [] (pair n.SpaceOrTab is.behind q) ++ exit n.BlockQuotePrefix q ∷ []
-
-    marker : piece_stands bytes (span n.BlockQuoteMarker is.marker is.behind) ≡ true
-    marker = marker-stands bytes p q es is
-
-    before : same_place p is.marker ≡ false → piece_stands bytes (span n.SpaceOrTab p is.marker) ≡ true
-    before e = white-stands bytes p is.marker e is.white_before
-
-    behind : same_place is.behind q ≡ false → piece_stands bytes (span n.SpaceOrTab is.behind q) ≡ true
-    behind e = white-stands bytes is.behind q e is.white_behind
-
-    go : (x : Bool) → same_place p is.marker ≡ x → (y : Bool) → same_place is.behind q ≡ y → FrontStands bytes (prefix x y)
-    go true e true f = record { stood = record { ends = refl; stand = and_from _ true marker refl }; starts = refl }
-    go true e false f = record { stood = record { ends = refl; stand = and_from _ _ marker (and_from _ true (behind f) refl) }; starts = refl }
-    go false e true f = record { stood = record { ends = refl; stand = and_from _ _ (before e) (and_from _ true marker refl) }; starts = refl }
-    go false e false f = record { stood = record { ends = refl; stand = and_from _ _ (before e) (and_from _ _ marker (and_from _ true (behind f) refl)) }; starts = refl }
-
--- of a container that goes on
-further-stands : (bytes : List ℕ) (c : Container) (p q : Point) (es : List Event) → IsContinuationPrefix bytes c p q es → FrontStands bytes es
-further-stands bytes InQuote p q es is = prefix-stands bytes p q es is
-further-stands bytes c p q es is = absurd is
-
--- of one that opens
-opening-stands : (bytes : List ℕ) (c : Container) (p q : Point) (es : List Event) → IsOpeningPrefix bytes c p q es → FrontStands bytes es
-opening-stands bytes InQuote p q es is = prefix-stands bytes p q es is
-opening-stands bytes c p q es is = absurd is
-
--- the begin of a container in front of its prefix
-begun-stood : (bytes : List ℕ) (name : Name) (p : Point) (es : List Event) → FrontStands bytes es → Stood bytes (enter name p ∷ es)
-begun-stood bytes name p [] h = absurd h.starts
-begun-stood bytes name p (e ∷ es) h = record { ends = h.stood.ends; stand = ap (pieces_stand bytes) (pieces-before (enter name p) (e ∷ es) h.starts) ∙ h.stood.stand }
-
--- all of it
-fronts-stood : (bytes : List ℕ) (opens : List Container) (p q : Point) (es : List Event) → LinePrefix bytes opens p q es → Stood bytes es
+-- all that stands in front of a line
+fronts-stood : (bytes : List ℕ) (opens : List Container) (p q : Point) (es : List Event) →
+    LinePrefix bytes opens p q es → Stood bytes es
 fronts-stood bytes opens p q es (Behind at) = stood-none bytes
-fronts-stood bytes opens first last es (Goes c same p q r xs ys is more) = stood-append bytes xs ys (further-stands bytes c p q xs is).stood (fronts-stood bytes same q r ys more)
+fronts-stood bytes opens first last es (Goes c same p q r xs ys is more) = stood-append bytes xs ys (continues-facts bytes c p q xs is).common.stood (fronts-stood bytes same q r ys more)
 fronts-stood bytes opens first last es (Begins c before p q r xs ys is more) =
-    stood-append bytes (enter (container_name c) p ∷ xs) ys (begun-stood bytes (container_name c) p xs (opening-stands bytes c p q xs is)) (fronts-stood bytes before q r ys more)
+    let facts : Opens bytes c p q xs = opens-facts bytes c p q xs is in
+    stood-append bytes (enter (container_name c) p ∷ xs) ys (begun-stood bytes (container_name c) p q xs facts.some facts.common.tiled facts.common.stood) (fronts-stood bytes before q r ys more)
 
 -- the ends of containers have no pieces
 ends-stood : (bytes : List ℕ) (cs : List Container) (p : Point) → Stood bytes (ends_of cs p)
@@ -121,14 +63,19 @@ blank-ending LineFeed = refl
 blank-ending Return = refl
 blank-ending Both = refl
 
+-- whatever ends a line is one that its name may stand over
+ending-named : (kind : RowKind) (ending : Ending) → stands_over (ending_of kind) (ending_bytes ending) ≡ true
+ending-named BlankRow ending = blank-ending ending
+ending-named (LeafRow l) ending = line-ending ending
+ending-named TextRow ending = line-ending ending
+
 -- What is known of a line: the pieces in front of it, in it and behind it stand.
 record LineStands (bytes : List ℕ) (row : Row) : Type 0 where
   front : Stood bytes row.front
-  tail : (name : Name) → ((ending : Ending) → stands_over name (ending_bytes ending) ≡ true) → Stood bytes (tail_events name row)
-  blank : row.kind ≡ BlankRow → Stood bytes row.inside
-  break_stood : row.kind ≡ BreakRow → Stood bytes row.inside
-  break_starts : row.kind ≡ BreakRow → Starts row.inside
-  title : row.kind ≡ HeadingRow → Titled bytes (row_title bytes row)
+  tail : (name : Name) → ((ending : Ending) → stands_over name (ending_bytes ending) ≡ true) →
+      Stood bytes (tail_events name row)
+  unread : row.kind ≢ TextRow → Stood bytes (leaf_unread bytes row.kind row)
+  done : row.kind ≢ TextRow → Stood bytes (leaf_done bytes row.kind row)
   alone : row.kind ≡ TextRow → Chunked bytes row.first row.end
   ended : row.kind ≡ TextRow → Chunked bytes row.first (behind_row row)
 
@@ -138,49 +85,44 @@ Ended bytes end None = Unit {0}
 Ended bytes end (Some q) = IsEnding bytes end q
 
 -- what stands behind a line
-tail-stood : (bytes : List ℕ) (row : Row) (after : Option Point) → row.after ≡ after → row.end.vs ≡ 0 → Ended bytes row.end after → (name : Name) → ((ending : Ending) → stands_over name (ending_bytes ending) ≡ true) → Stood bytes (tail_events name row)
+tail-stood : (bytes : List ℕ) (row : Row) (after : Option Point) → row.after ≡ after → row.end.vs ≡ 0 →
+    Ended bytes row.end after → (name : Name) → ((ending : Ending) → stands_over name (ending_bytes ending) ≡ true) →
+    Stood bytes (tail_events name row)
 tail-stood bytes row after same whole ended name named =
     stood-append bytes (ends_of row.leaves row.end) (ending_events name row) (ends-stood bytes row.leaves row.end)
     (subst (λ (x : Option Point). Stood bytes (elim x [ None ↦ [] | Some q ↦ pair name row.end q ])) (sym same) (go after ended))
   where
-    go : (after : Option Point) → Ended bytes row.end after → Stood bytes (elim after [ None ↦ [] | Some q ↦ pair name row.end q ])
+    go : (after : Option Point) → Ended bytes row.end after →
+        Stood bytes (elim after [ None ↦ [] | Some q ↦ pair name row.end q ])
     go None ended = stood-none bytes
     go (Some q) ended = stood-pair bytes name row.end q (ending-stands bytes name row.end q named whole ended)
 
--- a break is not empty
-break-some : (options : ParseOptions) (line : List ℕ) → line_kind options line ≡ BreakRow → 0 < length line
-break-some options [] h = cc
-break-some options (b ∷ line) h = omega arith
-
 -- a line with its ending, if it has one
-line-stands : (options : ParseOptions) (bytes line : List ℕ) (p : Point) (row : Row) (after : Option Point) → IsRow options bytes line row → LinePrefix bytes row.change.opens p row.first row.front → row.after ≡ after → Ended bytes row.end after → LineStands bytes row
+line-stands : (options : ParseOptions) (bytes line : List ℕ) (p : Point) (row : Row) (after : Option Point) →
+    IsRow options bytes line row → LinePrefix bytes row.change.opens p row.first row.front → row.after ≡ after →
+    Ended bytes row.end after → LineStands bytes row
 line-stands options bytes line p row after is front same ended = record {
   front = fronts-stood bytes row.change.opens p row.first row.front front;
   tail = tail-stood bytes row after same is.end_whole ended;
-  blank = λ e. inside (blank-no_heading row.kind e) (λ k. cc);
-  break_stood = λ e. inside (break-no_heading row.kind e) (λ k. cc);
-  break_starts = λ e.
-      let some : 0 < length line = break-some options line (sym is.kind ∙ e) in
-      starts-tiled row.first row.end row.inside ((is.inside (break-no_heading row.kind e)).covers (λ k. cc)) (omega (arith, is.size, some));
-  title = λ e. subst (λ (l : List ℕ). Titled bytes (title_of l row.first)) (sym is.text) (titled options bytes line row is e);
+  unread = λ other. (row-leaf options bytes line row is other).1.unread_stood;
+  done = λ other. (row-leaf options bytes line row is other).1.stood;
   alone = alone;
   ended = λ e. subst (λ (x : Option Point). Chunked bytes row.first (elim x [ None ↦ row.end | Some q ↦ q ])) (sym same) (go e after ended);
 }
   where
-    inside : row.kind ≢ HeadingRow → row.kind ≢ TextRow → Stood bytes row.inside
-    inside other text = record { ends = ((is.inside other).covers text).ends; stand = is.pieces_are other }
-
     alone : row.kind ≡ TextRow → Chunked bytes row.first row.end
-    alone e = chunked-alone bytes line row.first row.end (text-some options line (sym is.kind ∙ e)) is.no_ending is.end_whole is.size is.text
+    alone e = chunked-alone bytes line row.first row.end (text-some options bytes line row is e) is.no_ending is.end_whole is.size is.text
 
-    go : row.kind ≡ TextRow → (after : Option Point) → Ended bytes row.end after → Chunked bytes row.first (elim after [ None ↦ row.end | Some q ↦ q ])
+    go : row.kind ≡ TextRow → (after : Option Point) → Ended bytes row.end after →
+        Chunked bytes row.first (elim after [ None ↦ row.end | Some q ↦ q ])
     go e None ended = alone e
     go e (Some q) ended =
-        chunked-ended bytes line row.first q (text-some options line (sym is.kind ∙ e)) is.no_ending
+        chunked-ended bytes line row.first q (text-some options bytes line row is e) is.no_ending
         (ap (λ (r : Point). slice_range bytes row.first.index r.index) (sym is.end) ∙ is.text) (subst (λ (r : Point). IsEnding bytes r q) is.end ended)
 
 -- each line of a text is such
-rows-stand : (options : ParseOptions) (bytes : List ℕ) (open_before : List Container) (going : Bool) (p : Point) (lines : List (List ℕ)) (rows : List Row) → AreRows options bytes open_before going p lines rows → EachRow (LineStands bytes) rows
+rows-stand : (options : ParseOptions) (bytes : List ℕ) (open_before : List Container) (going : Bool) (p : Point) (lines : List (List ℕ)) (rows : List Row) →
+    AreRows options bytes open_before going p lines rows → EachRow (LineStands bytes) rows
 rows-stand options bytes open_before going p (line ∷ []) (row ∷ []) are =
     let is : IsLine options bytes open_before going p line row = are.0 in
     (line-stands options bytes (rest_line (contained options open_before going (rest_from p line)).rest) p row None is.is is.front are.2 tt, tt)
@@ -208,10 +150,10 @@ GroupsStand bytes [] = Unit {0}
 GroupsStand bytes (group ∷ gs) = GroupStands bytes group × GroupsStand bytes gs
 
 -- a line in front of groups
-onto-stand : (bytes : List ℕ) (row : Row) (kind : RowKind) (gs : List Group) → LineStands bytes row → row.kind ≡ kind → GroupsStand bytes gs → GroupsStand bytes (onto_groups row kind gs)
+onto-stand : (bytes : List ℕ) (row : Row) (kind : RowKind) (gs : List Group) → LineStands bytes row → row.kind ≡ kind →
+    GroupsStand bytes gs → GroupsStand bytes (onto_groups row kind gs)
 onto-stand bytes row BlankRow gs h e more = ((h, λ k. cc), more)
-onto-stand bytes row HeadingRow gs h e more = ((h, λ k. cc), more)
-onto-stand bytes row BreakRow gs h e more = ((h, λ k. cc), more)
+onto-stand bytes row (LeafRow l) gs h e more = ((h, λ k. cc), more)
 onto-stand bytes row TextRow [] h e more = (((h, e), tt), more)
 onto-stand bytes row TextRow (Single below ∷ gs) h e more = (((h, e), tt), more)
 onto-stand bytes row TextRow (Lines below rows ∷ gs) h e more = go (goes_on row below)
@@ -226,24 +168,19 @@ groups-stand bytes [] h = tt
 groups-stand bytes (row ∷ rows) h = onto-stand bytes row row.kind (groups rows) h.0 refl (groups-stand bytes rows h.1)
 
 -- what stands in front of a line, in it, and behind it or a further line
-whole-stood : (bytes : List ℕ) (name : Name) (row last : Row) (es : List Event) → ((ending : Ending) → stands_over name (ending_bytes ending) ≡ true) → LineStands bytes row → LineStands bytes last → Stood bytes es → Stood bytes (row.front ++ es ++ tail_events name last)
+whole-stood : (bytes : List ℕ) (name : Name) (row last : Row) (es : List Event) →
+    ((ending : Ending) → stands_over name (ending_bytes ending) ≡ true) → LineStands bytes row → LineStands bytes last →
+    Stood bytes es → Stood bytes (row.front ++ es ++ tail_events name last)
 whole-stood bytes name row last es named h k stood = stood-append bytes (row.front ++ es) (tail_events name last) (stood-append bytes row.front es h.front stood) (k.tail name named)
 
--- a blank line
-blank-stood : (bytes : List ℕ) (row : Row) → LineStands bytes row → row.kind ≡ BlankRow → Stood bytes (row_events_by BlankRow row)
-blank-stood bytes row h e = whole-stood bytes n.BlankLineEnding row row row.inside blank-ending h h (h.blank e)
-
--- a break
-break-stood : (bytes : List ℕ) (row : Row) → LineStands bytes row → row.kind ≡ BreakRow → Stood bytes (row_events_by BreakRow row)
-break-stood bytes row h e =
-    whole-stood bytes n.LineEnding row row (around n.ThematicBreak row.first row.end row.inside) line-ending h h (stood-around bytes n.ThematicBreak row.first row.end row.inside (h.break_starts e) (h.break_stood e))
-
--- a heading with these parts
-heading-stood : (bytes : List ℕ) (row : Row) (parts : List Event) → LineStands bytes row → Starts parts → Stood bytes parts → Stood bytes (row.front ++ around n.HeadingAtx row.first row.end parts ++ tail_events n.LineEnding row)
-heading-stood bytes row parts h starts stood = whole-stood bytes n.LineEnding row row (around n.HeadingAtx row.first row.end parts) line-ending h h (stood-around bytes n.HeadingAtx row.first row.end parts starts stood)
+-- a line that is no text, with what stands in its place
+single-stood : (bytes : List ℕ) (row : Row) (es : List Event) → LineStands bytes row → Stood bytes es →
+    Stood bytes (row.front ++ es ++ tail_events (ending_of row.kind) row)
+single-stood bytes row es h stood = whole-stood bytes (ending_of row.kind) row row es (ending-named row.kind) h h stood
 
 -- a paragraph with these lines
-paragraph-stood : (bytes : List ℕ) (row : Row) (rows : List Row) (parts : List Event) → TextStands bytes row → EachRow (TextStands bytes) rows → Starts parts → Stood bytes parts →
+paragraph-stood : (bytes : List ℕ) (row : Row) (rows : List Row) (parts : List Event) → TextStands bytes row →
+    EachRow (TextStands bytes) rows → Starts parts → Stood bytes parts →
     Stood bytes (row.front ++ around n.Paragraph row.first (last_row row rows).end parts ++ tail_events n.LineEnding (last_row row rows))
 paragraph-stood bytes row rows parts h k starts stood =
     let last : Row = last_row row rows in
@@ -252,11 +189,13 @@ paragraph-stood bytes row rows parts h k starts stood =
 -- Before texts are read.
 
 -- a chunk
-linked-chunk : (bytes : List ℕ) (p q : Point) → Chunked bytes p q → Stood bytes (enter_link n.Data p text_link ∷ exit n.Data q ∷ [])
+linked-chunk : (bytes : List ℕ) (p q : Point) → Chunked bytes p q →
+    Stood bytes (enter_link n.Data p text_link ∷ exit n.Data q ∷ [])
 linked-chunk bytes p q h = record { ends = refl; stand = and_from (piece_stands bytes (chunk_span n.Data p q)) true h.linked refl }
 
 -- the lines of a paragraph
-linked-stood : (bytes : List ℕ) (row : Row) (rows : List Row) → TextStands bytes row → EachRow (TextStands bytes) rows → Stood bytes (linked_lines n.Data text_link row rows)
+linked-stood : (bytes : List ℕ) (row : Row) (rows : List Row) → TextStands bytes row → EachRow (TextStands bytes) rows →
+    Stood bytes (linked_lines n.Data text_link row rows)
 linked-stood bytes row [] h k = linked-chunk bytes row.first row.end (h.0.alone h.1)
 linked-stood bytes row (next ∷ rows) h k =
     stood-append bytes (enter_link n.Data row.first text_link ∷ exit n.Data (behind_row row) ∷ []) (next.front ++ linked_lines n.Data text_link next rows) (linked-chunk bytes row.first (behind_row row) (h.0.ended h.1))
@@ -267,25 +206,19 @@ linked-starts : (row : Row) (rows : List Row) → Starts (linked_lines n.Data te
 linked-starts row [] = refl
 linked-starts row (next ∷ rows) = refl
 
--- a line that is no text
-titled-row : (bytes : List ℕ) (row : Row) → LineStands bytes row → (kind : RowKind) → row.kind ≡ kind → row.kind ≢ TextRow → Stood bytes (titled_row_by bytes kind row)
-titled-row bytes row h BlankRow e other = blank-stood bytes row h e
-titled-row bytes row h HeadingRow e other = heading-stood bytes row (unread_title (row_title bytes row)) h (h.title e).linked_starts (h.title e).linked
-titled-row bytes row h BreakRow e other = break-stood bytes row h e
-titled-row bytes row h TextRow e other = absurd (other e)
-
 -- all groups
-titled-stood : (bytes : List ℕ) (gs : List Group) → GroupsStand bytes gs → Stood bytes (titled_groups bytes gs)
-titled-stood bytes [] h = stood-none bytes
-titled-stood bytes (Single row ∷ gs) h = stood-append bytes (titled_group bytes (Single row)) (titled_groups bytes gs) (titled-row bytes row h.0.0 row.kind refl h.0.1) (titled-stood bytes gs h.1)
-titled-stood bytes (Lines row rows ∷ gs) h =
+unread-stood : (bytes : List ℕ) (gs : List Group) → GroupsStand bytes gs → Stood bytes (titled_groups bytes gs)
+unread-stood bytes [] h = stood-none bytes
+unread-stood bytes (Single row ∷ gs) h = stood-append bytes (titled_group bytes (Single row)) (titled_groups bytes gs) (single-stood bytes row (leaf_unread bytes row.kind row) h.0.0 (h.0.0.unread h.0.1)) (unread-stood bytes gs h.1)
+unread-stood bytes (Lines row rows ∷ gs) h =
     stood-append bytes (titled_group bytes (Lines row rows)) (titled_groups bytes gs)
-    (paragraph-stood bytes row rows (linked_lines n.Data text_link row rows) h.0.0 h.0.1 (linked-starts row rows) (linked-stood bytes row rows h.0.0 h.0.1)) (titled-stood bytes gs h.1)
+    (paragraph-stood bytes row rows (linked_lines n.Data text_link row rows) h.0.0 h.0.1 (linked-starts row rows) (linked-stood bytes row rows h.0.0 h.0.1)) (unread-stood bytes gs h.1)
 
 -- Once they are read.
 
 -- the lines of a paragraph
-read-stood : (bytes : List ℕ) (row : Row) (rows : List Row) → TextStands bytes row → EachRow (TextStands bytes) rows → Stood bytes (read_lines bytes row rows)
+read-stood : (bytes : List ℕ) (row : Row) (rows : List Row) → TextStands bytes row → EachRow (TextStands bytes) rows →
+    Stood bytes (read_lines bytes row rows)
 read-stood bytes row [] h k = (h.0.alone h.1).read
 read-stood bytes row (next ∷ rows) h k =
     let chunk : List Event = plain_chunk bytes (record { first = row.first; after = behind_row row }) in
@@ -298,17 +231,10 @@ read-starts bytes row (next ∷ rows) h =
     let chunk : List Event = plain_chunk bytes (record { first = row.first; after = behind_row row }) in
     starts-append (chunk ++ next.front) (read_lines bytes next rows) (starts-append chunk next.front (h.0.ended h.1).starts)
 
--- a line that is no text
-read-row : (bytes : List ℕ) (row : Row) → LineStands bytes row → (kind : RowKind) → row.kind ≡ kind → row.kind ≢ TextRow → Stood bytes (single_events_by bytes kind row)
-read-row bytes row h BlankRow e other = blank-stood bytes row h e
-read-row bytes row h HeadingRow e other = heading-stood bytes row (read_title bytes (row_title bytes row)) h (h.title e).read_starts (h.title e).read
-read-row bytes row h BreakRow e other = break-stood bytes row h e
-read-row bytes row h TextRow e other = absurd (other e)
-
 -- all groups
 groups-stood : (bytes : List ℕ) (gs : List Group) → GroupsStand bytes gs → Stood bytes (groups_events bytes gs)
 groups-stood bytes [] h = stood-none bytes
-groups-stood bytes (Single row ∷ gs) h = stood-append bytes (group_events bytes (Single row)) (groups_events bytes gs) (read-row bytes row h.0.0 row.kind refl h.0.1) (groups-stood bytes gs h.1)
+groups-stood bytes (Single row ∷ gs) h = stood-append bytes (group_events bytes (Single row)) (groups_events bytes gs) (single-stood bytes row (leaf_done bytes row.kind row) h.0.0 (h.0.0.done h.0.1)) (groups-stood bytes gs h.1)
 groups-stood bytes (Lines row rows ∷ gs) h =
     stood-append bytes (group_events bytes (Lines row rows)) (groups_events bytes gs)
     (paragraph-stood bytes row rows (read_lines bytes row rows) h.0.0 h.0.1 (read-starts bytes row rows h.0.0) (read-stood bytes row rows h.0.0 h.0.1)) (groups-stood bytes gs h.1)
@@ -329,14 +255,16 @@ mark-stood bytes = go (has_mark bytes) refl
     go false e = stood-none bytes
 
 -- The pieces of a text stand, before its texts are read,
-pub blocks-pieces : (options : ParseOptions) (bytes : List ℕ) (lines : List (List ℕ)) (rows : List Row) → AreRows options bytes [] false (body_point bytes) lines rows →
+pub blocks-pieces : (options : ParseOptions) (bytes : List ℕ) (lines : List (List ℕ)) (rows : List Row) →
+    AreRows options bytes [] false (body_point bytes) lines rows →
     pieces_stand bytes (pieces (mark_events bytes ++ titled_groups bytes (groups rows))) ≡ true
 blocks-pieces options bytes lines rows are =
     (stood-append bytes (mark_events bytes) (titled_groups bytes (groups rows)) (mark-stood bytes)
-    (titled-stood bytes (groups rows) (groups-stand bytes rows (rows-stand options bytes [] false (body_point bytes) lines rows are)))).stand
+    (unread-stood bytes (groups rows) (groups-stand bytes rows (rows-stand options bytes [] false (body_point bytes) lines rows are)))).stand
 
 -- and once they are.
-pub events-pieces : (options : ParseOptions) (bytes : List ℕ) (lines : List (List ℕ)) (rows : List Row) → AreRows options bytes [] false (body_point bytes) lines rows →
+pub events-pieces : (options : ParseOptions) (bytes : List ℕ) (lines : List (List ℕ)) (rows : List Row) →
+    AreRows options bytes [] false (body_point bytes) lines rows →
     pieces_stand bytes (pieces (mark_events bytes ++ groups_events bytes (groups rows))) ≡ true
 events-pieces options bytes lines rows are =
     (stood-append bytes (mark_events bytes) (groups_events bytes (groups rows)) (mark-stood bytes)

@@ -1,36 +1,137 @@
--- The runs of a heading and of a break are over their bytes: whitespace, and one marker.
+-- Runs of one marker and of whitespace: how they nest and lie side by side, and what they are over.
 use Rattle.std.proofs.Common.{◌≡◌, ◌≢◌, ℕ, ◌<◌, Bool, true, false, cond, ◌&&◌, ◌||◌, List, [], ◌∷◌, ◌++◌, length, drop, refl, ap, sym, ◌∙◌, append_assoc, arith}
-use Rattle.std.specs.Prelude.{◌==◌}
+use Rattle.std.specs.Prelude.{◌==◌, IsTrue, None}
 use Rattle.std.specs.List.{list_all}
 use Rattle.std.proofs.lemmas.Bool.{and_from, eqb-true}
 use Rattle.std.proofs.lemmas.Bool.Decides.{nat_tests}
 use Rattle.std.proofs.lemmas.List.{length-append}
 use Rattle.std.proofs.lemmas.List.Folds.{list_all-append}
 use Rattle.md_engine.specs.declared.event.Event.{Event}
+use Rattle.md_engine.specs.declared.event.Kind.{Kind}
+use Rattle.md_engine.specs.declared.event.Kind.TheVariants.{Enter, Exit}
 use Rattle.md_engine.specs.declared.event.Name.{Name}
 use Rattle.md_engine.specs.declared.event.Name.TheVariants as n
 use Rattle.md_engine.specs.declared.event.Point.{Point}
-use Rattle.md_leaves.specs.BreakRule.{Apart, Marks, Run, White}
 use Rattle.md_seam.specs.Events.Inline.{pieces, pieces_from}
-use Rattle.md_seam.specs.Events.Nested.{enter, exit}
-use Rattle.md_seam.specs.Events.Pieces.{begins_in_tab, piece_stands, pieces_stand, stands_over}
-use Rattle.md_seam.specs.Events.Places.{past_byte, past_text}
+use Rattle.md_seam.specs.Events.Nested.{Matches, enter, exit, open_after}
+use Rattle.md_seam.specs.Events.Pieces.{piece_stands, pieces_stand, stands_over}
+use Rattle.md_seam.specs.Events.Places.{at_or_before, past_byte, past_text}
 use Rattle.md_seam.specs.Standard.Rest.{is_white}
-use Rattle.md_seam.proofs.FeedLines.{drop-past}
-use Rattle.md_seam.proofs.InlineLemmas.{past-index, past_text-append}
+use Rattle.md_seam.proofs.FeedLines.{before-byte, drop-past}
+use Rattle.md_seam.proofs.InlineLemmas.{past-index, past_text-append, same-refl}
+use Rattle.md_seam.proofs.NestedLemmas.{at_or_before-refl, at_or_before-trans}
+use Rattle.markdown_blocks.specs.MarkRuns.{Apart, Marks, Run, White, mark_runs}
+use Rattle.markdown_blocks.proofs.PiecesLemmas.{Shut, Tiled, shut-exit, tiled-enter, tiled-none}
+use Rattle.markdown_blocks.proofs.SpanLemmas.{Nested_in, Spans, either}
 use Rattle.markdown_blocks.proofs.PieceFacts.{CutsFirst, Over, begins-cut, begins-whole, over-front, over-stands, span}
 
--- The runs of a marker and of whitespace that are left of some bytes, where the marker's are of this name.
-abbrev pub mark_runs : Name → Run → ℕ → List ℕ → Point → List Event
-mark_runs name Apart m [] p = []
-mark_runs name Marks m [] p = exit name p ∷ []
-mark_runs name White m [] p = exit n.SpaceOrTab p ∷ []
-mark_runs name Apart m (b ∷ bs) p =
-    cond (b == m) (enter name p ∷ mark_runs name Marks m bs (past_byte b p)) (enter n.SpaceOrTab p ∷ mark_runs name White m bs (past_byte b p))
-mark_runs name Marks m (b ∷ bs) p =
-    cond (b == m) (mark_runs name Marks m bs (past_byte b p)) (exit name p ∷ enter n.SpaceOrTab p ∷ mark_runs name White m bs (past_byte b p))
-mark_runs name White m (b ∷ bs) p =
-    cond (b == m) (exit n.SpaceOrTab p ∷ enter name p ∷ mark_runs name Marks m bs (past_byte b p)) (mark_runs name White m bs (past_byte b p))
+-- what a run is called
+abbrev run_name : Name → Run → Name
+run_name name Apart = name
+run_name name Marks = name
+run_name name White = n.SpaceOrTab
+
+-- Each event.
+
+-- the begin or the end of a run, of whitespace or of the marker
+abbrev pub run_event : Name → Kind → Bool → Point → Event
+run_event name kind white p = record { kind = kind; name = cond white n.SpaceOrTab name; point = p; link = None }
+
+-- what holds of no events, and of one more such, holds of all runs
+pub runs-each : (P : List Event → Type 0) (name : Name) → P [] → ((kind : Kind) (white : Bool) (p : Point) (es : List Event) → P es → P (run_event name kind white p ∷ es)) → (run : Run) (m : ℕ) (bs : List ℕ) (p : Point) →
+    P (mark_runs name run m bs p)
+runs-each P name none more Apart m [] p = none
+runs-each P name none more Marks m [] p = more Exit false p [] none
+runs-each P name none more White m [] p = more Exit true p [] none
+runs-each P name none more Apart m (b ∷ bs) p =
+    either P (b == m) _ _ (more Enter false p _ (runs-each P name none more Marks m bs (past_byte b p))) (more Enter true p _ (runs-each P name none more White m bs (past_byte b p)))
+runs-each P name none more Marks m (b ∷ bs) p =
+    either P (b == m) _ _ (runs-each P name none more Marks m bs (past_byte b p)) (more Exit false p _ (more Enter true p _ (runs-each P name none more White m bs (past_byte b p))))
+runs-each P name none more White m (b ∷ bs) p =
+    either P (b == m) _ _ (more Exit true p _ (more Enter false p _ (runs-each P name none more Marks m bs (past_byte b p)))) (runs-each P name none more White m bs (past_byte b p))
+
+-- How they nest.
+
+-- what is open in a run
+abbrev open_in : Name → Run → List Name
+open_in name Apart = []
+open_in name Marks = name ∷ []
+open_in name White = n.SpaceOrTab ∷ []
+
+-- where these names are open, events end them, and nothing stays open
+abbrev Ends_all : List Name → List Event → Type 0
+Ends_all names es = Matches names es × (open_after names es ≡ [])
+
+runs-end : (name : Name) (run : Run) (m : ℕ) (bs : List ℕ) (p : Point) → Ends_all (open_in name run) (mark_runs name run m bs p)
+runs-end name Apart m [] p = (tt, refl)
+runs-end name Marks m [] p = ((refl, tt), refl)
+runs-end name White m [] p = ((refl, tt), refl)
+runs-end name Apart m (b ∷ bs) p =
+    let marks = runs-end name Marks m bs (past_byte b p) in
+    let white = runs-end name White m bs (past_byte b p) in
+    either (Ends_all []) (b == m) _ _ ((tt, marks.0), marks.1) ((tt, white.0), white.1)
+runs-end name Marks m (b ∷ bs) p =
+    let white = runs-end name White m bs (past_byte b p) in
+    either (Ends_all (name ∷ [])) (b == m) _ _ (runs-end name Marks m bs (past_byte b p)) ((refl, (tt, white.0)), white.1)
+runs-end name White m (b ∷ bs) p =
+    let marks = runs-end name Marks m bs (past_byte b p) in
+    either (Ends_all (n.SpaceOrTab ∷ [])) (b == m) _ _ ((refl, (tt, marks.0)), marks.1) (runs-end name White m bs (past_byte b p))
+
+-- from a point at or before the one where they are, up to the end of the bytes
+runs-span : (name : Name) (run : Run) (m : ℕ) (bs : List ℕ) (p q : Point) → IsTrue (at_or_before p q) → Spans p (past_text bs q) (mark_runs name run m bs q)
+runs-span name Apart m [] p q h = (tt, h)
+runs-span name Marks m [] p q h = ((h, tt), at_or_before-refl q)
+runs-span name White m [] p q h = ((h, tt), at_or_before-refl q)
+runs-span name Apart m (b ∷ bs) p q h =
+    let on = before-byte q (past_byte b q) (omega arith) in
+    let marks = runs-span name Marks m bs q (past_byte b q) on in
+    let white = runs-span name White m bs q (past_byte b q) on in
+    either (Spans p (past_text bs (past_byte b q))) (b == m) _ _ ((h, marks.0), marks.1) ((h, white.0), white.1)
+runs-span name Marks m (b ∷ bs) p q h =
+    let on = before-byte q (past_byte b q) (omega arith) in
+    let white = runs-span name White m bs q (past_byte b q) on in
+    either (Spans p (past_text bs (past_byte b q))) (b == m) _ _ (runs-span name Marks m bs p (past_byte b q) (at_or_before-trans p q (past_byte b q) h on)) ((h, (at_or_before-refl q, white.0)), white.1)
+runs-span name White m (b ∷ bs) p q h =
+    let on = before-byte q (past_byte b q) (omega arith) in
+    let marks = runs-span name Marks m bs q (past_byte b q) on in
+    either (Spans p (past_text bs (past_byte b q))) (b == m) _ _ ((h, (at_or_before-refl q, marks.0)), marks.1) (runs-span name White m bs p (past_byte b q) (at_or_before-trans p q (past_byte b q) h on))
+
+pub runs-nested : (name : Name) (m : ℕ) (bs : List ℕ) (p : Point) → Nested_in p (past_text bs p) (mark_runs name Apart m bs p)
+runs-nested name m bs p =
+    let ends = runs-end name Apart m bs p in
+    (record { matches = ends.0; closed = ends.1 }, runs-span name Apart m bs p p (at_or_before-refl p))
+
+-- How they lie side by side.
+
+-- a run that has begun is shut, and others may follow
+runs-shut : (name : Name) (run : Run) (m : ℕ) (bs : List ℕ) (e : Event) (p : Point) → run ≢ Apart → e.kind ≡ Enter → Shut e (past_text bs p) (mark_runs name run m bs p)
+runs-shut name Apart m bs e p ok h = absurd (ok refl)
+runs-shut name Marks m [] e p ok h = shut-exit e (exit name p) p [] h refl (tiled-none p p (same-refl p))
+runs-shut name White m [] e p ok h = shut-exit e (exit n.SpaceOrTab p) p [] h refl (tiled-none p p (same-refl p))
+runs-shut name Marks m (b ∷ bs) e p ok h =
+    let white : Event = enter n.SpaceOrTab p in
+    let end : Point = past_text bs (past_byte b p) in
+    let more : List Event = mark_runs name White m bs (past_byte b p) in
+    either (Shut e end) (b == m) _ _ (runs-shut name Marks m bs e (past_byte b p) ok h)
+    (shut-exit e (exit name p) end (white ∷ more) h refl (tiled-enter white end more refl (runs-shut name White m bs white (past_byte b p) (λ k. cc) refl)))
+runs-shut name White m (b ∷ bs) e p ok h =
+    let marks : Event = enter name p in
+    let end : Point = past_text bs (past_byte b p) in
+    let more : List Event = mark_runs name Marks m bs (past_byte b p) in
+    either (Shut e end) (b == m) _ _
+    (shut-exit e (exit n.SpaceOrTab p) end (marks ∷ more) h refl (tiled-enter marks end more refl (runs-shut name Marks m bs marks (past_byte b p) (λ k. cc) refl)))
+    (runs-shut name White m bs e (past_byte b p) ok h)
+
+pub runs-tiled : (name : Name) (m : ℕ) (bs : List ℕ) (p : Point) → Tiled p (past_text bs p) (mark_runs name Apart m bs p)
+runs-tiled name m [] p = tiled-none p p (same-refl p)
+runs-tiled name m (b ∷ bs) p =
+    let marks : Event = enter name p in
+    let white : Event = enter n.SpaceOrTab p in
+    let end : Point = past_text bs (past_byte b p) in
+    either (Tiled p end) (b == m) _ _ (tiled-enter marks end _ refl (runs-shut name Marks m bs marks (past_byte b p) (λ k. cc) refl))
+    (tiled-enter white end _ refl (runs-shut name White m bs white (past_byte b p) (λ k. cc) refl))
+
+-- What they are over.
 
 -- bytes of which each is the marker or whitespace
 abbrev pub AreMarks : ℕ → List ℕ → Type 0
@@ -41,17 +142,16 @@ AreMarks m (b ∷ bs) = (((b == m) || is_white b) ≡ true) × AreMarks m bs
 abbrev pub IsMarker : Name → ℕ → Type 0
 IsMarker name m = (ys : List ℕ) → 0 < length ys → list_all (λ b. b == m) ys ≡ true → stands_over name ys ≡ true
 
--- a byte of a run, and the run's name
+-- a byte of a run
 abbrev goes_on : Run → ℕ → ℕ → Bool
 goes_on Apart m b = false
 goes_on Marks m b = b == m
 goes_on White m b = is_white b
 
--- what a run is called
-abbrev run_name : Name → Run → Name
-run_name name Apart = name
-run_name name Marks = name
-run_name name White = n.SpaceOrTab
+-- whether a run may begin within a tab
+abbrev may_cut : Run → Bool
+may_cut White = true
+may_cut _ = false
 
 -- A run that has begun at a point, up to another one, with what is left behind it.
 record Begun (bytes : List ℕ) (run : Run) (m : ℕ) (p q : Point) (ys rest : List ℕ) : Type 0 where
@@ -59,10 +159,10 @@ record Begun (bytes : List ℕ) (run : Run) (m : ℕ) (p q : Point) (ys rest : L
   some : 0 < length ys
   all : list_all (goes_on run m) ys ≡ true
   end : q ≡ past_text ys p
-  cut : ((p.vs == 0) || begins_in_tab (run_name n.HeadingAtx run)) ≡ true
+  cut : ((p.vs == 0) || may_cut run) ≡ true
 
 -- it begins with a byte
-begun-first : (bytes : List ℕ) (run : Run) (m : ℕ) (p : Point) (b : ℕ) (rest : List ℕ) → drop p.index bytes ≡ b ∷ rest → goes_on run m b ≡ true → ((p.vs == 0) || begins_in_tab (run_name n.HeadingAtx run)) ≡ true →
+begun-first : (bytes : List ℕ) (run : Run) (m : ℕ) (p : Point) (b : ℕ) (rest : List ℕ) → drop p.index bytes ≡ b ∷ rest → goes_on run m b ≡ true → ((p.vs == 0) || may_cut run) ≡ true →
     Begun bytes run m p (past_byte b p) (b ∷ []) rest
 begun-first bytes run m p b rest e h cut = record { text = e; some = omega arith; all = and_from (goes_on run m b) true h refl; end = refl; cut = cut }
 
@@ -97,7 +197,7 @@ begun-white : (bytes : List ℕ) (m : ℕ) (p q : Point) (ys rest : List ℕ) �
 begun-white bytes m p q ys rest h = over-stands bytes n.SpaceOrTab p q ys (begun-over bytes White m p q ys rest h) h.cut h.all
 
 -- the other run
-other-run : (m b : ℕ) → ((b == m) || is_white b) ≡ true → (b == m) ≡ false → is_white b ≡ true
+pub other-run : (m b : ℕ) → ((b == m) || is_white b) ≡ true → (b == m) ≡ false → is_white b ≡ true
 other-run m b h e = go (b == m) h e
   where
     go : (x : Bool) → (x || is_white b) ≡ true → x ≡ false → is_white b ≡ true
@@ -131,7 +231,7 @@ runs-left bytes name White m (b ∷ xs) rest ys p q is ok apart marks h =
     go true e same next =
         let over : Over bytes p q ys = begun-over bytes White m p q ys (b ∷ xs ++ rest) h in
         rw e (and_from (piece_stands bytes (span n.SpaceOrTab p q)) _ (begun-white bytes m p q ys (b ∷ xs ++ rest) h)
-        (next (begun-first bytes Marks m q b (xs ++ rest) (begun-left bytes White m p q ys (b ∷ xs ++ rest) h) e (begins-whole n.HeadingAtx q over.whole))))
+        (next (begun-first bytes Marks m q b (xs ++ rest) (begun-left bytes White m p q ys (b ∷ xs ++ rest) h) e (ap (λ (x : ℕ). (x == 0) || false) over.whole))))
     go false e same next = rw e (same (begun-next bytes White m p q ys b (xs ++ rest) h (other-run m b marks.0 e)))
 
 -- where a byte is the marker no tab is cut
@@ -149,7 +249,3 @@ runs-stand bytes name m (b ∷ xs) rest p is apart marks e cut = go (b == m) ref
     go false k =
         rw k (runs-left bytes name White m xs rest (b ∷ []) p (past_byte b p) is (λ h. cc) apart marks.1
         (begun-first bytes White m p b (xs ++ rest) e (other-run m b marks.0 k) (begins-cut n.SpaceOrTab p refl)))
-
--- Headings.
-
--- Breaks, by the cells of their lines.

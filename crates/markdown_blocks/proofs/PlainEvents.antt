@@ -1,5 +1,5 @@
--- The events of a text where only quotes, headings and breaks are on are those that an outline can be made of.
-use Rattle.std.proofs.Common.{◌≡◌, ◌≢◌, ℕ, ◌+◌, Bool, true, false, cond, ◌||◌, ◌==◌, not, List, [], ◌∷◌, ◌++◌, map, refl, sym, ap, subst}
+-- The events of a text are those that an outline can be made of.
+use Rattle.std.proofs.Common.{◌≡◌, ◌≢◌, ℕ, ◌+◌, Bool, true, false, ◌||◌, ◌==◌, not, List, [], ◌∷◌, ◌++◌, map, refl, sym, ap, subst}
 use Rattle.std.specs.Prelude.{Option, Some, None}
 use Rattle.std.specs.List.{list_all}
 use Rattle.std.specs.Str.{IsUtf8}
@@ -9,30 +9,30 @@ use Rattle.md_engine.specs.declared.event.Event.{Event}
 use Rattle.md_engine.specs.declared.event.Name.{Name}
 use Rattle.md_engine.specs.declared.event.Name.TheVariants as n
 use Rattle.md_engine.specs.declared.event.Point.{Point}
-use Rattle.md_leaves.specs.HeadingRule.{closes, opens}
 use Rattle.md_seam.specs.declared.inline.Chunk.{Chunk}
 use Rattle.md_seam.specs.Events.Inline.{plain_chunk}
 use Rattle.md_seam.specs.Events.Nested.{Balanced, around, enter, exit, pair}
-use Rattle.md_seam.specs.Events.Places.{same_place}
 use Rattle.md_seam.specs.Events.Spelled.{Holds, Shape, byte_at, role, spelled}
-use Rattle.md_seam.specs.Standard.State.{Container, InFootnote, InItem, InQuote}
+use Rattle.md_seam.specs.Standard.State.{Container}
 use Rattle.md_seam.proofs.SpelledLemmas.{Roles, roles-append}
 use Rattle.md_outline.specs.Between.{is_between}
 use Rattle.md_outline.specs.Outlined.{IsOutlined, are_shallow, is_plain, is_told, tells_between}
-use Rattle.markdown_blocks.specs.Change.{Change, container_name, ends_of}
-use Rattle.markdown_blocks.specs.Fronted.{contained, rest_from}
-use Rattle.markdown_blocks.specs.Rows.{BlankRow, Group, Lines, Row, RowKind, Single, TextRow, behind_row, ending_events, group_events, groups, groups_events, is_text, last_row, read_lines, row_line, single_events_by, tail_events}
-use Rattle.markdown_blocks.specs.Stands.{shape_of}
+use Rattle.markdown_blocks.specs.Change.{Change, ends_of}
+use Rattle.markdown_blocks.specs.Fronted.{contained, rest_from, rest_line}
+use Rattle.markdown_blocks.specs.Rows.{BlankRow, Group, Lines, Row, RowKind, Single, TextRow, behind_row, ending_events, group_events, groups, groups_events, is_text, last_row, read_lines, single_events_by, tail_events, LeafRow, ending_of, leaf_done, leaf_events}
+use Rattle.markdown_blocks.specs.ContainerKinds.{container_name, shape_of}
 use Rattle.markdown_blocks.proofs.ContainedLemmas.{contained-shapes}
 use Rattle.markdown_blocks.proofs.EachRow.{EachGroup, EachRow, OfGroup, groups-each, last-each}
-use Rattle.markdown_blocks.proofs.FrontFacts.{Begins, Behind, LinePrefix, Goes, IsContinuationPrefix, IsOpeningPrefix, IsPrefix}
+use Rattle.markdown_blocks.proofs.FrontFacts.{Begins, Behind, LinePrefix, Goes}
 use Rattle.markdown_blocks.proofs.PartedRows.{rest-clear, rows-parted}
 use Rattle.markdown_blocks.proofs.RowFacts.{AreRows, IsLine, behind_line}
-use Rattle.markdown_blocks.proofs.HeadingAtx.Places.{blank-no_heading, break-no_heading}
-use Rattle.markdown_blocks.proofs.PlainFacts.{ArePlain, Untold, chunk-plain, is_clear, plain-append, plain-around, plain-cons, plain-nil, plain-quiet, plain-untold}
-use Rattle.markdown_blocks.proofs.HeadingAtx.Plain.{plain-title}
-use Rattle.markdown_blocks.specs.Leaf.HeadingAtx.{read_title}
+use Rattle.markdown_blocks.proofs.PlainFacts.{ArePlain, Untold, chunk-plain, is_clear, plain-append, plain-around, plain-nil, plain-untold}
 use Rattle.markdown_blocks.proofs.PartedFacts.{clear, clear-between}
+use Rattle.markdown_blocks.proofs.RowLeaf.{row-leaf}
+use Rattle.markdown_blocks.proofs.ContainerFacts.{continues-facts, opens-facts}
+use Rattle.markdown_blocks.proofs.ContainerNames.{container-untold}
+use Rattle.markdown_blocks.proofs.PrefixFacts.{Opens}
+use Rattle.markdown_blocks.proofs.PrefixNames.{prefixes-roles, quiets-roles}
 
 -- Containers.
 
@@ -52,62 +52,36 @@ shown-parts : (cs ds : List Container) → AreShown (cs ++ ds) → AreShown cs �
 shown-parts [] ds h = (tt, h)
 shown-parts (c ∷ cs) ds h = let parts = shown-parts cs ds h.1 in ((h.0, parts.0), parts.1)
 
--- the events of such a container have a plain name
-name-untold : (c : Container) → is_plain (Holds (shape_of c)) ≡ true → Untold (role (container_name c))
-name-untold InQuote h = (refl, refl)
-name-untold (InItem digits marker width starts_blank) h = (h, refl)
-name-untold (InFootnote label) h = (h, refl)
-
 ends-untold : (cs : List Container) (p : Point) → AreShown cs → Roles Untold (ends_of cs p)
 ends-untold [] p h = tt
-ends-untold (c ∷ cs) p h = roles-append Untold (ends_of cs p) (exit (container_name c) p ∷ []) (ends-untold cs p h.1) (name-untold c h.0, tt)
+ends-untold (c ∷ cs) p h = roles-append Untold (ends_of cs p) (exit (container_name c) p ∷ []) (ends-untold cs p h.1) (container-untold c h.0, tt)
 
 -- the ends of containers, and an ending
-plain-tail : (bytes : List ℕ) (name : Name) (row : Row) → Untold (role name) → AreShown row.leaves → ArePlain bytes (tail_events name row)
+plain-tail : (bytes : List ℕ) (name : Name) (row : Row) → Untold (role name) → AreShown row.leaves →
+    ArePlain bytes (tail_events name row)
 plain-tail bytes name row h shown = plain-untold bytes (tail_events name row) (roles-append Untold (ends_of row.leaves row.end) (ending_events name row) (ends-untold row.leaves row.end shown) (go row.after))
   where
     go : (o : Option Point) → Roles Untold (elim o [ None ↦ [] | Some q ↦ pair name row.end q ])
     go None = tt
     go (Some q) = (h, (h, tt))
 
--- what stands in front of the content of a container, of one that goes on or opens
-plain-prefix : (bytes : List ℕ) (p q : Point) (es : List Event) → IsPrefix bytes p q es → ArePlain bytes es
-plain-prefix bytes p q es is = subst (ArePlain bytes) (sym is.events) (go (same_place p is.marker) (same_place is.behind q))
-  where
-    go : (x y : Bool) →
-        ArePlain bytes (cond x [] (pair n.SpaceOrTab p is.marker) ++ enter n.BlockQuotePrefix is.marker ∷ enter n.BlockQuoteMarker is.marker ∷ exit n.BlockQuoteMarker is.behind ∷ cond y [] (pair n.SpaceOrTab is.behind q) ++ exit n.BlockQuotePrefix q ∷ [])
-    go true true = record { names = refl; texts = refl }
-    go true false = record { names = refl; texts = refl }
-    go false true = record { names = refl; texts = refl }
-    go false false = record { names = refl; texts = refl }
-
-plain-further : (bytes : List ℕ) (c : Container) (p q : Point) (es : List Event) → IsContinuationPrefix bytes c p q es → ArePlain bytes es
-plain-further bytes InQuote p q es is = plain-prefix bytes p q es is
-plain-further bytes c p q es is = absurd is
-
-plain-opening : (bytes : List ℕ) (c : Container) (p q : Point) (es : List Event) → IsOpeningPrefix bytes c p q es → ArePlain bytes es
-plain-opening bytes InQuote p q es is = plain-prefix bytes p q es is
-plain-opening bytes c p q es is = absurd is
-
--- where a container opens, an outline shows it: there are only quotes yet
-opening-shown : (bytes : List ℕ) (c : Container) (p q : Point) (es : List Event) → IsOpeningPrefix bytes c p q es → is_plain (Holds (shape_of c)) ≡ true
-opening-shown bytes InQuote p q es is = refl
-opening-shown bytes c p q es is = absurd is
-
-fronts-shown : (bytes : List ℕ) (opens : List Container) (p q : Point) (front : List Event) → LinePrefix bytes opens p q front → AreShown opens
+-- where a container opens, an outline shows it
+fronts-shown : (bytes : List ℕ) (opens : List Container) (p q : Point) (front : List Event) →
+    LinePrefix bytes opens p q front → AreShown opens
 fronts-shown bytes _ p _ _ (Behind _) = tt
 fronts-shown bytes opens p r _ (Goes c _ _ q _ es fs is more) = fronts-shown bytes opens q r fs more
-fronts-shown bytes _ p r _ (Begins c opens _ q _ es fs is more) = (opening-shown bytes c p q es is, fronts-shown bytes opens q r fs more)
+fronts-shown bytes _ p r _ (Begins c opens _ q _ es fs is more) = ((opens-facts bytes c p q es is).shown, fronts-shown bytes opens q r fs more)
 
 -- what stands in front of a line
-plain-front : (bytes : List ℕ) (opens : List Container) (p q : Point) (front : List Event) → LinePrefix bytes opens p q front → ArePlain bytes front
+plain-front : (bytes : List ℕ) (opens : List Container) (p q : Point) (front : List Event) →
+    LinePrefix bytes opens p q front → ArePlain bytes front
 plain-front bytes _ p _ _ (Behind _) = plain-nil bytes
-plain-front bytes opens p r _ (Goes c _ _ q _ es fs is more) = plain-append bytes es fs (plain-further bytes c p q es is) (plain-front bytes opens q r fs more)
+plain-front bytes opens p r _ (Goes c _ _ q _ es fs is more) = plain-append bytes es fs (plain-untold bytes es (prefixes-roles Untold es (refl, refl) (refl, refl) (continues-facts bytes c p q es is).names)) (plain-front bytes opens q r fs more)
 plain-front bytes _ p r _ (Begins c opens _ q _ es fs is more) =
-    let begin : Untold (role (container_name c)) = name-untold c (opening-shown bytes c p q es is) in
-    plain-append bytes (enter (container_name c) p ∷ []) (es ++ fs) (plain-untold bytes (enter (container_name c) p ∷ []) (begin, tt)) (plain-append bytes es fs (plain-opening bytes c p q es is) (plain-front bytes opens q r fs more))
-
--- Headings.
+    let facts : Opens bytes c p q es = opens-facts bytes c p q es is in
+    let begin : Untold (role (container_name c)) = container-untold c facts.shown in
+    let behind : ArePlain bytes es = plain-untold bytes es (quiets-roles Untold es (refl, refl) (refl, refl) facts.roles) in
+    plain-append bytes (enter (container_name c) p ∷ []) (es ++ fs) (plain-untold bytes (enter (container_name c) p ∷ []) (begin, tt)) (plain-append bytes es fs behind (plain-front bytes opens q r fs more))
 
 -- Rows.
 
@@ -115,39 +89,44 @@ plain-front bytes _ p r _ (Begins c opens _ q _ es fs is more) =
 record IsPlainRow (bytes : List ℕ) (row : Row) : Type 0 where
   front : ArePlain bytes row.front
   leaves : AreShown row.leaves
-  inside : row.kind ≢ HeadingRow → IsInside row
+  leaf : row.kind ≢ TextRow → ArePlain bytes (leaf_done bytes row.kind row)
   first : clear bytes row.first ≡ true
   end : clear bytes row.end ≡ true
 
 -- what stands in front of a line, a block, and what follows it
-plain-line : (bytes : List ℕ) (name : Name) (front inside : List Event) (row : Row) → Untold (role name) → AreShown row.leaves → ArePlain bytes front → ArePlain bytes inside → ArePlain bytes (front ++ inside ++ tail_events name row)
+plain-line : (bytes : List ℕ) (name : Name) (front inside : List Event) (row : Row) → Untold (role name) →
+    AreShown row.leaves → ArePlain bytes front → ArePlain bytes inside →
+    ArePlain bytes (front ++ inside ++ tail_events name row)
 plain-line bytes name front inside row u leaves h k = plain-append bytes (front ++ inside) (tail_events name row) (plain-append bytes front inside h k) (plain-tail bytes name row u leaves)
 
-plain-row : (bytes : List ℕ) (row : Row) → IsPlainRow bytes row → ArePlain bytes (single_events_by bytes row.kind row)
-plain-row bytes row h = go row.kind refl
-  where
-    quiet : row.kind ≢ HeadingRow → ArePlain bytes row.inside
-    quiet other = let inside : IsInside row = h.inside other in plain-quiet bytes row.inside inside.quiet
+-- whatever ends a line
+ending-untold : (kind : RowKind) → Untold (role (ending_of kind))
+ending-untold BlankRow = (refl, refl)
+ending-untold (LeafRow l) = (refl, refl)
+ending-untold TextRow = (refl, refl)
 
-    go : (kind : RowKind) → row.kind ≡ kind → ArePlain bytes (single_events_by bytes kind row)
-    go BlankRow e = plain-line bytes n.BlankLineEnding row.front row.inside row (refl, refl) h.leaves h.front (quiet (blank-no_heading row.kind e))
-    go HeadingRow e =
-        let inside : List Event = read_title bytes (row_title bytes row) in
-        plain-line bytes n.LineEnding row.front (around n.HeadingAtx row.first row.end inside) row (refl, refl) h.leaves h.front
-        (plain-around bytes n.HeadingAtx row.first row.end inside refl refl refl (plain-title bytes (row_line bytes row) row.first h.first))
-    go BreakRow e =
-        plain-line bytes n.LineEnding row.front (around n.ThematicBreak row.first row.end row.inside) row (refl, refl) h.leaves h.front
-        (plain-around bytes n.ThematicBreak row.first row.end row.inside refl refl refl (quiet (break-no_heading row.kind e)))
-    go TextRow e = plain-line bytes n.LineEnding row.front _ row (refl, refl) h.leaves h.front (plain-cons bytes _ (exit n.Content row.end ∷ []) refl refl (plain-cons bytes (exit n.Content row.end) [] refl refl (plain-nil bytes)))
+-- the place of text that is not read
+plain-place : (bytes : List ℕ) (row : Row) → ArePlain bytes (leaf_events TextRow row)
+plain-place bytes row = record { names = refl; texts = refl }
+
+plain-row : (bytes : List ℕ) (row : Row) → IsPlainRow bytes row → ArePlain bytes (single_events_by bytes row.kind row)
+plain-row bytes row h = plain-line bytes (ending_of row.kind) row.front (leaf_done bytes row.kind row) row (ending-untold row.kind) h.leaves h.front (go row.kind refl)
+  where
+    go : (kind : RowKind) → row.kind ≡ kind → ArePlain bytes (leaf_done bytes kind row)
+    go TextRow e = plain-place bytes row
+    go BlankRow e = subst (λ (kind : RowKind). ArePlain bytes (leaf_done bytes kind row)) e (h.leaf (λ k. cc))
+    go (LeafRow l) e = subst (λ (kind : RowKind). ArePlain bytes (leaf_done bytes kind row)) e (h.leaf (λ k. cc))
 
 -- the text of a paragraph
-plain-lines : (bytes : List ℕ) (row : Row) (rows : List Row) → EachRow (IsPlainRow bytes) rows → ArePlain bytes (read_lines bytes row rows)
+plain-lines : (bytes : List ℕ) (row : Row) (rows : List Row) → EachRow (IsPlainRow bytes) rows →
+    ArePlain bytes (read_lines bytes row rows)
 plain-lines bytes row [] h = chunk-plain bytes (record { first = row.first; after = row.end })
 plain-lines bytes row (next ∷ rows) h =
     let chunk : Chunk = record { first = row.first; after = behind_row row } in
     plain-append bytes (plain_chunk bytes chunk ++ next.front) (read_lines bytes next rows) (plain-append bytes (plain_chunk bytes chunk) next.front (chunk-plain bytes chunk) h.0.front) (plain-lines bytes next rows h.1)
 
-plain-group : (bytes : List ℕ) (group : Group) → OfGroup (IsPlainRow bytes) group → ArePlain bytes (group_events bytes group)
+plain-group : (bytes : List ℕ) (group : Group) → OfGroup (IsPlainRow bytes) group →
+    ArePlain bytes (group_events bytes group)
 plain-group bytes (Single row) h = plain-row bytes row h
 plain-group bytes (Lines row rows) h =
     let last : Row = last_row row rows in
@@ -156,14 +135,16 @@ plain-group bytes (Lines row rows) h =
     let inside : List Event = read_lines bytes row rows in
     plain-line bytes n.LineEnding row.front (around n.Paragraph row.first last.end inside) last (refl, refl) last_is.leaves is.front (plain-around bytes n.Paragraph row.first last.end inside refl is.first last_is.end (plain-lines bytes row rows h.1))
 
-plain-all : (bytes : List ℕ) (gs : List Group) → EachGroup (IsPlainRow bytes) gs → ArePlain bytes (groups_events bytes gs)
+plain-all : (bytes : List ℕ) (gs : List Group) → EachGroup (IsPlainRow bytes) gs →
+    ArePlain bytes (groups_events bytes gs)
 plain-all bytes [] h = plain-nil bytes
 plain-all bytes (group ∷ gs) h = plain-append bytes (group_events bytes group) (groups_events bytes gs) (plain-group bytes group h.0) (plain-all bytes gs h.1)
 
 -- The rows of a text are such rows.
 
 -- of the containers that a line finds open, an outline shows those that end before it, and those that are open behind it
-line-shown : (options : ParseOptions) (bytes : List ℕ) (open_before : List Container) (going : Bool) (p : Point) (line : List ℕ) (row : Row) → IsLine options bytes open_before going p line row → AreShown open_before →
+line-shown : (options : ParseOptions) (bytes : List ℕ) (open_before : List Container) (going : Bool) (p : Point) (line : List ℕ) (row : Row) →
+    IsLine options bytes open_before going p line row → AreShown open_before →
     AreShown row.change.closes × AreShown (behind_line options open_before going p line)
 line-shown options bytes open_before going p line row at h =
     let c : Change = (contained options open_before going (rest_from p line)).change in
@@ -172,22 +153,28 @@ line-shown options bytes open_before going p line row at h =
     (subst (λ (x : Change). AreShown x.closes) (sym at.change) parts.1, shown-append c.stays c.opens parts.0 opens)
 
 -- the first line
-first-line : (options : ParseOptions) (bytes : List ℕ) (open_before : List Container) (going : Bool) (p : Point) (line : List ℕ) (lines : List (List ℕ)) (row : Row) (rows : List Row) → AreRows options bytes open_before going p (line ∷ lines) (row ∷ rows) →
+first-line : (options : ParseOptions) (bytes : List ℕ) (open_before : List Container) (going : Bool) (p : Point) (line : List ℕ) (lines : List (List ℕ)) (row : Row) (rows : List Row) →
+    AreRows options bytes open_before going p (line ∷ lines) (row ∷ rows) →
     IsLine options bytes open_before going p line row
 first-line options bytes open_before going p line [] row [] h = h.0
 first-line options bytes open_before going p line (next ∷ lines) row (below ∷ rows) h = h.0
 first-line options bytes open_before going p line lines row rows h = absurd h
 
-line-plain : (options : ParseOptions) (bytes : List ℕ) (open_before : List Container) (going : Bool) (p : Point) (line : List ℕ) (row : Row) → IsLine options bytes open_before going p line row → AreShown row.leaves → IsPlainRow bytes row
-line-plain options bytes open_before going p line row at leaves = record {
-  front = plain-front bytes row.change.opens p row.first row.front at.front;
-  leaves = leaves;
-  inside = at.is.inside;
-  first = rest-clear options bytes open_before going p line row at;
-  end = ap (λ (v : ℕ). (v == 0) || is_between bytes (byte_at row.end)) at.is.end_whole;
-}
+line-plain : (options : ParseOptions) (bytes : List ℕ) (open_before : List Container) (going : Bool) (p : Point) (line : List ℕ) (row : Row) →
+    IsLine options bytes open_before going p line row → AreShown row.leaves → IsPlainRow bytes row
+line-plain options bytes open_before going p line row at leaves =
+    let rest : List ℕ = rest_line (contained options open_before going (rest_from p line)).rest in
+    let first : clear bytes row.first ≡ true = rest-clear options bytes rest row at.is in
+    record {
+      front = plain-front bytes row.change.opens p row.first row.front at.front;
+      leaves = leaves;
+      leaf = λ other. (row-leaf options bytes rest row at.is other).1.plain first;
+      first = first;
+      end = ap (λ (v : ℕ). (v == 0) || is_between bytes (byte_at row.end)) at.is.end_whole;
+    }
 
-plain-rows : (options : ParseOptions) (bytes : List ℕ) (open_before : List Container) (going : Bool) (p : Point) (lines : List (List ℕ)) (rows : List Row) → AreRows options bytes open_before going p lines rows → AreShown open_before → EachRow (IsPlainRow bytes) rows
+plain-rows : (options : ParseOptions) (bytes : List ℕ) (open_before : List Container) (going : Bool) (p : Point) (lines : List (List ℕ)) (rows : List Row) →
+    AreRows options bytes open_before going p lines rows → AreShown open_before → EachRow (IsPlainRow bytes) rows
 plain-rows options bytes open_before going p (line ∷ []) (row ∷ []) h shown =
     let here = line-shown options bytes open_before going p line row h.0 shown in
     (line-plain options bytes open_before going p line row h.0 (subst AreShown (sym h.1) here.1), tt)
@@ -199,20 +186,26 @@ plain-rows options bytes open_before going p (line ∷ next ∷ lines) (row ∷ 
 plain-rows options bytes open_before going p lines rows h shown = absurd h
 
 -- a text that begins and ends clear, and between characters, does so also behind a tab that is cut
-tells-clear : (bytes : List ℕ) (told : Bool) (p : Point) → (not told || clear bytes p) ≡ true → is_between bytes p.index ≡ true → (not told || is_between bytes (byte_at p)) ≡ true
+tells-clear : (bytes : List ℕ) (told : Bool) (p : Point) → (not told || clear bytes p) ≡ true →
+    is_between bytes p.index ≡ true → (not told || is_between bytes (byte_at p)) ≡ true
 tells-clear bytes false p h k = refl
 tells-clear bytes true p h k = clear-between bytes p h k
 
-all-tell : (bytes : List ℕ) (events : List Event) → list_all (is_clear bytes) events ≡ true → list_all (λ (e : Event). is_between bytes e.point.index) events ≡ true → list_all (tells_between bytes) events ≡ true
+all-tell : (bytes : List ℕ) (events : List Event) → list_all (is_clear bytes) events ≡ true →
+    list_all (λ (e : Event). is_between bytes e.point.index) events ≡ true →
+    list_all (tells_between bytes) events ≡ true
 all-tell bytes [] h k = refl
 all-tell bytes (e ∷ events) h k =
     let clears = and_parts (is_clear bytes e) (list_all (is_clear bytes) events) h in
     let betweens = and_parts (is_between bytes e.point.index) (list_all (λ (e : Event). is_between bytes e.point.index) events) k in
     and_from (tells_between bytes e) (list_all (tells_between bytes) events) (tells-clear bytes (is_told (role e.name)) e.point clears.0 betweens.0) (all-tell bytes events clears.1 betweens.1)
 
--- the events of a text are outlined, if they nest and stand between its characters, and no heading is too deep
-pub groups-outlined : (options : ParseOptions) (bytes : List ℕ) (p : Point) (lines : List (List ℕ)) (rows : List Row) → AreRows options bytes [] false p lines rows → IsUtf8 bytes →
-    Balanced (groups_events bytes (groups rows)) → list_all (λ (e : Event). is_between bytes e.point.index) (groups_events bytes (groups rows)) ≡ true → are_shallow (spelled (groups_events bytes (groups rows)) bytes) ≡ true →
+-- the events of a text are outlined, if they nest and stand between its characters, and none is too deep
+pub groups-outlined : (options : ParseOptions) (bytes : List ℕ) (p : Point) (lines : List (List ℕ)) (rows : List Row) →
+    AreRows options bytes [] false p lines rows → IsUtf8 bytes →
+    Balanced (groups_events bytes (groups rows)) →
+    list_all (λ (e : Event). is_between bytes e.point.index) (groups_events bytes (groups rows)) ≡ true →
+    are_shallow (spelled (groups_events bytes (groups rows)) bytes) ≡ true →
     IsOutlined (groups_events bytes (groups rows)) bytes
 groups-outlined options bytes p lines rows are utf8 balanced between depths =
     let plain : ArePlain bytes (groups_events bytes (groups rows)) = plain-all bytes (groups rows) (groups-each (IsPlainRow bytes) rows (plain-rows options bytes [] false p lines rows are tt)) in

@@ -1,122 +1,35 @@
--- The rest of a line that begins within a cut tab is read as if that tab stood there whole: its first cell is fed as a space and
--- not as the tab, and nothing tells the two apart.
-use Rattle.std.proofs.Common.{◌≡◌, ℕ, zero, suc, ◌^◌, ◌<◌, ◌≤◌, Bool, true, false, cond, ◌&&◌, ◌==◌, List, ◌∷◌, ◌++◌, length, drop, refl, sym, ap, ◌∙◌, arith}
-use Rattle.std.proofs.lemmas.Bool.{or_right}
-use Rattle.md_engine.specs.declared.configuration.ParseOptions.{ParseOptions}
+-- The rest of a line as a row: its bytes as they stand in the text, and its cells.
+use Rattle.std.proofs.Common.{◌≡◌, ℕ, zero, suc, ◌≤◌, Bool, true, false, cond, ◌==◌, List, [], ◌∷◌, ◌++◌, refl, sym, ap, ◌∙◌}
+use Rattle.std.proofs.lemmas.Bool.{and_parts, or_right}
 use Rattle.md_engine.specs.declared.event.Event.{Event}
 use Rattle.md_engine.specs.declared.event.Name.TheVariants as n
 use Rattle.md_engine.specs.declared.event.Point.{Point}
 use Rattle.md_engine.specs.declared.tokenizer.Line.{Line}
 use Rattle.md_engine.specs.Meaning.{Cell}
-use Rattle.md_leaves.specs.BreakRule as break
-use Rattle.md_leaves.specs.HeadingRule as heading
-use Rattle.md_seam.specs.Ahead.{from_ending, line_bytes, line_cells, line_end, white_end, white_rest}
-use Rattle.md_seam.specs.Standard.Leaves.{is_rule}
+use Rattle.md_leaves.specs.BlankRule.{blank_events}
+use Rattle.md_seam.specs.Ahead.{begins_white, from_ending, line_bytes, line_end}
 use Rattle.md_seam.specs.Events.Nested.{pair}
 use Rattle.md_seam.specs.Events.Places.{past_byte, past_text}
-use Rattle.md_seam.specs.Standard.Rest.{Rest, is_blank}
-use Rattle.md_seam.specs.Spaces.{any_size, small_indent}
-use Rattle.md_seam.proofs.FeedLines.{Stops, behind_last, cell, columns_more, next_column, past_text-whole, spread, tab_cells, tab_end, tab_end-stop}
-use Rattle.md_seam.proofs.RestCells.{Cut, RestAt, cells_by, past_cut, past_rest, rest_cells}
+use Rattle.md_seam.specs.Standard.Rest.{Rest, cut_tab, is_blank, is_white}
+use Rattle.md_seam.proofs.FeedLines.{Stops, all-spread, bytes_of, cell, columns_more, from_ending-append, no_feed-spread, past_text-whole, spread, stops-white, tab_cells, tab_end, tab_end-stop}
+use Rattle.md_seam.proofs.RestCells.{Cut, past_cut, past_rest, rest_cells}
 use Rattle.md_seam.proofs.TextsLemmas.{NoEnding}
-use Rattle.markdown_blocks.specs.Fronted.{cut_tab, rest_line}
-use Rattle.markdown_blocks.specs.Rows.{BlankRow, Row, RowKind, TextRow, inside_of, line_kind, row_kind}
-use Rattle.markdown_blocks.proofs.LineKinds.{kind-spread, spread-rest}
+use Rattle.markdown_blocks.specs.Fronted.{rest_line}
+use Rattle.markdown_blocks.specs.Rows.{blank_line}
 use Rattle.markdown_blocks.proofs.PieceFacts.{CutsFirst, whole-first}
-use Rattle.markdown_blocks.specs.Leaf.ThematicBreak.{first_cell}
+use Rattle.markdown_blocks.proofs.RestFacts.{rest-no_ending, rest-same, spread-line, spread-line_end}
 
--- What does not tell a space from a tab in the first cell has the same value on the rest of a line and on its bytes.
+-- Its bytes.
 
-first-same : (X : Type 0) (F : List Cell → X) (said : Line) → ((at : Point) (cs : List Cell) → F (cell 32 at said ∷ cs) ≡ F (cell 9 at said ∷ cs)) → (n : ℕ) (p : Point) (xs ys : List Cell) →
-    F (tab_cells said n 32 p ++ xs ++ ys) ≡ F (tab_cells said n 9 p ++ xs ++ ys)
-first-same X F said same zero p xs ys = same (behind_last p) (xs ++ ys)
-first-same X F said same (suc n) p xs ys = same (next_column p) (tab_cells said n 32 (next_column p) ++ xs ++ ys)
-
-pub rest-same : (X : Type 0) (F : List Cell → X) (said : Line) → ((at : Point) (cs : List Cell) → F (cell 32 at said ∷ cs) ≡ F (cell 9 at said ∷ cs)) → (r : Rest) (p : Point) (stop : List Cell) → 1 ≤ p.column → Cut r.spaces p →
-    F (rest_cells said r p ++ stop) ≡ F (spread said (rest_line r) p ++ stop)
-rest-same X F said same r p stop one = go r.spaces
+-- a tab that is cut does not count where they are blank
+line-blank : (r : Rest) → is_blank (rest_line r) ≡ is_blank r.bytes
+line-blank r = go r.spaces
   where
-    go : (spaces : ℕ) → Cut spaces p → F (cells_by said spaces r.bytes p ++ stop) ≡ F (spread said (cut_tab spaces ++ r.bytes) p ++ stop)
-    go zero cut = refl
-    go (suc k) cut =
-        ap (λ (m : ℕ). F (tab_cells said m 32 p ++ spread said r.bytes (tab_end m p) ++ stop)) cut.1
-        ∙ ap (λ (q : Point). F (tab_cells said (columns_more p) 32 p ++ spread said r.bytes q ++ stop)) (tab_end-stop p one)
-        ∙ first-same X F said same (columns_more p) p (spread said r.bytes (past_byte 9 p)) stop
+    go : (spaces : ℕ) → is_blank (cut_tab spaces ++ r.bytes) ≡ is_blank r.bytes
+    go zero = refl
+    go (suc k) = refl
 
--- behind the whitespace in front nothing of it is left
-rest-white : (room : ℕ) (said : Line) (at : Point) (cs : List Cell) → 0 < room → white_rest room (cell 32 at said ∷ cs) ≡ white_rest room (cell 9 at said ∷ cs)
-rest-white zero said at cs lt = absurd (omega (arith, lt))
-rest-white (suc room) said at cs lt = refl
-
-end-white : (room : ℕ) (said : Line) (at : Point) (cs : List Cell) (p : Point) → 0 < room → white_end room (cell 32 at said ∷ cs) p ≡ white_end room (cell 9 at said ∷ cs) p
-end-white zero said at cs p lt = absurd (omega (arith, lt))
-end-white (suc room) said at cs p lt = refl
-
-some-room : (options : ParseOptions) → 0 < small_indent options
-some-room options = go options.constructs.code_indented
-  where
-    go : (t : Bool) → 0 < cond t 3 any_size
-    go true = omega arith
-    go false = omega arith
-
--- its kind
-kind-first : (options : ParseOptions) (said : Line) (at : Point) (cs : List Cell) → row_kind options (cell 32 at said ∷ cs) ≡ row_kind options (cell 9 at said ∷ cs)
-kind-first options said at cs =
-    ap (λ (l : List Cell). cond (is_blank (line_bytes (cell 9 at said ∷ cs))) BlankRow (cond (options.constructs.heading_atx && heading.is_heading (line_bytes l)) HeadingRow (cond (options.constructs.thematic_break && is_rule (line_bytes l)) BreakRow TextRow)))
-    (rest-white (small_indent options) said at cs (some-room options))
-
--- what stands inside
-inside-first : (options : ParseOptions) (said : Line) (at p : Point) (cs : List Cell) (kind : RowKind) → inside_of options (cell 32 at said ∷ cs) p kind ≡ inside_of options (cell 9 at said ∷ cs) p kind
-inside-first options said at p cs BlankRow = refl
-inside-first options said at p cs TextRow = refl
-inside-first options said at p cs HeadingRow =
-    let room = small_indent options in
-    ap (λ (l : List Cell). pair n.SpaceOrTab p (white_end room (cell 32 at said ∷ cs) p) ++ heading.runs heading.Apart (line_cells l) (white_end room (cell 32 at said ∷ cs) p)) (rest-white room said at cs (some-room options))
-    ∙ ap (λ (q : Point). pair n.SpaceOrTab p q ++ heading.runs heading.Apart (line_cells (white_rest room (cell 9 at said ∷ cs))) q) (end-white room said at cs p (some-room options))
-inside-first options said at p cs BreakRow =
-    let room = small_indent options in
-    ap (λ (l : List Cell). pair n.SpaceOrTab p (white_end room (cell 32 at said ∷ cs) p) ++ break.runs break.Apart (first_cell l) (line_cells l) (white_end room (cell 32 at said ∷ cs) p)) (rest-white room said at cs (some-room options))
-    ∙ ap (λ (q : Point). pair n.SpaceOrTab p q ++ break.runs break.Apart (first_cell (white_rest room (cell 9 at said ∷ cs))) (line_cells (white_rest room (cell 9 at said ∷ cs))) q) (end-white room said at cs p (some-room options))
-
--- a row with what its cells say of it
-abbrev pub row_with : ParseOptions → Row → List Cell → Point → Row
-row_with options row cells p = record row { kind = row_kind options cells; first = p; inside = inside_of options cells p (row_kind options cells); end = line_end cells p }
-
-pub rest-row : (options : ParseOptions) (row : Row) (said : Line) (r : Rest) (p : Point) (stop : List Cell) → 1 ≤ p.column → Cut r.spaces p → row_with options row (rest_cells said r p ++ stop) p ≡ row_with options row (spread said (rest_line r) p ++ stop) p
-rest-row options row said r p stop = rest-same Row (λ (l : List Cell). row_with options row l p) said same r p stop
-  where
-    same : (at : Point) (cs : List Cell) → row_with options row (cell 32 at said ∷ cs) p ≡ row_with options row (cell 9 at said ∷ cs) p
-    same at cs =
-        let kind : RowKind = row_kind options (cell 9 at said ∷ cs) in
-        let end : Point = line_end (cell 9 at said ∷ cs) p in
-        ap (λ (k : RowKind). let new : Row = record row { kind = k; first = p; inside = inside_of options (cell 32 at said ∷ cs) p k; end = end } in new) (kind-first options said at cs)
-        ∙ ap (λ (es : List Event). let new : Row = record row { kind = kind; first = p; inside = es; end = end } in new) (inside-first options said at p cs kind)
-
--- Of the rest of a line.
-
-pub rest-length : (said : Line) (r : Rest) (p : Point) (stop : List Cell) → 1 ≤ p.column → Cut r.spaces p → length (rest_cells said r p ++ stop) ≡ length (spread said (rest_line r) p ++ stop)
-rest-length said r p stop = rest-same ℕ length said (λ at cs. refl) r p stop
-
-pub rest-no_ending : (r : Rest) → NoEnding r.bytes → NoEnding (rest_line r)
-rest-no_ending r h = go r.spaces
-  where
-    go : (spaces : ℕ) → NoEnding (cut_tab spaces ++ r.bytes)
-    go zero = h
-    go (suc k) = (refl, h)
-
--- what follows it
-pub rest-ending : (said : Line) (r : Rest) (p : Point) (stop : List Cell) → 1 ≤ p.column → Cut r.spaces p → NoEnding r.bytes → Stops stop → from_ending (rest_cells said r p ++ stop) ≡ stop
-rest-ending said r p stop one cut h k = rest-same (List Cell) from_ending said (λ at cs. refl) r p stop one cut ∙ spread-rest said (rest_line r) p stop (rest-no_ending r h) k
-
--- what it is by its cells, it is by its bytes
-pub kind-rest : (options : ParseOptions) (said : Line) (r : Rest) (p : Point) (stop : List Cell) → options.constructs.code_indented ≡ false → length (rest_cells said r p ++ stop) < 2 ^ 63 → NoEnding r.bytes → Stops stop → 1 ≤ p.column → Cut r.spaces p →
-    row_kind options (rest_cells said r p ++ stop) ≡ line_kind options (rest_line r)
-kind-rest options said r p stop off short h k one cut =
-    let size = rest-length said r p stop one cut in
-    rest-same RowKind (row_kind options) said (kind-first options said) r p stop one cut
-    ∙ kind-spread options said (rest_line r) p stop off (omega arith) (rest-no_ending r h) k one
-
--- where it ends
+-- where they end
 pub rest-past : (r : Rest) (p : Point) → 1 ≤ p.column → Cut r.spaces p → past_text (rest_line r) p ≡ past_rest r p
 rest-past r p one = go r.spaces
   where
@@ -124,6 +37,7 @@ rest-past r p one = go r.spaces
     go zero cut = refl
     go (suc k) cut = sym (ap (λ (m : ℕ). past_text r.bytes (tab_end m p)) cut.1 ∙ ap (past_text r.bytes) (tab_end-stop p one))
 
+-- no tab is cut there
 pub rest-whole : (r : Rest) (p : Point) → Cut r.spaces p → (past_text (rest_line r) p).vs ≡ 0
 rest-whole r p = go r.spaces
   where
@@ -131,7 +45,7 @@ rest-whole r p = go r.spaces
     go zero cut = past_text-whole r.bytes p cut
     go (suc k) cut = past_text-whole r.bytes (past_byte 9 p) refl
 
--- a tab that is cut is its first byte
+-- a tab that is cut is the first of them
 pub rest-cut : (r : Rest) (p : Point) → Cut r.spaces p → CutsFirst p (rest_line r)
 rest-cut r p = go r.spaces
   where
@@ -139,6 +53,52 @@ rest-cut r p = go r.spaces
     go zero cut = whole-first p r.bytes cut
     go (suc k) cut = or_right (p.vs == 0) true refl
 
--- and its bytes in the text
-pub rest-text : (text past : List ℕ) (r : Rest) (p : Point) → RestAt text past r p → drop p.index text ≡ rest_line r ++ past
-rest-text text past r p is = is.text_is
+-- Its cells.
+
+-- what begins with an ending is all that is left from there on
+stops-rest : (stop : List Cell) → Stops stop → from_ending stop ≡ stop
+stops-rest [] h = refl
+stops-rest (c ∷ cs) h = rw h refl
+
+-- what follows it
+pub rest-ending : (said : Line) (r : Rest) (p : Point) (stop : List Cell) → NoEnding r.bytes → Stops stop → 1 ≤ p.column → Cut r.spaces p →
+    from_ending (rest_cells said r p ++ stop) ≡ stop
+rest-ending said r p stop h k one cut =
+    rest-same (List Cell) from_ending said (λ at cs. refl) r p stop one cut
+    ∙ from_ending-append (spread said (rest_line r) p) stop (no_feed-spread said (rest_line r) p (rest-no_ending r h))
+    ∙ stops-rest stop k
+
+-- it is blank if the bytes of the rest are
+pub rest-blank : (said : Line) (r : Rest) (p : Point) (stop : List Cell) → NoEnding r.bytes → Stops stop → 1 ≤ p.column → Cut r.spaces p →
+    is_blank (line_bytes (rest_cells said r p ++ stop)) ≡ is_blank r.bytes
+rest-blank said r p stop h k one cut =
+    rest-same Bool (λ (l : List Cell). is_blank (line_bytes l)) said (λ at cs. refl) r p stop one cut
+    ∙ ap (λ (l : List Cell). is_blank (bytes_of l)) (spread-line said (rest_line r) p stop (rest-no_ending r h) k)
+    ∙ all-spread is_white refl said (rest_line r) p
+    ∙ line-blank r
+
+-- bytes that begin with whitespace do so by their cells
+spread-white : (said : Line) (b : ℕ) (bs : List ℕ) (p : Point) (stop : List Cell) → is_white b ≡ true → begins_white (spread said (b ∷ bs) p ++ stop) ≡ true
+spread-white said b bs p stop e = go (b == 9)
+  where
+    tab : (n : ℕ) → begins_white ((tab_cells said n 9 p ++ spread said bs (past_byte b p)) ++ stop) ≡ true
+    tab zero = refl
+    tab (suc n) = refl
+
+    go : (t : Bool) → begins_white ((cond t (tab_cells said (columns_more p) 9 p) (cell b (past_byte b p) said ∷ []) ++ spread said bs (past_byte b p)) ++ stop) ≡ true
+    go true = tab (columns_more p)
+    go false = e
+
+-- the whitespace of a blank line, by its bytes
+spread-blank_events : (said : Line) (bytes : List ℕ) (p : Point) (stop : List Cell) → is_blank bytes ≡ true → NoEnding bytes → Stops stop → 1 ≤ p.column →
+    blank_events (spread said bytes p ++ stop) p ≡ blank_line bytes p
+spread-blank_events said [] p stop blank h k one = ap (λ (t : Bool). cond t (pair n.SpaceOrTab p (line_end stop p)) []) (stops-white stop k)
+spread-blank_events said (b ∷ bs) p stop blank h k one =
+    ap (λ (t : Bool). cond t (pair n.SpaceOrTab p (line_end (spread said (b ∷ bs) p ++ stop) p)) []) (spread-white said b bs p stop (and_parts (is_white b) (is_blank bs) blank).0)
+    ∙ ap (pair n.SpaceOrTab p) (spread-line_end said (b ∷ bs) p stop h k one)
+
+pub rest-blank_events : (said : Line) (r : Rest) (p : Point) (stop : List Cell) → is_blank r.bytes ≡ true → NoEnding r.bytes → Stops stop → 1 ≤ p.column →
+    Cut r.spaces p → blank_events (rest_cells said r p ++ stop) p ≡ blank_line (rest_line r) p
+rest-blank_events said r p stop blank h k one cut =
+    rest-same (List Event) (λ (l : List Cell). blank_events l p) said (λ at cs. refl) r p stop one cut
+    ∙ spread-blank_events said (rest_line r) p stop (line-blank r ∙ blank) (rest-no_ending r h) k one

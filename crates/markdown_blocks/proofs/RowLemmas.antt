@@ -1,227 +1,72 @@
 -- The lines that flow reads are those of the text.
-use Rattle.std.proofs.Common.{◌≡◌, ◌≢◌, ℕ, zero, suc, ◌+◌, ◌^◌, ◌<◌, ◌≤◌, Bool, true, false, cond, List, [], ◌∷◌, ◌++◌, length, drop, refl, sym, ap, ◌∙◌, subst, arith, append-nil, append_assoc, inl, inr, ◌⊎◌}
-use Rattle.std.specs.Prelude.{◌==◌, IsTrue, Some, map}
-use Rattle.std.specs.List.{prefix_len}
-use Rattle.std.proofs.lemmas.Bool.{and_parts, eqb-true, or_from}
-use Rattle.std.proofs.lemmas.List.{length-append, take-append-drop}
+use Rattle.std.proofs.Common.{◌≡◌, ℕ, zero, suc, ◌+◌, ◌^◌, ◌<◌, ◌≤◌, Bool, true, false, List, [], ◌∷◌, ◌++◌, length, drop, refl, sym, ap, ◌∙◌, subst, arith, append-nil, append_assoc, inl, inr, ◌⊎◌}
+use Rattle.std.specs.Prelude.{◌==◌, Some}
+use Rattle.std.proofs.lemmas.Bool.{eqb-true, or_from}
+use Rattle.std.proofs.lemmas.List.{length-append}
 use Rattle.md_engine.specs.declared.configuration.ParseOptions.{ParseOptions}
-use Rattle.md_engine.specs.declared.event.Event.{Event}
-use Rattle.md_engine.specs.declared.event.Name.TheVariants as n
 use Rattle.md_engine.specs.declared.event.Point.{Point}
 use Rattle.md_engine.specs.declared.tokenizer.Line.{Line}
 use Rattle.md_engine.specs.Meaning.{Cell}
 use Rattle.md_engine.specs.TextFeed.{text_feed}
 use Rattle.md_engine.specs.World.{Setting}
 use Rattle.md_engine.proofs.TextFeed.{text-follows}
-use Rattle.md_leaves.specs.BlankRule.{blank_events}
-use Rattle.md_leaves.specs.BreakRule.{Apart, runs}
-use Rattle.md_leaves.specs.HeadingRule.{is_heading_line}
-use Rattle.md_seam.specs.Ahead.{begins_white, from_ending, line_bytes, line_cells, line_end, point_after, white_rest}
-use Rattle.md_seam.specs.Events.Nested.{Balanced, Forward, last_point, pair}
-use Rattle.md_seam.specs.Events.Places.{at_or_before, past_byte, past_text, same_place}
-use Rattle.md_seam.specs.Standard.Rest.{Rest, is_blank, is_white, trim_start}
-use Rattle.md_seam.specs.Spaces.{small_indent}
+use Rattle.md_seam.specs.Ahead.{from_ending, line_end}
+use Rattle.md_seam.specs.Events.Places.{past_text}
+use Rattle.md_seam.specs.Standard.Rest.{Rest}
 use Rattle.md_seam.specs.Standard.State.{Container}
 use Rattle.md_seam.specs.Standard.Texts.{split_lines}
-use Rattle.md_seam.proofs.FeedLines.{HasEnding, HasLine, Stops, before-byte, before-column, behind_last, begun-none, byte-end, byte_cells, cell, columns_more, drop-past, ending-feed, ending-some, feed-none, front-within, is-ending, line-feed, next_column, past_ending, past_text-column, slice-front, spread, spread-end, tab_cells}
-use Rattle.md_seam.proofs.InlineLemmas.{past-index, same-refl, before-text, past_text-append}
-use Rattle.md_seam.proofs.NestedLemmas.{at_or_before-refl, balanced-append, balanced-none}
+use Rattle.md_seam.proofs.FeedLines.{HasEnding, HasLine, Stops, begun-none, cell, drop-past, ending-feed, ending-some, feed-none, front-within, is-ending, line-feed, past_ending, slice-front, spread}
+use Rattle.md_seam.proofs.InlineLemmas.{past-index}
 use Rattle.md_seam.proofs.RestCells.{RestAt, rest_cells}
-use Rattle.md_seam.proofs.SpelledLemmas.{Quiet, Roles, roles-append}
 use Rattle.md_seam.proofs.TextsLemmas.{Both, Ending, EndsBefore, LineFeed, NoEnding, Return, ending_bytes, split-line, split-next}
 use Rattle.markdown_blocks.specs.Change.{open_behind}
 use Rattle.markdown_blocks.specs.FlowReads.{text_cells, text_rows, text_setting}
 use Rattle.markdown_blocks.specs.Fronted.{Contained, contained, rest_from, rest_line}
 use Rattle.markdown_blocks.specs.Parsed.{IsBuilt}
-use Rattle.markdown_blocks.specs.Rows.{BlankRow, Held, Row, RowKind, TextRow, after_ending, closes_before, held_at, inside_of, is_text, onto_rows, row_kind, row_of, rows_at, rows_by}
+use Rattle.markdown_blocks.specs.Rows.{Held, Row, RowKind, after_ending, closes_before, held_at, inside_of, is_text, line_kind, onto_rows, row_kind, row_of, rows_at, rows_by}
 use Rattle.markdown_blocks.proofs.FrontRows.{AreRead, HasHeld, held-is}
-use Rattle.markdown_blocks.proofs.HeadingAtx.Runs.{heading-runs}
-use Rattle.markdown_blocks.proofs.LineKinds.{kind-spread, no_ending-trim, small-end, small-rest, spread-line, spread-line_end, white_front}
-use Rattle.markdown_blocks.proofs.PieceFacts.{CutsFirst}
-use Rattle.markdown_blocks.proofs.PieceLeaves.{inside-stand}
-use Rattle.markdown_blocks.proofs.PiecesLemmas.{Tiled, tiled-none, tiled-pair}
-use Rattle.markdown_blocks.proofs.RestRows.{rest-cut, rest-ending, rest-length, rest-no_ending, rest-past, rest-row, rest-text, rest-whole, row_with}
+use Rattle.markdown_blocks.proofs.RestFacts.{rest-line_end, rest-no_ending}
+use Rattle.markdown_blocks.proofs.RestRows.{rest-cut, rest-ending, rest-past, rest-whole}
 use Rattle.markdown_blocks.proofs.RowFacts.{AreRows, IsEnding, IsLine, IsRow, behind_line}
-use Rattle.markdown_blocks.specs.Leaf.ThematicBreak.{break_inside, first_cell, is_break}
-use Rattle.markdown_blocks.proofs.SpanLemmas.{Spans, spans-append}
-
--- Points go forward.
-
--- the points behind the cells never go back
-abbrev pub Climbs : Point → List Cell → Type 0
-Climbs p [] = Unit {0}
-Climbs p (c ∷ cs) = IsTrue (at_or_before p c.after) × Climbs c.after cs
-
-pub climbs-append : (xs ys : List Cell) (p : Point) → Climbs p xs → Climbs (point_after xs p) ys → Climbs p (xs ++ ys)
-climbs-append [] ys p h k = k
-climbs-append (c ∷ xs) ys p h k = (h.0, climbs-append xs ys c.after h.1 k)
-
-climbs-tab : (line : Line) (n byte : ℕ) (p : Point) → Climbs p (tab_cells line n byte p)
-climbs-tab line zero byte p = (before-byte p (behind_last p) (omega arith), tt)
-climbs-tab line (suc n) byte p = (before-column p, climbs-tab line n 32 (next_column p))
-
-climbs-byte : (line : Line) (b : ℕ) (p : Point) → Climbs p (byte_cells line b p)
-climbs-byte line b p = go (b == 9)
-  where
-    go : (t : Bool) → Climbs p (cond t (tab_cells line (columns_more p) 9 p) (cell b (past_byte b p) line ∷ []))
-    go true = climbs-tab line (columns_more p) 9 p
-    go false = (before-byte p (past_byte b p) (omega arith), tt)
-
-climbs-spread : (line : Line) (bytes : List ℕ) (p : Point) → 1 ≤ p.column → Climbs p (spread line bytes p)
-climbs-spread line [] p one = tt
-climbs-spread line (b ∷ bs) p one =
-    climbs-append (byte_cells line b p) (spread line bs (past_byte b p)) p (climbs-byte line b p)
-    (subst (λ (q : Point). Climbs q (spread line bs (past_byte b p))) (sym (byte-end line b p one)) (climbs-spread line bs (past_byte b p) (omega arith)))
-
--- What stands inside.
-
--- quiet events, nested, between two points
-record Inside (p q : Point) (es : List Event) : Type 0 where
-  quiet : Roles Quiet es
-  balanced : Balanced es
-  forward : Forward p es
-  within : IsTrue (at_or_before (last_point p es) q)
-
-inside-none : (p q : Point) → IsTrue (at_or_before p q) → Inside p q []
-inside-none p q h = record { quiet = tt; balanced = balanced-none; forward = tt; within = h }
-
-inside-white : (p q : Point) → IsTrue (at_or_before p q) → Inside p q (pair n.SpaceOrTab p q)
-inside-white p q h = record { quiet = (tt, (tt, tt)); balanced = record { matches = (tt, (refl, tt)); closed = refl }; forward = (at_or_before-refl p, (h, tt)); within = at_or_before-refl q }
-
-inside-maybe : (t : Bool) (p q : Point) → IsTrue (at_or_before p q) → Inside p q (cond t (pair n.SpaceOrTab p q) [])
-inside-maybe true p q h = inside-white p q h
-inside-maybe false p q h = inside-none p q h
-
-inside-append : (p q r : Point) (xs ys : List Event) → Inside p q xs → Inside q r ys → Inside p r (xs ++ ys)
-inside-append p q r xs ys a b =
-    let spans : Spans p r (xs ++ ys) = spans-append p q r xs ys (a.forward, a.within) (b.forward, b.within) in
-    record { quiet = roles-append Quiet xs ys a.quiet b.quiet; balanced = balanced-append xs ys a.balanced b.balanced; forward = spans.0; within = spans.1 }
-
--- The runs of a break.
-
--- The runs of a break cover it: behind an enter, they shut it.
-
--- the whitespace at the begin of a line
-pub white-tiled : (cells : List Cell) (p q : Point) → (begins_white cells ≡ false → p ≡ q) → Tiled p q (cond (begins_white cells) (pair n.SpaceOrTab p q) [])
-white-tiled cells p q none = go (begins_white cells) none
-  where
-    go : (t : Bool) → (t ≡ false → p ≡ q) → Tiled p q (cond t (pair n.SpaceOrTab p q) [])
-    go true none = tiled-pair n.SpaceOrTab p q
-    go false none = tiled-none p q (subst (λ (r : Point). same_place p r ≡ true) (none refl) (same-refl p))
-
--- a blank line that does not begin with whitespace is empty
-blank-none : (cells : List Cell) (p : Point) → is_blank (line_bytes cells) ≡ true → begins_white cells ≡ false → p ≡ line_end cells p
-blank-none [] p h k = refl
-blank-none (c ∷ cs) p h k = go (c.byte == 10) h
-  where
-    go : (t : Bool) → is_blank (map (λ (d : Cell). d.byte) (cond t [] (c ∷ line_cells cs))) ≡ true → p ≡ point_after (cond t [] (c ∷ line_cells cs)) p
-    go true h = refl
-    go false h =
-        let white : is_white c.byte ≡ true = (and_parts (is_white c.byte) (is_blank (line_bytes cs)) h).0 in
-        let none : is_white c.byte ≡ false = k in
-        absurd (cc)
-
-blank-tiled : (cells : List Cell) (p : Point) → is_blank (line_bytes cells) ≡ true → Tiled p (line_end cells p) (blank_events cells p)
-blank-tiled cells p h = white-tiled cells p (line_end cells p) (blank-none cells p h)
-
--- a blank line or a break is covered by what stands inside
-row-tiled : (options : ParseOptions) (cells : List Cell) (p : Point) (kind : RowKind) → row_kind options cells ≡ kind → kind ≢ HeadingRow → kind ≢ TextRow → Tiled p (line_end cells p) (inside_of options cells p kind)
-row-tiled options cells p BlankRow e heading text = blank-tiled cells p (blank (is_blank (line_bytes cells)) (is_heading_line options cells) (is_break options cells) e)
-  where
-    blank : (x y z : Bool) → cond x BlankRow (cond y HeadingRow (cond z BreakRow TextRow)) ≡ BlankRow → x ≡ true
-    blank true y z e = refl
-    blank false true z e = cc
-    blank false false true e = cc
-    blank false false false e = cc
-row-tiled options cells p HeadingRow e heading text = absurd (heading refl)
-row-tiled options cells p BreakRow e heading text = break-tiled options cells p
-row-tiled options cells p TextRow e heading text = absurd (text refl)
+use Rattle.markdown_blocks.proofs.RowKinds.{blank-inside, kind-rest, leaf-inside}
 
 -- A row.
 
-inside-blank : (line : Line) (bytes : List ℕ) (p : Point) (rest : List Cell) → NoEnding bytes → Stops rest → 1 ≤ p.column → Inside p (past_text bytes p) (blank_events (spread line bytes p ++ rest) p)
-inside-blank line bytes p rest h k one =
-    subst (λ (q : Point). Inside p (past_text bytes p) (cond (begins_white (spread line bytes p ++ rest)) (pair n.SpaceOrTab p q) [])) (sym (spread-line_end line bytes p rest h k one))
-    (inside-maybe (begins_white (spread line bytes p ++ rest)) p (past_text bytes p) (before-text bytes p))
+-- a row of this rest of a line
+abbrev IsRowOf : ParseOptions → List ℕ → Rest → Row → Type 0
+IsRowOf options bytes r row = (is : IsRow options bytes (rest_line r) row) × (is.rest ≡ r)
 
-inside-break : (options : ParseOptions) (line : Line) (bytes : List ℕ) (p : Point) (rest : List Cell) → options.constructs.code_indented ≡ false → length (spread line bytes p ++ rest) < 2 ^ 63 → NoEnding bytes → Stops rest → 1 ≤ p.column →
-    Inside p (past_text bytes p) (break_inside options (spread line bytes p ++ rest) p)
-inside-break options line bytes p rest off short h k one =
-    let cells = spread line bytes p ++ rest in
-    let q = past_text (white_front bytes) p in
-    let left = spread line (trim_start bytes) q in
-    let column = past_text-column (white_front bytes) p one in
-    let end : point_after left q ≡ past_text bytes p =
-    spread-end line (trim_start bytes) q column
-    ∙ sym (past_text-append (white_front bytes) (trim_start bytes) p)
-    ∙ ap (λ (l : List ℕ). past_text l p) (take-append-drop (prefix_len is_white bytes) bytes) in
-    let marks : Inside q (past_text bytes p) (runs Apart (first_cell (left ++ rest)) left q) =
-    subst (λ (r : Point). Inside q r (runs Apart (first_cell (left ++ rest)) left q)) end (inside-runs (first_cell (left ++ rest)) left q (climbs-spread line (trim_start bytes) q column)) in
-    let E : List Cell → List Cell → Point → List Event = λ (more : List Cell) (l : List Cell) (r : Point). cond (begins_white cells) (pair n.SpaceOrTab p r) [] ++ runs Apart (first_cell more) l r in
-    let all : Inside p (past_text bytes p) (E (left ++ rest) left q) = inside-append p q (past_text bytes p) _ _ (inside-maybe (begins_white cells) p q (before-text (white_front bytes) p)) marks in
-    let lined : Inside p (past_text bytes p) (E (left ++ rest) (line_cells (left ++ rest)) q) =
-    subst (λ (l : List Cell). Inside p (past_text bytes p) (E (left ++ rest) l q)) (sym (spread-line line (trim_start bytes) q rest (no_ending-trim bytes h) k)) all in
-    let behind : Inside p (past_text bytes p) (E (white_rest (small_indent options) cells) (line_cells (white_rest (small_indent options) cells)) q) =
-    subst (λ (more : List Cell). Inside p (past_text bytes p) (E more (line_cells more) q)) (sym (small-rest options line bytes p rest off short k one)) lined in
-    subst (λ (r : Point). Inside p (past_text bytes p) (E (white_rest (small_indent options) cells) (line_cells (white_rest (small_indent options) cells)) r)) (sym (small-end options line bytes p rest off short k one)) behind
-
--- what stands inside a row that is no heading
-inside-row : (options : ParseOptions) (line : Line) (bytes : List ℕ) (p : Point) (rest : List Cell) → options.constructs.code_indented ≡ false → length (spread line bytes p ++ rest) < 2 ^ 63 → NoEnding bytes → Stops rest → 1 ≤ p.column →
-    (kind : RowKind) → kind ≢ HeadingRow → Inside p (past_text bytes p) (inside_of options (spread line bytes p ++ rest) p kind)
-inside-row options line bytes p rest off short h k one BlankRow other = inside-blank line bytes p rest h k one
-inside-row options line bytes p rest off short h k one HeadingRow other = absurd (other refl)
-inside-row options line bytes p rest off short h k one BreakRow other = inside-break options line bytes p rest off short h k one
-inside-row options line bytes p rest off short h k one TextRow other = inside-none p (past_text bytes p) (before-text bytes p)
-
-none-inside : (options : ParseOptions) (cells : List Cell) (p : Point) (kind : RowKind) → kind ≡ TextRow → inside_of options cells p kind ≡ []
-none-inside options cells p kind e = ap (inside_of options cells p) e
-
--- The row of a line, also where it begins within a tab.
-is-row : (options : ParseOptions) (bytes : List ℕ) (row : Row) (said : Line) (line behind : List ℕ) (p : Point) (rest : List Cell) → options.constructs.code_indented ≡ false → length (spread said line p ++ rest) < 2 ^ 63 →
-    NoEnding line → Stops rest → 1 ≤ p.column → (past_text line p).vs ≡ 0 → CutsFirst p line → drop p.index bytes ≡ line ++ behind →
-    IsRow options bytes line (row_with options row (spread said line p ++ rest) p)
-is-row options bytes row said line behind p rest off short h k one vs cut text =
-    let cells = spread said line p ++ rest in
-    let end : line_end cells p ≡ past_text line p = spread-line_end said line p rest h k one in
-    let index : (line_end cells p).index ≡ p.index + length line = ap (λ (q : Point). q.index) end ∙ past-index line p in
-    let quiet : row_kind options cells ≢ HeadingRow → IsInside (row_with options row cells p) = λ other.
-    let inside = inside-row options said line p rest off short h k one (row_kind options cells) other in
-    record {
-      quiet = inside.quiet;
-      others = inside-others options cells p (row_kind options cells) other;
-      balanced = inside.balanced;
-      forward = inside.forward;
-      within = subst (λ (q : Point). IsTrue (at_or_before (last_point p (inside_of options cells p (row_kind options cells))) q)) (sym end) inside.within;
-      covers = row-tiled options cells p (row_kind options cells) refl other;
-      words = inside-worded options cells p (row_kind options cells) refl;
-    } in
-    record {
-      kind = kind-spread options said line p rest off short h k one;
-      no_ending = h;
-      text = slice-front bytes p.index (line_end cells p).index line behind text index;
-      size = index;
-      end = end;
-      first_column = one;
-      end_whole = ap (λ (q : Point). q.vs) end ∙ vs;
-      cut_first = cut;
-      inside = quiet;
-      no_inside = none-inside options cells p (row_kind options cells);
-      pieces_are = λ other. inside-stand options bytes line behind said p rest off short h k one cut text (row_kind options cells) (sym (kind-spread options said line p rest off short h k one)) other;
-      heading = λ is. ap (inside_of options cells p) is ∙ heading-runs options said line p rest off short h k one;
-    }
-
--- the row of what is left of a line behind its prefixes
-pub held-row : (options : ParseOptions) (bytes behind : List ℕ) (said : Line) (r : Rest) (stop : List Cell) (h : Held) (below : List Row) → options.constructs.code_indented ≡ false → h.cells ≡ rest_cells said r h.point ++ stop → length h.cells < 2 ^ 63 →
-    RestAt bytes behind r h.point → NoEnding r.bytes → Stops stop → IsRow options bytes (rest_line r) (row_of options h below)
-held-row options bytes behind said r stop h below off fed short is none k =
-    let row = row_of options h below in
+-- The row of what is left of a line behind its prefixes, also where it begins within a tab.
+held-row : (options : ParseOptions) (bytes behind : List ℕ) (said : Line) (r : Rest) (stop : List Cell) (h : Held) (below : List Row) →
+    h.cells ≡ rest_cells said r h.point ++ stop → length h.cells < 2 ^ 63 → RestAt bytes behind r h.point → NoEnding r.bytes → Stops stop →
+    IsRowOf options bytes r (row_of options h below)
+held-row options bytes behind said r stop h below fed short is none k =
     let p = h.point in
     let one : 1 ≤ p.column = let column = is.column in omega (arith, column) in
     let size = ap length fed in
-    let long = rest-length said r p stop one is.cut in
-    subst (λ (l : List Cell). IsRow options bytes (rest_line r) (row_with options row l p)) (sym fed)
-    (subst (IsRow options bytes (rest_line r)) (sym (rest-row options row said r p stop one is.cut))
-    (is-row options bytes row said (rest_line r) behind p stop off (omega (arith, short, size, long)) (rest-no_ending r none) k one (rest-whole r p is.cut) (rest-cut r p is.cut) (rest-text bytes behind r p is)))
+    let few : length (rest_cells said r p ++ stop) < 2 ^ 63 = omega (arith, short, size) in
+    let kind : row_kind options h.cells ≡ line_kind options r = ap (row_kind options) fed ∙ kind-rest options said bytes behind r p stop is none k few in
+    let inside : (kind : RowKind) → inside_of options h.cells p kind ≡ inside_of options (rest_cells said r p ++ stop) p kind =
+    λ kind. ap (λ (l : List Cell). inside_of options l p kind) fed in
+    let end : line_end h.cells p ≡ past_text (rest_line r) p = ap (λ (l : List Cell). line_end l p) fed ∙ rest-line_end said r p stop none k one is.cut in
+    let index : (line_end h.cells p).index ≡ p.index + length (rest_line r) = ap (λ (q : Point). q.index) end ∙ past-index (rest_line r) p in
+    let row : IsRow options bytes (rest_line r) (row_of options h below) = record {
+      rest = r;
+      line_is = refl;
+      kind = kind;
+      no_ending = rest-no_ending r none;
+      text = slice-front bytes p.index (line_end h.cells p).index (rest_line r) behind is.text_is index;
+      size = index;
+      end = end;
+      first_column = one;
+      end_whole = ap (λ (q : Point). q.vs) end ∙ rest-whole r p is.cut;
+      cut_first = rest-cut r p is.cut;
+      cut = is.cut;
+      blank = λ e. inside (row_kind options h.cells) ∙ blank-inside options said bytes behind r p stop (row_kind options h.cells) is none k kind e;
+      leaf_is = λ l e. inside (row_kind options h.cells) ∙ leaf-inside options said bytes behind r p stop (row_kind options h.cells) is none k few kind l e;
+      no_inside = λ e. ap (inside_of options h.cells p) e;
+    } in
+    (row, refl)
 
 -- The first line of a text.
 
@@ -296,14 +141,14 @@ has-row options bytes behind said open_before going line p stop built read short
     let held : HasHeld said bytes behind p (past_text line p) stop (spread said line p ++ stop) h c = held-is options said bytes behind open_before going r stop p built read at none k short in
     let le = held.shorter in
     let few : length h.cells < 2 ^ 63 = omega (arith, le, short) in
-    let is : (below : List Row) → IsRow options bytes (rest_line c.rest) (row_of options h below) = λ below. held-row options bytes behind said c.rest stop h below built.code_indented held.fed few held.stands held.no_ending k in
+    let row : (below : List Row) → IsRowOf options bytes c.rest (row_of options h below) = λ below. held-row options bytes behind said c.rest stop h below held.fed few held.stands held.no_ending k in
     let first : 1 ≤ h.point.column = let column = held.stands.column in omega (arith, column) in
     record {
-      is = λ below. record { is = is below; cut = held.stands.cut; front = held.front; change = held.change; whole = whole; column = one };
+      is = λ below. record { is = (row below).0; rest_is = (row below).1; front = held.front; change = held.change; whole = whole; column = one };
       open_is = ap open_behind held.change;
       read = held.read;
-      end = (is []).end ∙ rest-past c.rest h.point first held.stands.cut ∙ held.ends;
-      stops = ap from_ending held.fed ∙ rest-ending said c.rest h.point stop first held.stands.cut held.no_ending k;
+      end = (row []).0.end ∙ rest-past c.rest h.point first held.stands.cut ∙ held.ends;
+      stops = ap from_ending held.fed ∙ rest-ending said c.rest h.point stop held.no_ending k first held.stands.cut;
     }
 
 -- one line more

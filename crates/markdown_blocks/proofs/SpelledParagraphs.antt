@@ -1,6 +1,6 @@
 -- What the events of a paragraph are read as, where prefixes of containers stand in front of its lines: its lines without them.
-use Rattle.std.proofs.Common.{◌≡◌, ℕ, zero, suc, ◌+◌, ◌-◌, ◌≤◌, Bool, true, false, cond, ◌&&◌, List, [], ◌∷◌, ◌++◌, length, take, drop, slice_range, refl, ap, sym, ◌∙◌, subst, append_assoc, append-nil, arith}
-use Rattle.std.specs.Prelude.{◌==◌, None}
+use Rattle.std.proofs.Common.{◌≡◌, ℕ, zero, suc, ◌+◌, ◌-◌, ◌≤◌, Bool, true, false, cond, List, [], ◌∷◌, ◌++◌, length, take, drop, slice_range, refl, ap, sym, ◌∙◌, subst, append_assoc, append-nil, arith}
+use Rattle.std.specs.Prelude.{◌==◌, Option, None}
 use Rattle.std.proofs.lemmas.Bool.{and_from, and_parts}
 use Rattle.std.proofs.lemmas.Bool.Decides.{nat_tests}
 use Rattle.std.proofs.lemmas.List.{take_all}
@@ -10,11 +10,9 @@ use Rattle.md_engine.specs.declared.event.Name.TheVariants as n
 use Rattle.md_engine.specs.declared.event.Point.{Point}
 use Rattle.md_seam.specs.declared.inline.Chunk.{Chunk}
 use Rattle.md_seam.specs.Events.Inline.{pair_unless_empty, plain_chunk}
-use Rattle.md_leaves.specs.HeadingRule.{is_heading}
-use Rattle.md_seam.specs.Standard.Leaves.{is_rule}
 use Rattle.md_seam.specs.Standard.Lines.{begins_with}
 use Rattle.md_seam.specs.Events.Nested.{around, enter, exit}
-use Rattle.md_seam.specs.Standard.Rest.{Rest, is_blank, is_white, trim_start}
+use Rattle.md_seam.specs.Standard.Rest.{is_blank, is_white, trim_start}
 use Rattle.md_seam.specs.Events.Spelled.{IsPrefix, IsQuiet, Reading, Role, Text, add_block, after_prefix, before_prefix, begun, byte_at, read, text_to}
 use Rattle.md_seam.specs.Standard.State.{Container, InQuote, Kept, kept, texts}
 use Rattle.md_seam.specs.Standard.Texts.{trim_each}
@@ -25,14 +23,15 @@ use Rattle.md_seam.proofs.RestCells.{Cut}
 use Rattle.md_seam.proofs.SpelledLemmas.{Between, QuietOrEnding, Roles, roles-append, text-inline, text_after, text_after-append}
 use Rattle.md_seam.proofs.TextsLemmas.{Both, Ending, EndsBefore, IsOfLines, LineFeed, NoEnding, Return, ending_bytes}
 use Rattle.md_outline.proofs.TextCuts.{trim-blank}
-use Rattle.markdown_blocks.specs.Fronted.{cut_tab, rest_line}
-use Rattle.markdown_blocks.specs.Rows.{BlankRow, Row, TextRow, behind_row, last_row, read_lines}
-use Rattle.markdown_blocks.proofs.LineSteps.{rest_line-kind}
+use Rattle.markdown_blocks.specs.Fronted.{cut_tab}
+use Rattle.markdown_blocks.specs.Registry.{LeafName}
+use Rattle.markdown_blocks.specs.Rows.{BlankRow, Row, TextRow, behind_row, kind_of, last_row, read_lines}
 use Rattle.markdown_blocks.proofs.FrontFacts as front
 use Rattle.markdown_blocks.proofs.FrontFacts.{Behind, Begins, LinePrefix, Goes}
-use Rattle.markdown_blocks.proofs.FrontPlaces.{byte-order}
 use Rattle.markdown_blocks.proofs.PlainRoles.{chunk-roles, pair-roles}
+use Rattle.markdown_blocks.proofs.RegistryFound.{leaf_at}
 use Rattle.markdown_blocks.proofs.RowFacts as f
+use Rattle.markdown_blocks.proofs.SpanLemmas.{byte-order}
 
 -- Roles.
 
@@ -154,39 +153,44 @@ record IsFilled (line : List ℕ) : Type 0 where
   filled : is_blank line ≡ false
 
 -- the bytes of a line of text stand behind the byte at which it begins
-line-bytes : (options : ParseOptions) (bytes : List ℕ) (r : Rest) (row : Row) → f.IsRow options bytes (rest_line r) row → Cut r.spaces row.first →
-    (slice_range bytes (byte_at row.first) row.end.index ≡ r.bytes) × (byte_at row.first ≤ row.end.index)
-line-bytes options bytes r row is cut = go r.spaces cut is.text is.size
+line-bytes : (options : ParseOptions) (bytes line : List ℕ) (row : Row) → (is : f.IsRow options bytes line row) →
+    (slice_range bytes (byte_at row.first) row.end.index ≡ is.rest.bytes) × (byte_at row.first ≤ row.end.index)
+line-bytes options bytes line row is = go is.rest.spaces is.cut (is.text ∙ is.line_is) (is.size ∙ ap (λ (l : List ℕ). row.first.index + length l) is.line_is)
   where
-    go : (n : ℕ) → Cut n row.first → slice_range bytes row.first.index row.end.index ≡ cut_tab n ++ r.bytes → row.end.index ≡ row.first.index + length (cut_tab n ++ r.bytes) →
-        (slice_range bytes (byte_at row.first) row.end.index ≡ r.bytes) × (byte_at row.first ≤ row.end.index)
+    all : List ℕ
+    all = is.rest.bytes
+
+    go : (n : ℕ) → Cut n row.first → slice_range bytes row.first.index row.end.index ≡ cut_tab n ++ all →
+        row.end.index ≡ row.first.index + length (cut_tab n ++ all) →
+        (slice_range bytes (byte_at row.first) row.end.index ≡ all) × (byte_at row.first ≤ row.end.index)
     go zero whole text size =
         let here : byte_at row.first ≡ row.first.index = ap (λ (vs : ℕ). cond (vs == 0) row.first.index (row.first.index + 1)) whole in
         (ap (λ (i : ℕ). slice_range bytes i row.end.index) here ∙ text, omega arith)
     go (suc k) within text size =
         let some : (row.first.vs == 0) ≡ false = let more = within.0 in grind (arith, nat_tests) in
         let here : byte_at row.first ≡ row.first.index + 1 = ap (λ (x : Bool). cond x row.first.index (row.first.index + 1)) some in
-        let end : row.first.index + 1 + length r.bytes ≡ row.end.index = omega arith in (
+        let end : row.first.index + 1 + length all ≡ row.end.index = omega arith in (
           ap (λ (i : ℕ). slice_range bytes i row.end.index) here
               ∙ ap (slice_range bytes (row.first.index + 1)) (sym end)
-              ∙ slice-inside bytes (9 ∷ r.bytes) row.first.index row.end.index 1 (length r.bytes) text size (omega arith)
-              ∙ take_all (length r.bytes) r.bytes (omega arith),
+              ∙ slice-inside bytes (9 ∷ all) row.first.index row.end.index 1 (length all) text size (omega arith)
+              ∙ take_all (length all) all (omega arith),
           omega arith,
         )
 
-text-filled : (options : ParseOptions) (bytes : List ℕ) (r : Rest) (row : Row) → f.IsRow options bytes (rest_line r) row → row.kind ≡ TextRow → IsFilled r.bytes
-text-filled options bytes r row is text = record {
-  no_ending = go r.spaces is.no_ending;
-  filled = by (is_blank r.bytes) (options.constructs.heading_atx && is_heading (trim_start r.bytes)) (options.constructs.thematic_break && is_rule (trim_start r.bytes)) (sym (rest_line-kind options r) ∙ sym is.kind ∙ text);
+text-filled : (options : ParseOptions) (bytes line : List ℕ) (row : Row) → (is : f.IsRow options bytes line row) →
+    row.kind ≡ TextRow → IsFilled is.rest.bytes
+text-filled options bytes line row is text = record {
+  no_ending = go is.rest.spaces (subst NoEnding is.line_is is.no_ending);
+  filled = by (is_blank is.rest.bytes) (leaf_at options is.rest) (sym is.kind ∙ text);
 }
   where
-    go : (n : ℕ) → NoEnding (cut_tab n ++ r.bytes) → NoEnding r.bytes
+    go : (n : ℕ) → NoEnding (cut_tab n ++ is.rest.bytes) → NoEnding is.rest.bytes
     go zero h = h
     go (suc k) h = h.1
 
-    by : (x y z : Bool) → cond x BlankRow (cond y HeadingRow (cond z BreakRow TextRow)) ≡ TextRow → x ≡ false
-    by true y z h = cc
-    by false y z h = refl
+    by : (x : Bool) (o : Option LeafName) → cond x BlankRow (kind_of o) ≡ TextRow → x ≡ false
+    by true o h = cc
+    by false o h = refl
 
 -- bytes in front of the first line
 abbrev onto_line : List ℕ → List (List ℕ) → List (List ℕ)
@@ -240,28 +244,32 @@ pub record IsRead (bytes : List ℕ) (row : Row) (rows : List Row) (lines : List
   pub between : Roles Between (read_lines bytes row rows)
 
 -- one line
-pub read-one : (options : ParseOptions) (bytes : List ℕ) (r : Rest) (row : Row) → f.IsRow options bytes (rest_line r) row → Cut r.spaces row.first → row.kind ≡ TextRow → IsRead bytes row [] (kept r ∷ [])
-read-one options bytes r row is cut text =
-    let line = line-bytes options bytes r row is cut in
-    let filled = text-filled options bytes r row is text in
+pub read-one : (options : ParseOptions) (bytes line : List ℕ) (row : Row) → (is : f.IsRow options bytes line row) →
+    row.kind ≡ TextRow → IsRead bytes row [] (kept is.rest ∷ [])
+read-one options bytes line row is text =
+    let all : List ℕ = is.rest.bytes in
+    let own = line-bytes options bytes line row is in
+    let filled = text-filled options bytes line row is text in
     let chunk : Chunk = record { first = row.first; after = row.end } in
     record {
-      own = r.bytes ∷ [];
-      all = r.bytes;
-      collects = subst (Collects bytes (plain_chunk bytes chunk) (byte_at row.first) row.end.index) line.0 (collects-inline bytes (plain_chunk bytes chunk) (byte_at row.first) row.end.index (chunk-roles QuietOrEnding bytes chunk tt tt) line.1);
+      own = all ∷ [];
+      all = all;
+      collects = subst (Collects bytes (plain_chunk bytes chunk) (byte_at row.first) row.end.index) own.0 (collects-inline bytes (plain_chunk bytes chunk) (byte_at row.first) row.end.index (chunk-roles QuietOrEnding bytes chunk tt tt) own.1);
       are = (filled.no_ending, refl);
-      begins = ap (begins_with 10) (sym (append-nil r.bytes)) ∙ begins-line r.bytes [] filled;
+      begins = ap (begins_with 10) (sym (append-nil all)) ∙ begins-line all [] filled;
       texts_are = refl;
       between = chunk-roles Between bytes chunk tt tt;
     }
 
 -- one more in front
-pub read-more : (options : ParseOptions) (bytes : List ℕ) (r : Rest) (row next : Row) (rows : List Row) (q : Point) (lines : List Kept) →
-    f.IsRow options bytes (rest_line r) row → Cut r.spaces row.first → row.kind ≡ TextRow → f.IsEnding bytes row.end q → LinePrefix bytes [] q next.first next.front → IsRead bytes next rows lines →
-    IsRead bytes row (next ∷ rows) (kept r ∷ lines)
-read-more options bytes r row next rows q lines is cut text ending fronts below =
-    let line = line-bytes options bytes r row is cut in
-    let filled = text-filled options bytes r row is text in
+pub read-more : (options : ParseOptions) (bytes line : List ℕ) (row next : Row) (rows : List Row) (q : Point) (lines : List Kept) →
+    (is : f.IsRow options bytes line row) → row.kind ≡ TextRow → f.IsEnding bytes row.end q →
+    LinePrefix bytes [] q next.first next.front → IsRead bytes next rows lines →
+    IsRead bytes row (next ∷ rows) (kept is.rest ∷ lines)
+read-more options bytes line row next rows q lines is text ending fronts below =
+    let here : List ℕ = is.rest.bytes in
+    let own = line-bytes options bytes line row is in
+    let filled = text-filled options bytes line row is text in
     let chunk : Chunk = record { first = row.first; after = behind_row row } in
     let end : ℕ = (last_row next rows).end.index in
     let further : List Event = read_lines bytes next rows in
@@ -270,21 +278,21 @@ read-more options bytes r row next rows q lines is cut text ending fronts below 
     let whole : byte_at q ≡ q.index = ap (λ (vs : ℕ). cond (vs == 0) q.index (q.index + 1)) ending.whole in
     let from : Collects bytes (next.front ++ further) q.index end (white ++ below.all) = subst (λ (i : ℕ). Collects bytes (next.front ++ further) i end (white ++ below.all)) whole fronted.2 in
     let size = ending.size in
-    let le : byte_at row.first ≤ q.index = let first = line.1 in omega arith in
-    let here : slice_range bytes (byte_at row.first) q.index ≡ r.bytes ++ ending_bytes ending.ending =
-    f.slice-split bytes (byte_at row.first) row.end.index q.index line.1 (omega arith) ∙ ap (λ (l : List ℕ). l ++ slice_range bytes row.end.index q.index) line.0 ∙ ap (λ (l : List ℕ). r.bytes ++ l) ending.text in
-    let all : List ℕ = (r.bytes ++ ending_bytes ending.ending) ++ (white ++ below.all) in
+    let le : byte_at row.first ≤ q.index = let first = own.1 in omega arith in
+    let with_ending : slice_range bytes (byte_at row.first) q.index ≡ here ++ ending_bytes ending.ending =
+    f.slice-split bytes (byte_at row.first) row.end.index q.index own.1 (omega arith) ∙ ap (λ (l : List ℕ). l ++ slice_range bytes row.end.index q.index) own.0 ∙ ap (λ (l : List ℕ). here ++ l) ending.text in
+    let all : List ℕ = (here ++ ending_bytes ending.ending) ++ (white ++ below.all) in
     let found : Collects bytes (plain_chunk bytes chunk ++ (next.front ++ further)) (byte_at row.first) end all =
-    subst (λ (l : List ℕ). Collects bytes (plain_chunk bytes chunk ++ (next.front ++ further)) (byte_at row.first) end (l ++ (white ++ below.all))) here
+    subst (λ (l : List ℕ). Collects bytes (plain_chunk bytes chunk ++ (next.front ++ further)) (byte_at row.first) end (l ++ (white ++ below.all))) with_ending
     (collects-back bytes (plain_chunk bytes chunk ++ (next.front ++ further)) (byte_at row.first) q.index end (white ++ below.all) le
     (collects-behind bytes (plain_chunk bytes chunk) (next.front ++ further) q.index end (white ++ below.all) (chunk-roles QuietOrEnding bytes chunk tt tt) from)) in
     record {
-      own = r.bytes ∷ onto_line white below.own;
+      own = here ∷ onto_line white below.own;
       all = all;
       collects = subst (λ (l : List Event). Collects bytes l (byte_at row.first) end all) (sym (append_assoc (plain_chunk bytes chunk) next.front further)) found;
-      are = lines-more r.bytes (onto_line white below.own) all ending.ending (white ++ below.all) filled.no_ending (ends-before ending.ending (white ++ below.all) (begins-white white below.all fronted.1 below.begins)) refl (of-white white below.own below.all fronted.1 below.are);
-      begins = ap (begins_with 10) (append_assoc r.bytes (ending_bytes ending.ending) (white ++ below.all)) ∙ begins-line r.bytes (ending_bytes ending.ending ++ (white ++ below.all)) filled;
-      texts_are = ap (λ (l : List (List ℕ)). trim_start r.bytes ∷ l) (below.texts_are ∙ sym (trim-onto white below.own fronted.1));
+      are = lines-more here (onto_line white below.own) all ending.ending (white ++ below.all) filled.no_ending (ends-before ending.ending (white ++ below.all) (begins-white white below.all fronted.1 below.begins)) refl (of-white white below.own below.all fronted.1 below.are);
+      begins = ap (begins_with 10) (append_assoc here (ending_bytes ending.ending) (white ++ below.all)) ∙ begins-line here (ending_bytes ending.ending ++ (white ++ below.all)) filled;
+      texts_are = ap (λ (l : List (List ℕ)). trim_start here ∷ l) (below.texts_are ∙ sym (trim-onto white below.own fronted.1));
       between = roles-append Between (plain_chunk bytes chunk ++ next.front) further (roles-append Between (plain_chunk bytes chunk) next.front (chunk-roles Between bytes chunk tt tt) (fronts-between bytes [] q next.first next.front fronts refl)) below.between;
     }
 

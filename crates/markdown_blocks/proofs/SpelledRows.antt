@@ -1,37 +1,34 @@
--- What the events of a text are read as, where of the leaves only paragraphs, headings and breaks may be on: what its lines do to
--- the containers and the paragraph that are open.
-use Rattle.std.proofs.Common.{◌≡◌, ◌≢◌, ℕ, zero, suc, ◌+◌, ◌-◌, Bool, true, false, cond, ◌&&◌, List, [], ◌∷◌, ◌++◌, length, map, take, drop, refl, ap, ap₂, sym, ◌∙◌, subst, append_assoc, take_all, inl, inr, ◌⊎◌, arith}
+-- What the events of a text are read as, where only leaves that are built may be on: what its lines do to the containers and the
+-- paragraph that are open.
+use Rattle.std.proofs.Common.{◌≡◌, ◌≢◌, ℕ, zero, suc, ◌+◌, ◌-◌, Bool, true, false, cond, ◌&&◌, List, [], ◌∷◌, ◌++◌, length, map, take, refl, ap, ap₂, sym, ◌∙◌, subst, append_assoc, take_all, inl, inr, ◌⊎◌, arith}
 use Rattle.std.specs.Prelude.{Option, Some, None}
 use Rattle.md_engine.specs.declared.configuration.ParseOptions.{ParseOptions}
 use Rattle.md_engine.specs.declared.event.Event.{Event}
 use Rattle.md_engine.specs.declared.event.Name.{Name}
 use Rattle.md_engine.specs.declared.event.Name.TheVariants as n
 use Rattle.md_engine.specs.declared.event.Point.{Point}
-use Rattle.md_seam.specs.Standard.Leaves.{heading_lines, heading_text}
 use Rattle.md_seam.specs.Events.Nested.{around, enter, exit}
 use Rattle.md_seam.specs.Standard.Preamble.{rest_at}
-use Rattle.md_seam.specs.Standard.Rest.{Rest, run_len}
+use Rattle.md_seam.specs.Standard.Rest.{Rest}
 use Rattle.md_seam.specs.Events.Spelled.{Around, Reading, Shape, add_block, block_around, left, read, role, spelled, unread}
 use Rattle.md_seam.specs.Standard.State.{At, Container, InFootnote, InItem, InQuote, Kept, Leaf, NoLeaf, OpenParagraph, Path, Spot, Within, closed, container_block, kept, shut, spot, texts, then_block, then_leaf}
 use Rattle.md_seam.specs.Standard.Step.{spot_of, step, steps}
-use Rattle.md_seam.specs.Standard.Tree.{Block, Blocks, End, Heading, Paragraph}
-use Rattle.md_seam.proofs.BlocksLemmas.{read-break}
-use Rattle.md_seam.proofs.RestCells.{Cut}
-use Rattle.md_seam.proofs.SpelledLemmas.{Between, Quiet, QuietOrPrefix, Roles, read-between, read-from, read-prefixes, read-quiet}
-use Rattle.markdown_blocks.specs.Change.{Change, container_name, ends_of, is_none}
+use Rattle.md_seam.specs.Standard.Tree.{Block, Blocks, End, Paragraph}
+use Rattle.md_seam.proofs.SpelledLemmas.{Between, QuietOrPrefix, Roles, read-between, read-from, read-prefixes}
+use Rattle.markdown_blocks.specs.Change.{Change, ends_of, is_none}
+use Rattle.markdown_blocks.specs.ContainerKinds.{container_name, shape_of}
 use Rattle.markdown_blocks.specs.Fed.{last_leaves, close_containers, rests_from}
-use Rattle.markdown_blocks.specs.Fronted.{Contained, cut_tab, rest_from, rest_line}
+use Rattle.markdown_blocks.specs.Fronted.{Contained, contained, rest_from, rest_line}
 use Rattle.markdown_blocks.specs.Parsed.{IsBuilt}
-use Rattle.markdown_blocks.specs.Rows.{BlankRow, Group, Lines, Row, RowKind, Single, TextRow, ending_events, goes_on, groups, groups_events, is_lazy, is_text, last_row, line_kind, onto_groups, onto_lines, read_lines, single_events_by, tail_events}
-use Rattle.markdown_blocks.specs.Stands.{IsPlain, around_of, containers_of, final, final_on, is_going, outer_on, reading, reading_on, shape_of}
+use Rattle.markdown_blocks.specs.Rows.{BlankRow, Group, LeafRow, Lines, Row, RowKind, Single, TextRow, ending_events, ending_of, goes_on, groups, groups_events, is_lazy, is_text, last_row, leaf_done, line_kind, onto_groups, onto_lines, read_lines, tail_events}
+use Rattle.markdown_blocks.specs.Stands.{IsPlain, around_of, containers_of, final, final_on, is_going, outer_on, reading, reading_on}
 use Rattle.markdown_blocks.proofs.ContainedLemmas.{contained-shapes, lazy-opens}
 use Rattle.markdown_blocks.proofs.FrontFacts.{Behind, Begins, LinePrefix, Goes, IsContinuationPrefix, IsOpeningPrefix}
-use Rattle.markdown_blocks.proofs.LineKinds.{heading-kind}
-use Rattle.markdown_blocks.proofs.LineSteps.{behind_path, contained-lazy, contained_at, containers-step, fresh-found, going-step, goes_lazy, held_of, kept_to, lazy-text, longer, new_line, new_path, plain-step, renewed, rest_line-kind, rest_line-trim, shut-lines, spot_by, step-contained}
+use Rattle.markdown_blocks.proofs.LineSteps.{behind_path, contained-lazy, contained_at, containers-step, fresh-found, going-step, goes_lazy, held_of, kept_to, lazy-text, longer, new_line, new_path, plain-step, renewed, shut-lines, spot_by, step-contained}
 use Rattle.markdown_blocks.proofs.RowFacts as f
-use Rattle.markdown_blocks.proofs.HeadingAtx.Spelled.{Begun, Whole, WithTab, read-heading}
+use Rattle.markdown_blocks.proofs.LeafFacts.{shown}
+use Rattle.markdown_blocks.proofs.RowLeaf.{block_of, row-facts}
 use Rattle.markdown_blocks.proofs.SpelledParagraphs.{IsRead, further-roles, prefix-roles, read-lines, read-more, read-one}
-use Rattle.markdown_blocks.specs.Leaf.HeadingAtx.{read_title}
 
 -- The ends and begins of containers.
 
@@ -161,17 +158,19 @@ behind-ap : (p : Path) (f g : Blocks → Path) → ((bs : Blocks) → f bs ≡ g
 behind-ap (At x) f g each = each x.here
 behind-ap (Within before container p) f g each = ap (Within before container) (behind-ap p f g each)
 
-new-with : (options : ParseOptions) (opens : List Container) (r : Rest) (bs : Blocks) → IsBuilt options → new_line options opens r bs ≡ with_spot (new_none opens bs) (λ cs. spot_by cs [] r (line_kind options r.bytes))
+new-with : (options : ParseOptions) (opens : List Container) (r : Rest) (bs : Blocks) → IsBuilt options →
+    new_line options opens r bs ≡ with_spot (new_none opens bs) (λ cs. spot_by cs [] r (line_kind options r))
 new-with options [] r bs built = ap At (fresh-found options bs r built)
 new-with options (c ∷ opens) r bs built = ap (Within bs c) (new-with options opens r End built)
 
 -- what a line begins stands behind its containers
-new-path : (options : ParseOptions) (p : Path) (c : Contained) (kind : RowKind) → IsBuilt options → line_kind options (rest_line c.rest) ≡ kind →
+new-path : (options : ParseOptions) (p : Path) (c : Contained) (kind : RowKind) → IsBuilt options →
+    line_kind options c.rest ≡ kind →
     new_path options p c ≡ with_spot (open_path options p c) (λ bs. spot_by bs [] c.rest kind)
 new-path options p c kind built e =
     let k : Path = kept_to options c.change.stays p in
     behind-ap k (new_line options c.change.opens c.rest) (λ bs. with_spot (new_none c.change.opens bs) (λ cs. spot_by cs [] c.rest kind))
-    (λ bs. new-with options c.change.opens c.rest bs built ∙ ap (λ (x : RowKind). with_spot (new_none c.change.opens bs) (λ cs. spot_by cs [] c.rest x)) (sym (rest_line-kind options c.rest) ∙ e))
+    (λ bs. new-with options c.change.opens c.rest bs built ∙ ap (λ (x : RowKind). with_spot (new_none c.change.opens bs) (λ cs. spot_by cs [] c.rest x)) e)
     ∙ sym (behind-behind k (new_none c.change.opens) (λ bs. spot_by bs [] c.rest kind))
 
 none-none : (opens : List Container) (bs : Blocks) → (spot (new_none opens bs)).leaf ≡ NoLeaf
@@ -318,22 +317,24 @@ starts-alike options bytes p q row gs last alike starts =
     }
 
 -- a line of text, and what follows
-starts-lines : (options : ParseOptions) (bytes : List ℕ) (p : Path) (r : Rest) (row : Row) (gs : List Group) (last : Reading) → f.IsRow options bytes (rest_line r) row → Cut r.spaces row.first → row.kind ≡ TextRow →
-    Follows options bytes (longer p (kept r ∷ [])) row gs last → StartsLines options bytes p row (onto_groups row TextRow gs) last
-starts-lines options bytes p r row gs last is cut text (inl parts) = record {
+starts-lines : (options : ParseOptions) (bytes line : List ℕ) (p : Path) (row : Row) (gs : List Group) (last : Reading) →
+    (is : f.IsRow options bytes line row) → row.kind ≡ TextRow →
+    Follows options bytes (longer p (kept is.rest ∷ [])) row gs last →
+    StartsLines options bytes p row (onto_groups row TextRow gs) last
+starts-lines options bytes line p row gs last is text (inl parts) = record {
   rows = [];
   below = gs;
   groups_are = parts.apart text;
   reads = record {
-    first = kept r;
+    first = kept is.rest;
     lines = [];
-    are = read-one options bytes r row is cut text;
+    are = read-one options bytes line row is text;
     behind =
-        let s : Reading = reading options (longer p (kept r ∷ [])) in
+        let s : Reading = reading options (longer p (kept is.rest ∷ [])) in
         read-from bytes s (close_containers (length row.leaves) s) (tail_events n.LineEnding row) (groups_events bytes gs) (read-tail bytes n.LineEnding row s tt refl refl) ∙ parts.reads;
   };
 }
-starts-lines options bytes p r row gs last is cut text (inr joins) =
+starts-lines options bytes line p row gs last is text (inr joins) =
     let below = joins.starts in
     let reads = below.reads in
     record {
@@ -341,10 +342,10 @@ starts-lines options bytes p r row gs last is cut text (inr joins) =
       below = below.below;
       groups_are = ap (onto_groups row TextRow) below.groups_are ∙ onto-joined row joins.next below.rows below.below joins.leaves joins.opens;
       reads = record {
-        first = kept r;
+        first = kept is.rest;
         lines = reads.first ∷ reads.lines;
-        are = read-more options bytes r row joins.next below.rows joins.after (reads.first ∷ reads.lines) is cut text joins.ending joins.fronts reads.are;
-        behind = subst (λ (x : Path). read bytes (reading options x) (tail_events n.LineEnding (last_row joins.next below.rows) ++ groups_events bytes below.below) ≡ last) (longer-longer p (kept r ∷ []) (reads.first ∷ reads.lines)) reads.behind;
+        are = read-more options bytes line row joins.next below.rows joins.after (reads.first ∷ reads.lines) is text joins.ending joins.fronts reads.are;
+        behind = subst (λ (x : Path). read bytes (reading options x) (tail_events n.LineEnding (last_row joins.next below.rows) ++ groups_events bytes below.below) ≡ last) (longer-longer p (kept is.rest ∷ []) (reads.first ∷ reads.lines)) reads.behind;
       };
     }
 
@@ -367,23 +368,41 @@ single-reads options bytes p c row gs last new name leaf shapes change a fronts 
     read-parts bytes start begin (reading options new) (close_containers (length row.leaves) (reading options new)) last row.front leaf (tail_events name row) (groups_events bytes gs)
     (read-fronts bytes row.change.opens a row.first row.front start fronts text.0) (found begin (read-open options p c row shapes change)) (read-tail bytes name row (reading options new) between refl refl) reads
 
--- the heading behind the indent of a line
-abbrev heading_with : List ℕ → Block
-heading_with text = let depth = run_len 35 text in Heading depth (heading_lines (heading_text (drop depth text)))
-
 text-kind : (kind : RowKind) → is_text kind ≡ true → kind ≡ TextRow
 text-kind TextRow e = refl
 text-kind BlankRow e = cc
-text-kind HeadingRow e = cc
-text-kind BreakRow e = cc
+text-kind (LeafRow l) e = cc
 
--- a line begins a byte, or with a tab
-cut-begun : (r : Rest) (p : Point) → Cut r.spaces p → Begun (rest_line r) p
-cut-begun r p cut = go r.spaces cut
-  where
-    go : (k : ℕ) → Cut k p → Begun (cut_tab k ++ r.bytes) p
-    go zero whole = Whole whole
-    go (suc k) within = WithTab r.bytes refl
+other-kind : (kind : RowKind) → kind ≢ TextRow → is_text kind ≡ false
+other-kind BlankRow other = refl
+other-kind (LeafRow l) other = refl
+other-kind TextRow other = absurd (other refl)
+
+-- what a line is, by what is left of it behind its containers
+line-is : (options : ParseOptions) (bytes : List ℕ) (cs : List Container) (going : Bool) (p : Point) (line : List ℕ) (row : Row) →
+    f.IsLine options bytes cs going p line row → row.kind ≡ line_kind options (contained options cs going (rest_from p line)).rest
+line-is options bytes cs going p line row is = is.is.kind ∙ ap (λ (r : Rest). line_kind options r) is.rest_is
+
+-- and whether a paragraph is open behind it
+pub going-line : (options : ParseOptions) (bytes : List ℕ) (a : Path) (p : Point) (line : List ℕ) (row : Row) → IsBuilt options →
+    IsPlain a → f.IsLine options bytes (containers_of a) (is_going a) p line row →
+    is_going (step options a (rest_from p line)) ≡ is_text row.kind
+going-line options bytes a p line row built plain is =
+    going-step options a (rest_from p line) built plain
+    ∙ ap is_text (sym (line-is options bytes (containers_of a) (is_going a) p line row is))
+
+-- the ending of a line opens no line of a leaf
+ending-role : (kind : RowKind) → Between (role (ending_of kind))
+ending-role BlankRow = tt
+ending-role (LeafRow l) = tt
+ending-role TextRow = tt
+
+-- a line that is no text comes to the block that it shows
+shown-leaf : (options : ParseOptions) (p : Path) (r : Rest) (kind : RowKind) → kind ≢ TextRow →
+    shown (block_of kind r) (reading options p) ≡ record (reading options p) { here = shut options (spot_by (reading options p).here [] r kind) }
+shown-leaf options p r BlankRow other = refl
+shown-leaf options p r (LeafRow l) other = refl
+shown-leaf options p r TextRow other = absurd (other refl)
 
 no-joins : (options : ParseOptions) (bytes : List ℕ) (p : Path) (row : Row) (gs : List Group) (last : Reading) → is_text row.kind ≡ false → Follows options bytes p row gs last → Reads options bytes p row.leaves gs last
 no-joins options bytes p row gs last none (inl parts) = parts.reads
@@ -398,8 +417,8 @@ row-means options bytes p a line row gs last built plain is follows = go (goes_l
     c : Contained
     c = contained_at options p (rest_from a line)
 
-    kind-is : row.kind ≡ line_kind options (rest_line c.rest)
-    kind-is = is.is.kind
+    kind-is : row.kind ≡ line_kind options c.rest
+    kind-is = line-is options bytes (containers_of p) (is_going p) a line row is
 
     stepped : (x : Bool) → goes_lazy options p c ≡ x → step options p (rest_from a line) ≡ cond x (longer (renewed c.change.stays p) (kept c.rest ∷ [])) (new_path options p c)
     stepped x e = step-contained options p (rest_from a line) built plain ∙ ap (λ (t : Bool). cond t (longer (renewed c.change.stays p) (kept c.rest ∷ [])) (new_path options p c)) e
@@ -420,35 +439,27 @@ row-means options bytes p a line row gs last built plain is follows = go (goes_l
     none : (spot o).leaf ≡ NoLeaf
     none = open-none options p c
 
-    inside : row.kind ≢ HeadingRow → Roles Quiet row.inside
-    inside h = (is.is.inside h).quiet
+    -- a line that is no text is read as its block
+    single : row.kind ≢ TextRow → Follows options bytes (to row.kind) row gs last →
+        Reads options bytes p row.change.closes (Single row ∷ gs) last
+    single other further =
+        single-reads options bytes p c row gs last (to row.kind) (ending_of row.kind) (leaf_done bytes row.kind row) shapes is.change a is.front
+        (λ s same.
+        ap (λ (x : Reading). read bytes x (leaf_done bytes row.kind row)) same
+        ∙ (row-facts options bytes (rest_line c.rest) row is.is other).reads (reading options o) refl refl
+        ∙ ap (λ (r : Rest). shown (block_of row.kind r) (reading options o)) is.rest_is
+        ∙ shown-leaf options o c.rest row.kind other
+        ∙ sym (reading-with options o (λ bs. spot_by bs [] c.rest row.kind) none))
+        (ending-role row.kind) (no-joins options bytes (to row.kind) row gs last (other-kind row.kind other) further)
 
-    by : (kind : RowKind) → row.kind ≡ kind → Follows options bytes (to kind) row gs last → Reads options bytes p row.change.closes (onto_groups row kind gs) last
-    by BlankRow e further = subst (λ (k : RowKind). read bytes (close_containers (length row.change.closes) (reading options p)) (single_events_by bytes k row ++ groups_events bytes gs) ≡ last) (sym e)
-        (single-reads options bytes p c row gs last (to BlankRow) n.BlankLineEnding row.inside shapes is.change a is.front
-        (λ s same. read-quiet bytes s row.inside (inside (λ (h : row.kind ≡ HeadingRow). let bad : BlankRow ≡ HeadingRow = sym e ∙ h in cc)) ∙ same ∙ sym (reading-with options o (λ bs. spot_by bs [] c.rest BlankRow) none))
-        tt (no-joins options bytes (to BlankRow) row gs last (ap is_text e) further))
-    by HeadingRow e further = subst (λ (k : RowKind). read bytes (close_containers (length row.change.closes) (reading options p)) (single_events_by bytes k row ++ groups_events bytes gs) ≡ last) (sym e)
-        (single-reads options bytes p c row gs last (to HeadingRow) n.LineEnding (around n.HeadingAtx row.first row.end (read_title bytes (row_title bytes row))) shapes is.change a is.front
-        (λ s same.
-        ap (λ (x : Reading). read bytes x (around n.HeadingAtx row.first row.end (read_title bytes (row_title bytes row)))) same
-        ∙ read-heading options bytes (rest_line c.rest) row (reading options o) is.is (cut-begun c.rest row.first is.cut) (heading-kind options (rest_line c.rest) (sym kind-is ∙ e)) refl refl
-        ∙ ap (λ (l : List ℕ). add_block (heading_with l) (reading options o)) (rest_line-trim c.rest)
-        ∙ sym (reading-with options o (λ bs. spot_by bs [] c.rest HeadingRow) none))
-        tt (no-joins options bytes (to HeadingRow) row gs last (ap is_text e) further))
-    by BreakRow e further = subst (λ (k : RowKind). read bytes (close_containers (length row.change.closes) (reading options p)) (single_events_by bytes k row ++ groups_events bytes gs) ≡ last) (sym e)
-        (single-reads options bytes p c row gs last (to BreakRow) n.LineEnding (around n.ThematicBreak row.first row.end row.inside) shapes is.change a is.front
-        (λ s same.
-        ap (λ (x : Reading). read bytes x (around n.ThematicBreak row.first row.end row.inside)) same
-        ∙ read-break bytes (reading options o) row.first row.end row.inside refl (inside (λ (h : row.kind ≡ HeadingRow). let bad : BreakRow ≡ HeadingRow = sym e ∙ h in cc))
-        ∙ sym (reading-with options o (λ bs. spot_by bs [] c.rest BreakRow) none))
-        tt (no-joins options bytes (to BreakRow) row gs last (ap is_text e) further))
-    by TextRow e further =
-        let begin : Reading = enters row.change.opens (close_containers (length row.change.closes) (reading options p)) in
+    -- text is read with the lines that go on it
+    paragraph : StartsLines options bytes o row (onto_groups row TextRow gs) last →
+        Reads options bytes p row.change.closes (onto_groups row TextRow gs) last
+    paragraph starts =
         let start : Reading = close_containers (length row.change.closes) (reading options p) in
+        let begin : Reading = enters row.change.opens start in
         let text = close_containers-between (length row.change.closes) (reading options p) refl refl in
         let same : begin ≡ reading options o = read-open options p c row shapes is.change in
-        let starts = starts-lines options bytes o c.rest row gs last is.is is.cut e (subst (λ (x : Path). Follows options bytes x row gs last) (sym (longer-with o (kept c.rest ∷ []) none)) further) in
         let reads = starts.reads in
         let whole : List Event = around n.Paragraph row.first (last_row row starts.rows).end (read_lines bytes row starts.rows) in
         let tail : List Event = tail_events n.LineEnding (last_row row starts.rows) in
@@ -462,14 +473,24 @@ row-means options bytes p a line row gs last built plain is follows = go (goes_l
         ∙ sym (reading-longer options o reads.first reads.lines built none))
         ∙ reads.behind
 
+    by : (kind : RowKind) → row.kind ≡ kind → Follows options bytes (to row.kind) row gs last →
+        Reads options bytes p row.change.closes (onto_groups row kind gs) last
+    by BlankRow e further = single (λ h. let bad : BlankRow ≡ TextRow = sym e ∙ h in cc) further
+    by (LeafRow l) e further = single (λ h. let bad : LeafRow l ≡ TextRow = sym e ∙ h in cc) further
+    by TextRow e further =
+        let on : to row.kind ≡ longer o (kept is.is.rest ∷ []) =
+        ap to e ∙ sym (longer-with o (kept c.rest ∷ []) none) ∙ ap (λ (r : Rest). longer o (kept r ∷ [])) (sym is.rest_is) in
+        paragraph (starts-lines options bytes (rest_line c.rest) o row gs last is.is e (subst (λ (x : Path). Follows options bytes x row gs last) on further))
+
     go : (x : Bool) → goes_lazy options p c ≡ x → Means options bytes p (is_lazy (is_going p) row.change.opens row.kind) row (onto_groups row row.kind gs) last
     go true e =
-        let text : is_text row.kind ≡ true = ap is_text kind-is ∙ lazy-text (is_going p) c.change.opens (line_kind options (rest_line c.rest)) e in
+        let text : is_text row.kind ≡ true = ap is_text kind-is ∙ lazy-text (is_going p) c.change.opens (line_kind options c.rest) e in
         let is_row : row.kind ≡ TextRow = text-kind row.kind text in
         subst (λ (x : Bool). Means options bytes p x row (onto_groups row row.kind gs) last) (sym (same ∙ e))
         (subst (λ (k : RowKind). StartsLines options bytes p row (onto_groups row k gs) last) (sym is_row)
         (starts-alike options bytes (renewed c.change.stays p) p row (onto_groups row TextRow gs) last (λ lines. reading-renewed options c.change.stays c.change.closes [] p lines shapes)
-        (starts-lines options bytes (renewed c.change.stays p) c.rest row gs last is.is is.cut is_row (subst (λ (x : Path). Follows options bytes x row gs last) (stepped true e) follows))))
+        (starts-lines options bytes (rest_line c.rest) (renewed c.change.stays p) row gs last is.is is_row
+        (subst (λ (x : Path). Follows options bytes x row gs last) (stepped true e ∙ ap (λ (r : Rest). longer (renewed c.change.stays p) (kept r ∷ [])) (sym is.rest_is)) follows))))
     go false e =
         subst (λ (x : Bool). Means options bytes p x row (onto_groups row row.kind gs) last) (sym (same ∙ e))
         (by row.kind refl (subst (λ (x : Path). Follows options bytes x row gs last) (stepped false e ∙ new-path options p c row.kind built (sym kind-is)) follows))
@@ -522,8 +543,7 @@ not-joined row below gs lazy = go below.kind lazy
 
     go : (kind : RowKind) → is_lazy true below.change.opens kind ≡ false → onto_groups row TextRow (onto_groups below kind gs) ≡ Lines row [] ∷ onto_groups below kind gs
     go BlankRow e = refl
-    go HeadingRow e = refl
-    go BreakRow e = refl
+    go (LeafRow l) e = refl
     go TextRow e = onto gs (opens (is_none below.change.opens) e)
 
 -- what follows a line, by what is read of the lines below
@@ -532,7 +552,9 @@ follows-below : (options : ParseOptions) (bytes : List ℕ) (p : Path) (row belo
     (x : Bool) → is_lazy (is_going p) below.change.opens below.kind ≡ x → Means options bytes p x below (onto_groups below below.kind gs) last → Follows options bytes p row (onto_groups below below.kind gs) last
 follows-below options bytes p row below gs q line last built plain going leaves ending is true lazy means =
     let c : Contained = contained_at options p (rest_from q line) in
-    let goes : goes_lazy options p c ≡ true = ap (is_lazy (is_going p) c.change.opens) (sym is.is.kind) ∙ ap (λ (x : Change). is_lazy (is_going p) x.opens below.kind) (sym is.change) ∙ lazy in
+    let kind_is = line-is options bytes (containers_of p) (is_going p) q line below is in
+    let goes : goes_lazy options p c ≡ true =
+    ap (is_lazy (is_going p) c.change.opens) (sym kind_is) ∙ ap (λ (x : Change). is_lazy (is_going p) x.opens below.kind) (sym is.change) ∙ lazy in
     let none : below.change.opens ≡ [] = lazy-opens (is_going p) below.change.opens below.kind lazy in
     inr (record {
       text = sym going ∙ lazy-going (is_going p) below.change.opens below.kind lazy;
@@ -566,7 +588,7 @@ rows-below options bytes a p line next lines row below rows built plain are =
     let r : Rest = rest_from p line in
     let b : Path = step options a r in
     let containers : containers_of b ≡ f.behind_line options (containers_of a) (is_going a) p line = containers-step options a r built plain in
-    let going : is_going b ≡ is_text row.kind = going-step options a r built plain ∙ ap is_text (sym are.0.is.kind) in
+    let going : is_going b ≡ is_text row.kind = going-line options bytes a p line row built plain are.0 in
     subst (λ (cs : List Container). f.AreRows options bytes cs (is_going b) are.2 (next ∷ lines) (below ∷ rows)) (sym containers)
     (subst (λ (g : Bool). f.AreRows options bytes (f.behind_line options (containers_of a) (is_going a) p line) g are.2 (next ∷ lines) (below ∷ rows)) (sym going) are.5)
 
@@ -584,7 +606,7 @@ rows-mean options bytes a p (suc n) (line ∷ next ∷ lines) (row ∷ below ∷
     let r : Rest = rest_from p line in
     let b : Path = step options a r in
     let q : Point = are.2 in
-    let going : is_going b ≡ is_text row.kind = going-step options a r built plain ∙ ap is_text (sym are.0.is.kind) in
+    let going : is_going b ≡ is_text row.kind = going-line options bytes a p line row built plain are.0 in
     let plain_b : IsPlain b = plain-step options a r built plain in
     let are_b = rows-below options bytes a p line next lines row below rows built plain are in
     let further : Came options bytes b n (rests_from q (next ∷ lines)) (below ∷ rows) = rows-mean options bytes b q n (next ∷ lines) (below ∷ rows) built plain_b are_b in

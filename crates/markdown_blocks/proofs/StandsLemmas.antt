@@ -18,15 +18,15 @@ use Rattle.markdown_blocks.specs.Change.{open_behind}
 use Rattle.markdown_blocks.specs.Fed.{FlowRan, StandsBehind, fed, flow_begins, last_leaves, close_containers, line_begins, rests_from}
 use Rattle.markdown_blocks.specs.Fronted.{rest_from}
 use Rattle.markdown_blocks.specs.Parsed.{IsBuilt}
-use Rattle.markdown_blocks.specs.Rows.{Row, groups, groups_events, is_text}
+use Rattle.markdown_blocks.specs.Rows.{Row, groups, groups_events}
 use Rattle.markdown_blocks.specs.Stands.{AreOpen, IsPlain, StandsFor, containers_of, is_going, reading}
 use Rattle.markdown_blocks.specs.States.{FlowStep}
 use Rattle.markdown_blocks.specs.TextRows.{text_rows, text_setting}
 use Rattle.markdown_blocks.proofs.LinesFed.{LineFed, line-fed, lines-fed, open_after, text_after}
-use Rattle.markdown_blocks.proofs.LineSteps.{containers-step, going-step, plain-step}
+use Rattle.markdown_blocks.proofs.LineSteps.{containers-step, plain-step}
 use Rattle.markdown_blocks.proofs.RowFacts as f
 use Rattle.markdown_blocks.proofs.RowLemmas.{fresh-rows}
-use Rattle.markdown_blocks.proofs.SpelledRows.{lines-read, rests-behind, rows-below}
+use Rattle.markdown_blocks.proofs.SpelledRows.{going-line, lines-read, rests-behind, rows-below}
 
 -- Lines, one after another.
 
@@ -38,7 +38,7 @@ step-left : (options : ParseOptions) (bytes : List ℕ) (a : Path) (p : Point) (
     IsLeft (containers_of a) (is_going a) (step options a (rest_from p line)) (row ∷ [])
 step-left options bytes a p line row built plain is =
     let r : Rest = rest_from p line in
-    (containers-step options a r built plain ∙ ap open_behind (sym is.change), going-step options a r built plain ∙ ap is_text (sym is.is.kind))
+    (containers-step options a r built plain ∙ ap open_behind (sym is.change), going-line options bytes a p line row built plain is)
 
 steps-left : (options : ParseOptions) (bytes : List ℕ) (a : Path) (p : Point) (n : ℕ) (lines : List (List ℕ)) (rows : List Row) → IsBuilt options → IsPlain a → f.AreRows options bytes (containers_of a) (is_going a) p lines rows →
     IsLeft (containers_of a) (is_going a) (steps options a (take n (rests_from p lines))) (take n rows)

@@ -18,8 +18,8 @@ use Rattle.md_seam.specs.Substituted.{Readings, belongs, Substituted, chunk_of, 
 use Rattle.markdown_blocks.specs.Rows.{Row, behind_row, chunks_of}
 use Rattle.markdown_blocks.specs.Unread.{linked_lines}
 use Rattle.markdown_blocks.proofs.EachEvent.{Each, each-append, each-drop, each-take}
-use Rattle.markdown_blocks.proofs.FrontNames.{ArePrefixes}
 use Rattle.markdown_blocks.proofs.PartFacts.{NoLinks}
+use Rattle.markdown_blocks.proofs.PrefixNames.{ArePrefixes}
 
 -- events none of which begins a chunk that the reader wants
 abbrev pub Unwanted : (Content → Bool) → List Event → Type 0

@@ -1,8 +1,9 @@
 -- Thematic breaks: what stands on their lines, and their laws.
-pub mod Between
 pub mod Facts
+pub mod Found
 pub mod Kinds
 pub mod Laws
+pub mod Outside
+pub mod Registers
 pub mod Runs
 pub mod Trial
-pub mod Words

@@ -1,5 +1,5 @@
 -- The innermost pairs of the events of a text lie side by side, from its first byte to its last, before its texts are read.
-use Rattle.std.proofs.Common.{◌≡◌, ◌≢◌, ℕ, Bool, true, false, cond, List, [], ◌∷◌, ◌++◌, length, refl, ap, sym, ◌∙◌, subst, append_assoc}
+use Rattle.std.proofs.Common.{◌≡◌, ◌≢◌, ℕ, Bool, true, false, cond, List, [], ◌∷◌, ◌++◌, length, refl, sym, subst}
 use Rattle.std.specs.Prelude.{Option, Some, None}
 use Rattle.std.proofs.lemmas.Bool.{and_from, eq-eqb}
 use Rattle.md_engine.specs.declared.configuration.ParseOptions.{ParseOptions}
@@ -9,42 +9,31 @@ use Rattle.md_engine.specs.declared.event.Name.TheVariants as n
 use Rattle.md_engine.specs.declared.event.Point.{Point}
 use Rattle.md_content.specs.Paragraph.{text_link}
 use Rattle.md_leaves.specs.HeadingRule.{opens}
-use Rattle.md_leaves.specs.HeadingTitle.{unread_title}
-use Rattle.md_seam.specs.Events.Inline.{Covers, pair_unless_empty, pieces}
+use Rattle.md_seam.specs.Events.Inline.{Covers, pieces}
 use Rattle.md_seam.specs.Events.Nested.{around, enter, enter_link, exit, pair}
-use Rattle.md_seam.specs.Events.Places.{first_point, past_text, same_place}
+use Rattle.md_seam.specs.Events.Places.{first_point, same_place}
 use Rattle.md_seam.specs.Standard.Preamble.{has_mark}
-use Rattle.md_seam.specs.Standard.State.{Container, InQuote}
+use Rattle.md_seam.specs.Standard.State.{Container}
 use Rattle.md_seam.specs.Events.Tiles.{end_point}
 use Rattle.md_seam.proofs.InlineLemmas.{same-refl}
-use Rattle.markdown_blocks.specs.Change.{container_name, ends_of}
+use Rattle.markdown_blocks.specs.Change.{ends_of}
 use Rattle.markdown_blocks.specs.Document.{body_point, mark_end, mark_events}
 use Rattle.markdown_blocks.specs.Fronted.{contained, rest_from, rest_line}
-use Rattle.markdown_blocks.specs.Rows.{BlankRow, Group, Lines, Row, RowKind, Single, TextRow, behind_row, ending_events, goes_on as joins_on, groups, is_text, last_row, onto_groups, row_line, tail_events}
+use Rattle.markdown_blocks.specs.Rows.{LeafRow, ending_of, leaf_unread, BlankRow, Group, Lines, Row, RowKind, Single, TextRow, behind_row, ending_events, goes_on as joins_on, groups, is_text, last_row, onto_groups, tail_events}
 use Rattle.markdown_blocks.specs.Unread.{linked_lines, titled_group, titled_groups, titled_row_by}
 use Rattle.markdown_blocks.proofs.JoinedLemmas.{behind-is, behind-none}
-use Rattle.markdown_blocks.proofs.PiecesLemmas.{Follows, Tiled, follows-append, follows-tiled, tiled-append, tiled-around, tiled-none, tiled-pair, tiled-two, tiled-unless_empty, tiled-within}
-use Rattle.markdown_blocks.proofs.FrontFacts.{Behind, Begins, LinePrefix, Goes, IsContinuationPrefix, IsOpeningPrefix, IsPrefix}
-use Rattle.markdown_blocks.proofs.RowFacts.{AreRows, IsLine, IsRow, behind_line}
-use Rattle.markdown_blocks.proofs.HeadingAtx.Places.{blank-no_heading, break-no_heading}
-use Rattle.markdown_blocks.proofs.HeadingAtx.Tiled.{title-tiled}
+use Rattle.markdown_blocks.proofs.PiecesLemmas.{Follows, Tiled, follows-append, follows-tiled, tiled-append, tiled-around, tiled-none, tiled-pair, tiled-two, tiled-within}
+use Rattle.markdown_blocks.proofs.FrontFacts.{Behind, Begins, LinePrefix, Goes}
+use Rattle.markdown_blocks.proofs.RowLeaf.{row-facts}
+use Rattle.markdown_blocks.proofs.RowFacts.{AreRows, IsLine, behind_line}
+use Rattle.markdown_blocks.proofs.ContainerFacts.{continues-facts, opens-facts}
+use Rattle.markdown_blocks.specs.ContainerKinds.{container_name}
 
 -- The runs of a piece of a line cover it: behind an enter, they shut it.
 
 -- Headings.
 
 -- Lines.
-
--- What may stand in a line covers it.
-record Covered (bytes : List ℕ) (row : Row) : Type 0 where
-  inside : row.kind ≢ HeadingRow → row.kind ≢ TextRow → Tiled row.first row.end row.inside
-  title : Tiled row.first row.end (unread_title (row_title bytes row))
-
-covered : (options : ParseOptions) (bytes line : List ℕ) (row : Row) → IsRow options bytes line row → Covered bytes row
-covered options bytes line row is = record {
-  inside = λ heading text. (is.inside heading).covers text;
-  title = subst (λ (q : Point). Tiled row.first q (unread_title (row_title bytes row))) (sym (is.end ∙ ap (λ (l : List ℕ). past_text l row.first) (sym is.text))) (title-tiled (row_line bytes row) row.first);
-}
 
 ending-tiled : (name : Name) (row : Row) → Tiled row.end (behind_row row) (ending_events name row)
 ending-tiled name row = go row.after
@@ -55,38 +44,6 @@ ending-tiled name row = go row.after
 
 -- Containers.
 
--- a prefix covers what it takes
-prefix-tiled : (bytes : List ℕ) (p q : Point) (es : List Event) → IsPrefix bytes p q es → Tiled p q es
-prefix-tiled bytes p q es is =
-    let indent : List Event = pair_unless_empty n.SpaceOrTab p is.marker in
-    let white : List Event = pair_unless_empty n.SpaceOrTab is.behind q in
-    let inside : List Event = pair n.BlockQuoteMarker is.marker is.behind ++ white in
-    subst (Tiled p q) (sym (is.events ∙ append_assoc indent (enter n.BlockQuotePrefix is.marker ∷ inside) (exit n.BlockQuotePrefix q ∷ [])))
-    (tiled-append p is.marker q indent (around n.BlockQuotePrefix is.marker q inside) (tiled-unless_empty n.SpaceOrTab p is.marker)
-    (tiled-around n.BlockQuotePrefix is.marker q inside
-    (tiled-append is.marker is.behind q (pair n.BlockQuoteMarker is.marker is.behind) white (tiled-pair n.BlockQuoteMarker is.marker is.behind) (tiled-unless_empty n.SpaceOrTab is.behind q))))
-
--- a prefix has events
-prefix-some : (bytes : List ℕ) (p q : Point) (es : List Event) → IsPrefix bytes p q es → es ≢ []
-prefix-some bytes p q es is none = go (same_place p is.marker) (sym is.events ∙ none)
-  where
-    go : (x : Bool) → (cond x [] (pair n.SpaceOrTab p is.marker) ++ enter n.BlockQuotePrefix is.marker ∷ enter n.BlockQuoteMarker is.marker ∷ exit n.BlockQuoteMarker is.behind ∷ pair_unless_empty n.SpaceOrTab is.behind q ++ exit n.BlockQuotePrefix q ∷ []) ≢ []
-    go true h = cc
-    go false h = cc
-
--- what stands in front of the content of a container covers what it takes, and where the container opens it has events
-further-tiled : (bytes : List ℕ) (c : Container) (p q : Point) (es : List Event) → IsContinuationPrefix bytes c p q es → Tiled p q es
-further-tiled bytes InQuote p q es is = prefix-tiled bytes p q es is
-further-tiled bytes c p q es is = absurd is
-
-opening-tiled : (bytes : List ℕ) (c : Container) (p q : Point) (es : List Event) → IsOpeningPrefix bytes c p q es → Tiled p q es
-opening-tiled bytes InQuote p q es is = prefix-tiled bytes p q es is
-opening-tiled bytes c p q es is = absurd is
-
-opening-some : (bytes : List ℕ) (c : Container) (p q : Point) (es : List Event) → IsOpeningPrefix bytes c p q es → es ≢ []
-opening-some bytes InQuote p q es is = prefix-some bytes p q es is
-opening-some bytes c p q es is = absurd is
-
 -- the begin of a container in front of events
 begun-tiled : (name : Name) (p q : Point) (xs ys : List Event) → xs ≢ [] → Tiled p q (xs ++ ys) → Tiled p q (enter name p ∷ xs ++ ys)
 begun-tiled name p q [] ys some h = absurd (some refl)
@@ -95,9 +52,9 @@ begun-tiled name p q (e ∷ xs) ys some h = tiled-within (enter name p) e q (xs 
 -- so what stands in front of a line covers it
 fronts-tiled : (bytes : List ℕ) (opens : List Container) (p q : Point) (es : List Event) → LinePrefix bytes opens p q es → Tiled p q es
 fronts-tiled bytes opens p q es (Behind at) = tiled-none at at (same-refl at)
-fronts-tiled bytes opens first last es (Goes c same p q r xs ys is more) = tiled-append p q r xs ys (further-tiled bytes c p q xs is) (fronts-tiled bytes same q r ys more)
+fronts-tiled bytes opens first last es (Goes c same p q r xs ys is more) = tiled-append p q r xs ys (continues-facts bytes c p q xs is).common.tiled (fronts-tiled bytes same q r ys more)
 fronts-tiled bytes opens first last es (Begins c before p q r xs ys is more) =
-    begun-tiled (container_name c) p r xs ys (opening-some bytes c p q xs is) (tiled-append p q r xs ys (opening-tiled bytes c p q xs is) (fronts-tiled bytes before q r ys more))
+    begun-tiled (container_name c) p r xs ys (opens-facts bytes c p q xs is).some (tiled-append p q r xs ys (opens-facts bytes c p q xs is).common.tiled (fronts-tiled bytes before q r ys more))
 
 -- the end of a container covers nothing, nor do the ends of more
 end-covers : (name : Name) (p : Point) → Follows p p (exit name p ∷ [])
@@ -118,12 +75,6 @@ line-covers : (name : Name) (row last : Row) (p : Point) (es : List Event) → T
 line-covers name row last p es front h =
     follows-append p last.end (behind_row last) (row.front ++ es) (tail_events name last) (follows-tiled p last.end (row.front ++ es) (tiled-append p row.first last.end row.front es front h)) (tail-covers name last)
 
-blank-no_text : (kind : RowKind) → kind ≡ BlankRow → kind ≢ TextRow
-blank-no_text kind e k = cc
-
-break-no_text : (kind : RowKind) → kind ≡ BreakRow → kind ≢ TextRow
-break-no_text kind e k = cc
-
 -- What groups cover, from a point to a point: of a paragraph, what stands in front of it and its lines.
 abbrev Laid : List ℕ → Point → Point → List Group → Type 0
 Laid bytes p end [] = same_place p end ≡ true
@@ -135,22 +86,18 @@ Laid bytes p end (Lines row rows ∷ gs) =
 chunk-tiled : (p q : Point) → Tiled p q (enter_link n.Data p text_link ∷ exit n.Data q ∷ [])
 chunk-tiled p q = tiled-two (enter_link n.Data p text_link) (exit n.Data q) refl refl
 
+-- the leaf of a line that is no text covers the line
+abbrev Covered : List ℕ → Row → Type 0
+Covered bytes row = row.kind ≢ TextRow → Tiled row.first row.end (leaf_unread bytes row.kind row)
+
+-- a line that is no text
+single-laid : (bytes : List ℕ) (row : Row) (p : Point) → Tiled p row.first row.front → Tiled row.first row.end (leaf_unread bytes row.kind row) → Follows p (behind_row row) (titled_row_by bytes row.kind row)
+single-laid bytes row p front h = line-covers (ending_of row.kind) row row p (leaf_unread bytes row.kind row) front h
+
 -- a line in front of others
 onto-laid : (bytes : List ℕ) (row : Row) (p end : Point) (gs : List Group) → Tiled p row.first row.front → Covered bytes row → Laid bytes (behind_row row) end gs → (kind : RowKind) → row.kind ≡ kind → Laid bytes p end (onto_groups row kind gs)
-onto-laid bytes row p end gs front c more BlankRow e =
-    (subst (λ (k : RowKind). Follows p (behind_row row) (titled_row_by bytes k row)) (sym e) (line-covers n.BlankLineEnding row row p row.inside front (c.inside (blank-no_heading row.kind e) (blank-no_text row.kind e))), more)
-onto-laid bytes row p end gs front c more HeadingRow e =
-    let inside : List Event = unread_title (row_title bytes row) in (
-      subst (λ (k : RowKind). Follows p (behind_row row) (titled_row_by bytes k row)) (sym e)
-          (line-covers n.LineEnding row row p (around n.HeadingAtx row.first row.end inside) front (tiled-around n.HeadingAtx row.first row.end inside c.title)),
-      more,
-    )
-onto-laid bytes row p end gs front c more BreakRow e = (
-  subst (λ (k : RowKind). Follows p (behind_row row) (titled_row_by bytes k row)) (sym e)
-      (line-covers n.LineEnding row row p (around n.ThematicBreak row.first row.end row.inside) front
-      (tiled-around n.ThematicBreak row.first row.end row.inside (c.inside (break-no_heading row.kind e) (break-no_text row.kind e)))),
-  more,
-)
+onto-laid bytes row p end gs front c more BlankRow e = (single-laid bytes row p front (c (λ k. cc)), more)
+onto-laid bytes row p end gs front c more (LeafRow l) e = (single-laid bytes row p front (c (λ k. cc)), more)
 onto-laid bytes row p end [] front c more TextRow e = (front, chunk-tiled row.first row.end, more)
 onto-laid bytes row p end (Single next ∷ gs) front c more TextRow e = (front, chunk-tiled row.first row.end, more)
 onto-laid bytes row p end (Lines next rows ∷ gs) front c more TextRow e = joins (joins_on row next)
@@ -173,11 +120,11 @@ groups-laid options bytes open_before going p (line ∷ []) (row ∷ []) are =
     let is : IsLine options bytes open_before going p line row = are.0 in
     let at_end : same_place row.end (end_point bytes) ≡ true = and_from _ _ (eq-eqb row.end.index (length bytes) are.3) (eq-eqb row.end.vs 0 is.is.end_whole) in
     let behind : same_place (behind_row row) (end_point bytes) ≡ true = subst (λ (q : Point). same_place q (end_point bytes) ≡ true) (sym (behind-none row are.2)) at_end in
-    onto-laid bytes row p (end_point bytes) [] (fronts-tiled bytes row.change.opens p row.first row.front is.front) (covered options bytes (rest_line (contained options open_before going (rest_from p line)).rest) row is.is) behind row.kind refl
+    onto-laid bytes row p (end_point bytes) [] (fronts-tiled bytes row.change.opens p row.first row.front is.front) (λ other. (row-facts options bytes (rest_line (contained options open_before going (rest_from p line)).rest) row is.is other).tiled) behind row.kind refl
 groups-laid options bytes open_before going p (line ∷ next ∷ lines) (row ∷ below ∷ rows) are =
     let is : IsLine options bytes open_before going p line row = are.0 in
     let end : Point = end_point bytes in
-    onto-laid bytes row p end (groups (below ∷ rows)) (fronts-tiled bytes row.change.opens p row.first row.front is.front) (covered options bytes (rest_line (contained options open_before going (rest_from p line)).rest) row is.is)
+    onto-laid bytes row p end (groups (below ∷ rows)) (fronts-tiled bytes row.change.opens p row.first row.front is.front) (λ other. (row-facts options bytes (rest_line (contained options open_before going (rest_from p line)).rest) row is.is other).tiled)
     (subst (λ (q : Point). Laid bytes q end (groups (below ∷ rows))) (sym (behind-is row are.2 are.3))
     (groups-laid options bytes (behind_line options open_before going p line) (is_text row.kind) are.2 (next ∷ lines) (below ∷ rows) are.5)) row.kind refl
 groups-laid options bytes open_before going p lines rows are = absurd are

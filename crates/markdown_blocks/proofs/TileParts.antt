@@ -1,5 +1,5 @@
 -- The text parts of a text, before they are read, stand as its tiling asks: one chunk a line, and no chunk elsewhere.
-use Rattle.std.proofs.Common.{◌≡◌, ◌≢◌, ℕ, ◌+◌, Bool, true, false, cond, List, [], ◌∷◌, ◌++◌, refl, ap, sym, ◌∙◌, subst, append_assoc, append-nil}
+use Rattle.std.proofs.Common.{◌≡◌, ℕ, ◌+◌, Bool, true, false, cond, List, [], ◌∷◌, ◌++◌, refl, ap, sym, ◌∙◌, subst, append_assoc, append-nil}
 use Rattle.std.specs.Prelude.{Option, Some, None}
 use Rattle.md_engine.specs.declared.configuration.ParseOptions.{ParseOptions}
 use Rattle.md_engine.specs.declared.event.Event.{Event}
@@ -7,59 +7,39 @@ use Rattle.md_engine.specs.declared.event.Name.{Name}
 use Rattle.md_engine.specs.declared.event.Name.TheVariants as n
 use Rattle.md_engine.specs.declared.event.Point.{Point}
 use Rattle.md_content.specs.Paragraph.{text_link}
-use Rattle.md_leaves.specs.HeadingText.{linked_text}
-use Rattle.md_leaves.specs.HeadingTitle.{title_of, unread_title}
 use Rattle.md_seam.specs.declared.inline.PartKind.TheVariants.{Text}
-use Rattle.md_seam.specs.Events.Nested.{Nested, around, enter, enter_link, exit, pair}
-use Rattle.md_seam.specs.Events.Places.{first_point, same_place}
+use Rattle.md_seam.specs.Events.Nested.{Nested, around, enter_link, exit, pair}
+use Rattle.md_seam.specs.Events.Places.{first_point}
 use Rattle.md_seam.specs.Standard.Preamble.{has_mark}
-use Rattle.md_seam.specs.Standard.State.{Container, InQuote}
+use Rattle.md_seam.specs.Standard.State.{Container}
 use Rattle.md_seam.specs.Events.Tiles.{begins_at, chunks, chunks_stand, part_kind, parts_stand}
 use Rattle.md_seam.proofs.InlineLemmas.{same-refl}
 use Rattle.markdown_blocks.specs.Change.{ends_of}
 use Rattle.markdown_blocks.specs.Document.{body_point, mark_end, mark_events}
-use Rattle.markdown_blocks.specs.Rows.{BlankRow, Group, Lines, Row, RowKind, Single, TextRow, behind_row, chunks_of, ending_events, groups, last_row, row_line, tail_events}
+use Rattle.markdown_blocks.specs.Rows.{LeafRow, ending_of, leaf_unread, BlankRow, Group, Lines, Row, RowKind, Single, TextRow, behind_row, chunks_of, ending_events, groups, last_row, tail_events}
 use Rattle.markdown_blocks.specs.Unread.{linked_lines, titled_group, titled_groups, titled_row_by, unread_paragraph}
-use Rattle.markdown_blocks.proofs.FrontFacts.{Behind, Begins, LinePrefix, Goes, IsContinuationPrefix, IsPrefix}
-use Rattle.markdown_blocks.proofs.FrontLemmas.{fronts-balanced, fronts-spans, fronts-turn, open_names}
-use Rattle.markdown_blocks.proofs.FrontParts.{ends-no_parts, ends-unlinked, fronts-no_parts, fronts-unlinked}
+use Rattle.markdown_blocks.proofs.FrontFacts.{Behind, Begins, LinePrefix, Goes}
+use Rattle.markdown_blocks.proofs.FrontLemmas.{fronts-balanced, fronts-spans, fronts-turn}
 use Rattle.markdown_blocks.proofs.GroupLemmas.{AreGroups, HasFront, IsParagraph, IsSingle, groups-are, paragraph-lines}
 use Rattle.markdown_blocks.proofs.JoinedLemmas.{EachNoContent}
 use Rattle.markdown_blocks.proofs.MarkLemmas.{mark-nested}
-use Rattle.markdown_blocks.proofs.NestedRows.{ByLines, Keeps, Onward, Ordered, Under, behind-order, line-order, rows-hold, under-line, under-next, under-none, under-turn}
-use Rattle.markdown_blocks.proofs.PartFacts.{quiet-no_parts}
+use Rattle.markdown_blocks.proofs.NestedRows.{ByLines, Onward, Under, behind-order, line-order, rows-hold, under-line, under-next, under-none, under-turn}
+use Rattle.markdown_blocks.proofs.RowLeaf.{row-facts}
 use Rattle.markdown_blocks.proofs.RowFacts.{AreRows}
-use Rattle.markdown_blocks.proofs.PartsStand.{Inside, Stands, inside-append, inside-chunk, stands-append, stands-around, stands-outside, stands-part}
-use Rattle.markdown_blocks.proofs.HeadingAtx.Parts.{linked-nested, stands-title, text-nested}
-use Rattle.markdown_blocks.proofs.SpanLemmas.{around-nested}
+use Rattle.markdown_blocks.proofs.PartsStand.{Inside, Stands, inside-append, inside-chunk, stands-append, stands-outside, stands-part}
+use Rattle.markdown_blocks.proofs.SpanLemmas.{linked-nested, around-nested}
+use Rattle.markdown_blocks.proofs.FrontNames.{ends-no_parts, ends-unlinked, fronts-no_parts, fronts-unlinked}
+use Rattle.markdown_blocks.proofs.ContainerNames.{open_names}
+use Rattle.markdown_blocks.proofs.ContainerFacts.{continues-facts}
 
 -- Events outside of text parts.
 
 -- The chunks of a text part.
 
--- the prefix of a quote
-prefix-inside : (bytes : List ℕ) (p q : Point) (es : List Event) → IsPrefix bytes p q es → Inside bytes [] es
-prefix-inside bytes p q es is = subst (Inside bytes []) (sym is.events) (go (same_place p is.marker) (same_place is.behind q))
-  where
-    prefix : Bool → Bool → List Event
-    prefix x y =
-        cond x [] (pair n.SpaceOrTab p is.marker) ++ enter n.BlockQuotePrefix is.marker ∷ enter n.BlockQuoteMarker is.marker ∷ exit n.BlockQuoteMarker is.behind ∷ cond y [] (pair n.SpaceOrTab is.behind q) ++ exit n.BlockQuotePrefix q ∷ []
-
-    go : (x y : Bool) → Inside bytes [] (prefix x y)
-    go true true = record { outside = (refl, (refl, (refl, (refl, tt)))); ends = refl; white = refl; has = refl; stand = λ ys. refl }
-    go true false = record { outside = (refl, (refl, (refl, (refl, (refl, (refl, tt)))))); ends = refl; white = rw is.white_behind refl; has = refl; stand = λ ys. refl }
-    go false true = record { outside = (refl, (refl, (refl, (refl, (refl, (refl, tt)))))); ends = refl; white = rw is.white_before refl; has = refl; stand = λ ys. refl }
-    go false false = record { outside = (refl, (refl, (refl, (refl, (refl, (refl, (refl, (refl, tt)))))))); ends = refl; white = rw (is.white_before, is.white_behind) refl; has = refl; stand = λ ys. refl }
-
--- what stands in front of the content of a container that goes on
-further-inside : (bytes : List ℕ) (c : Container) (p q : Point) (es : List Event) → IsContinuationPrefix bytes c p q es → Inside bytes [] es
-further-inside bytes InQuote p q es is = prefix-inside bytes p q es is
-further-inside bytes c p q es is = absurd is
-
 -- what stands in front of a further line of a paragraph
 fronts-inside : (bytes : List ℕ) (opens : List Container) (p q : Point) (es : List Event) → opens ≡ [] → LinePrefix bytes opens p q es → Inside bytes [] es
 fronts-inside bytes opens p q es none (Behind at) = record { outside = tt; ends = refl; white = refl; has = refl; stand = λ ys. refl }
-fronts-inside bytes opens first last es none (Goes c same p q r xs ys is more) = inside-append bytes [] [] xs ys (further-inside bytes c p q xs is) (fronts-inside bytes same q r ys none more)
+fronts-inside bytes opens first last es none (Goes c same p q r xs ys is more) = inside-append bytes [] [] xs ys (continues-facts bytes c p q xs is).inside (fronts-inside bytes same q r ys none more)
 fronts-inside bytes opens first last es none (Begins c before p q r xs ys is more) = cc
 
 pub lines-inside : (options : ParseOptions) (bytes : List ℕ) (row : Row) (rows : List Row) → IsParagraph options bytes row rows → Inside bytes (chunks_of row rows) (linked_lines n.Data text_link row rows)
@@ -87,24 +67,18 @@ stands-line bytes name row last es other front h =
     (stands-append bytes (ends_of last.leaves last.end) (ending_events name last) (stands-outside bytes (ends_of last.leaves last.end) (ends-no_parts last.leaves last.end) (ends-unlinked last.leaves last.end))
     (stands-ending bytes name last other))
 
--- Headings.
-
 -- Groups.
 
+-- a line ending is no text part
+pub ending-no_part : (kind : RowKind) → part_kind (ending_of kind) ≡ None
+ending-no_part BlankRow = refl
+ending-no_part (LeafRow l) = refl
+ending-no_part TextRow = refl
+
 -- a line that is no text
-stands-single : (options : ParseOptions) (bytes : List ℕ) (row : Row) → IsSingle options bytes row → IsUnlinked row → (kind : RowKind) → row.kind ≡ kind → Stands bytes (titled_row_by bytes kind row)
-stands-single options bytes row is unlinked BlankRow e =
-    let inside : IsInside row = is.is.inside (λ k. cc) in
-    stands-line bytes n.BlankLineEnding row row row.inside refl is.front (stands-outside bytes row.inside (quiet-no_parts row.inside inside.quiet) (unlinked (λ k. cc)))
-stands-single options bytes row is unlinked HeadingRow e =
-    let inside : List Event = unread_title (row_title bytes row) in
-    let stands : Stands bytes inside = subst (λ (line : List ℕ). Stands bytes (unread_title (title_of line row.first))) (sym is.is.text) (stands-title options bytes is.line row is.is) in
-    stands-line bytes n.LineEnding row row (around n.HeadingAtx row.first row.end inside) refl is.front (stands-around bytes n.HeadingAtx row.first row.end inside refl stands)
-stands-single options bytes row is unlinked BreakRow e =
-    let inside : IsInside row = is.is.inside (λ k. cc) in
-    let stands : Stands bytes row.inside = stands-outside bytes row.inside (quiet-no_parts row.inside inside.quiet) (unlinked (λ k. cc)) in
-    stands-line bytes n.LineEnding row row (around n.ThematicBreak row.first row.end row.inside) refl is.front (stands-around bytes n.ThematicBreak row.first row.end row.inside refl stands)
-stands-single options bytes row is unlinked TextRow e = absurd (is.other e)
+stands-single : (options : ParseOptions) (bytes : List ℕ) (row : Row) → IsSingle options bytes row → Stands bytes (titled_row_by bytes row.kind row)
+stands-single options bytes row is =
+    stands-line bytes (ending_of row.kind) row row (leaf_unread bytes row.kind row) (ending-no_part row.kind) is.front (row-facts options bytes is.line row is.is is.other).parts
 
 -- a paragraph begins with its first chunk
 chunks-begin : (row : Row) (rows : List Row) → begins_at row.first (chunks_of row rows) ≡ true
@@ -118,15 +92,15 @@ stands-lines options bytes row rows is front =
     stands-line bytes n.LineEnding row last (unread_paragraph row rows) refl front
     (stands-part bytes n.Paragraph Text row.first last.end (chunks_of row rows) (linked_lines n.Data text_link row rows) refl (lines-inside options bytes row rows is) (chunks-begin row rows) (paragraph-lines options bytes row rows is))
 
-stands-groups : (options : ParseOptions) (bytes : List ℕ) (gs : List Group) → AreGroups options bytes gs → AreUnlinked gs → Stands bytes (titled_groups bytes gs)
-stands-groups options bytes [] are unlinked = stands-outside bytes [] tt tt
-stands-groups options bytes (Single row ∷ gs) are unlinked =
-    stands-append bytes (titled_group bytes (Single row)) (titled_groups bytes gs) (stands-single options bytes row are.0 unlinked.0 row.kind refl) (stands-groups options bytes gs are.1 unlinked.1)
-stands-groups options bytes (Lines row rows ∷ gs) are unlinked =
-    stands-append bytes (titled_group bytes (Lines row rows)) (titled_groups bytes gs) (stands-lines options bytes row rows are.0 are.2) (stands-groups options bytes gs are.3 unlinked)
+stands-groups : (options : ParseOptions) (bytes : List ℕ) (gs : List Group) → AreGroups options bytes gs → Stands bytes (titled_groups bytes gs)
+stands-groups options bytes [] are = stands-outside bytes [] tt tt
+stands-groups options bytes (Single row ∷ gs) are =
+    stands-append bytes (titled_group bytes (Single row)) (titled_groups bytes gs) (stands-single options bytes row are.0) (stands-groups options bytes gs are.1)
+stands-groups options bytes (Lines row rows ∷ gs) are =
+    stands-append bytes (titled_group bytes (Lines row rows)) (titled_groups bytes gs) (stands-lines options bytes row rows are.0 are.2) (stands-groups options bytes gs are.3)
 
-rows-stand : (options : ParseOptions) (bytes : List ℕ) (cs : List Container) (going : Bool) (p : Point) (lines : List (List ℕ)) (rows : List Row) → AreRows options bytes cs going p lines rows → EachNoContent rows → EachUnlinked rows → Stands bytes (titled_groups bytes (groups rows))
-rows-stand options bytes cs going p lines rows are quiet unlinked = stands-groups options bytes (groups rows) (groups-are options bytes cs going p lines rows are quiet) (groups-unlinked rows unlinked)
+rows-stand : (options : ParseOptions) (bytes : List ℕ) (cs : List Container) (going : Bool) (p : Point) (lines : List (List ℕ)) (rows : List Row) → AreRows options bytes cs going p lines rows → EachNoContent rows → Stands bytes (titled_groups bytes (groups rows))
+rows-stand options bytes cs going p lines rows are quiet = stands-groups options bytes (groups rows) (groups-are options bytes cs going p lines rows are quiet)
 
 -- The text parts of a text.
 all-stand : (bytes : List ℕ) (xs : List Event) → Stands bytes xs → parts_stand bytes xs ≡ true
@@ -143,28 +117,18 @@ stands-mark bytes = go (has_mark bytes)
     go true = stands-outside bytes (pair n.ByteOrderMark first_point mark_end) (refl, (refl, tt)) (refl, (refl, tt))
     go false = stands-outside bytes [] tt tt
 
-blocks-both : (options : ParseOptions) (bytes : List ℕ) (cs : List Container) (going : Bool) (p : Point) (lines : List (List ℕ)) (rows : List Row) → AreRows options bytes cs going p lines rows → EachNoContent rows → EachUnlinked rows → Stands bytes (mark_events bytes ++ titled_groups bytes (groups rows))
-blocks-both options bytes cs going p lines rows are quiet unlinked = stands-append bytes (mark_events bytes) (titled_groups bytes (groups rows)) (stands-mark bytes) (rows-stand options bytes cs going p lines rows are quiet unlinked)
+blocks-both : (options : ParseOptions) (bytes : List ℕ) (cs : List Container) (going : Bool) (p : Point) (lines : List (List ℕ)) (rows : List Row) → AreRows options bytes cs going p lines rows → EachNoContent rows → Stands bytes (mark_events bytes ++ titled_groups bytes (groups rows))
+blocks-both options bytes cs going p lines rows are quiet = stands-append bytes (mark_events bytes) (titled_groups bytes (groups rows)) (stands-mark bytes) (rows-stand options bytes cs going p lines rows are quiet)
 
-pub blocks-stand : (options : ParseOptions) (bytes : List ℕ) (cs : List Container) (going : Bool) (p : Point) (lines : List (List ℕ)) (rows : List Row) → AreRows options bytes cs going p lines rows → EachNoContent rows → EachUnlinked rows →
+pub blocks-stand : (options : ParseOptions) (bytes : List ℕ) (cs : List Container) (going : Bool) (p : Point) (lines : List (List ℕ)) (rows : List Row) → AreRows options bytes cs going p lines rows → EachNoContent rows →
     parts_stand bytes (mark_events bytes ++ titled_groups bytes (groups rows)) ≡ true
-blocks-stand options bytes cs going p lines rows are quiet unlinked = all-stand bytes (mark_events bytes ++ titled_groups bytes (groups rows)) (blocks-both options bytes cs going p lines rows are quiet unlinked)
+blocks-stand options bytes cs going p lines rows are quiet = all-stand bytes (mark_events bytes ++ titled_groups bytes (groups rows)) (blocks-both options bytes cs going p lines rows are quiet)
 
-pub blocks-chunks : (options : ParseOptions) (bytes : List ℕ) (cs : List Container) (going : Bool) (p : Point) (lines : List (List ℕ)) (rows : List Row) → AreRows options bytes cs going p lines rows → EachNoContent rows → EachUnlinked rows →
+pub blocks-chunks : (options : ParseOptions) (bytes : List ℕ) (cs : List Container) (going : Bool) (p : Point) (lines : List (List ℕ)) (rows : List Row) → AreRows options bytes cs going p lines rows → EachNoContent rows →
     chunks_stand 0 (mark_events bytes ++ titled_groups bytes (groups rows)) ≡ true
-blocks-chunks options bytes cs going p lines rows are quiet unlinked = all-chunks bytes (mark_events bytes ++ titled_groups bytes (groups rows)) (blocks-both options bytes cs going p lines rows are quiet unlinked)
+blocks-chunks options bytes cs going p lines rows are quiet = all-chunks bytes (mark_events bytes ++ titled_groups bytes (groups rows)) (blocks-both options bytes cs going p lines rows are quiet)
 
 -- Their events nest.
-
-single-nested : (bytes : List ℕ) (names kept : List Name) (p : Point) (row : Row) (events : List Event) → Ordered bytes p row → Keeps names row kept → row.kind ≢ TextRow → Under kept (behind_row row) events → (kind : RowKind) → row.kind ≡ kind →
-    Under names p (titled_row_by bytes kind row ++ events)
-single-nested bytes names kept p row events o keeps other on BlankRow e = under-line bytes names kept p row n.BlankLineEnding row.inside events o keeps (blank-nested bytes p row o e) on
-single-nested bytes names kept p row events o keeps other on HeadingRow e =
-    let text : List Event = linked_text (row_title bytes row).text in
-    let inside : List Event = (row_title bytes row).front ++ text ++ (row_title bytes row).back in
-    under-line bytes names kept p row n.LineEnding (around n.HeadingAtx row.first row.end inside) events o keeps (heading-nested bytes p row text o (text-nested (row_line bytes row) row.first)) on
-single-nested bytes names kept p row events o keeps other on BreakRow e = under-line bytes names kept p row n.LineEnding (around n.ThematicBreak row.first row.end row.inside) events o keeps (break-nested bytes p row o e) on
-single-nested bytes names kept p row events o keeps other on TextRow e = absurd (other e)
 
 -- these names are open in front of groups
 abbrev Titled : List ℕ → List Name → Point → List Group → Type 0
@@ -173,7 +137,7 @@ Titled bytes names p gs = Under names p (titled_groups bytes gs)
 titled-by_lines : (bytes : List ℕ) → ByLines bytes (Titled bytes)
 titled-by_lines bytes = record {
   none = λ p. record { matches = tt; closed = refl; forward = tt };
-  single = λ names kept p row gs o keeps other on. single-nested bytes names kept p row (titled_groups bytes gs) o keeps other on row.kind refl;
+  single = λ names kept p row gs o keeps other on. under-line bytes names kept p row (ending_of row.kind) (leaf_unread bytes row.kind row) (titled_groups bytes gs) o keeps (o.leaf other).1.unread_nested on;
   alone = λ names kept p row gs o keeps on.
       let inside : List Event = enter_link n.Data row.first text_link ∷ exit n.Data row.end ∷ [] in
       under-line bytes names kept p row n.LineEnding (around n.Paragraph row.first row.end inside) (titled_groups bytes gs) o keeps

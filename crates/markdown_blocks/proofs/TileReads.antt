@@ -1,5 +1,5 @@
 -- The events of a text are its block list, with what the plain layer reads in the place of each chunk.
-use Rattle.std.proofs.Common.{◌≡◌, ◌≢◌, ℕ, suc, ◌+◌, Bool, true, false, cond, ◌&&◌, List, [], ◌∷◌, ◌++◌, length, refl, ap, sym, ◌∙◌, subst, append_assoc, append-nil}
+use Rattle.std.proofs.Common.{◌≡◌, ℕ, suc, ◌+◌, Bool, true, false, cond, ◌&&◌, List, [], ◌∷◌, ◌++◌, length, refl, ap, sym, ◌∙◌, subst, append_assoc, append-nil}
 use Rattle.std.specs.Prelude.{IsTrue, Option, Some, None}
 use Rattle.std.proofs.lemmas.Bool.{and_from}
 use Rattle.md_engine.specs.declared.configuration.ParseOptions.{ParseOptions}
@@ -11,7 +11,6 @@ use Rattle.md_engine.specs.Meaning.{Cell}
 use Rattle.md_engine.specs.Place.{first_point}
 use Rattle.md_engine.specs.TextFeed.{text_feed}
 use Rattle.md_content.specs.Paragraph.{text_link}
-use Rattle.md_leaves.specs.HeadingTitle.{title_of, unread_title}
 use Rattle.md_seam.specs.declared.inline.Chunk.{Chunk}
 use Rattle.md_seam.specs.declared.inline.PartKind.TheVariants.{Text}
 use Rattle.md_seam.specs.Events.Inline.{Part, in_order, plain_chunk, plain_chunks, together}
@@ -27,20 +26,17 @@ use Rattle.markdown_blocks.specs.Change.{ends_of}
 use Rattle.markdown_blocks.specs.Document.{body_point, mark_end, mark_events}
 use Rattle.markdown_blocks.specs.FlowReads.{text_cells, text_rows}
 use Rattle.markdown_blocks.specs.Parsed.{reads_plain}
-use Rattle.markdown_blocks.specs.Rows.{BlankRow, Group, Lines, Row, RowKind, Single, TextRow, behind_row, chunks_of, ending_events, group_events, groups, groups_events, held_at, last_row, read_lines, single_events_by, tail_events}
+use Rattle.markdown_blocks.specs.Rows.{ending_of, leaf_done, leaf_unread, Group, Lines, Row, Single, behind_row, chunks_of, ending_events, group_events, groups, groups_events, held_at, last_row, read_lines, single_events_by, tail_events}
 use Rattle.markdown_blocks.specs.Unread.{linked_lines, titled_group, titled_groups, titled_row_by, unread_paragraph}
 use Rattle.markdown_blocks.proofs.FrontLemmas.{fronts-order}
-use Rattle.markdown_blocks.proofs.FrontParts.{ends-no_parts, ends-unlinked, fronts-no_parts, fronts-unlinked}
 use Rattle.markdown_blocks.proofs.GroupLemmas.{AreGroups, HasFront, IsParagraph, IsSingle, groups-are}
 use Rattle.markdown_blocks.proofs.JoinedLemmas.{EachNoContent, behind-is, rows_at-no_content}
 use Rattle.markdown_blocks.proofs.NestedRows.{ending-order}
-use Rattle.markdown_blocks.proofs.PartFacts.{NoLinks, quiet-no_parts}
+use Rattle.markdown_blocks.proofs.RowLeaf.{row-facts}
 use Rattle.markdown_blocks.proofs.RowFacts.{AreRows, IsRow}
-use Rattle.markdown_blocks.proofs.TileParts.{lines-inside}
-use Rattle.markdown_blocks.proofs.HeadingAtx.Places.{blank-no_heading, break-no_heading}
-use Rattle.markdown_blocks.proofs.FillFacts.{Fill, Filled, fill-append, fill-around, fill-part, fill-same, passes-filled}
-use Rattle.markdown_blocks.proofs.HeadingAtx.Filled.{fill-title}
-use Rattle.markdown_blocks.specs.Leaf.HeadingAtx.{read_title}
+use Rattle.markdown_blocks.proofs.TileParts.{ending-no_part, lines-inside}
+use Rattle.markdown_blocks.proofs.FillFacts.{Fill, Filled, fill-append, fill-part, fill-same, passes-filled}
+use Rattle.markdown_blocks.proofs.FrontNames.{ends-no_parts, ends-unlinked, fronts-no_parts, fronts-unlinked}
 
 -- events that are those of a block list, with what is read in the place of each chunk
 pub record IsFilled (bytes : List ℕ) (blocks events : List Event) : Type 0 where
@@ -86,29 +82,10 @@ fill-line bytes name row last xs zs other front h =
     (fill-same bytes row.front (fronts-unlinked bytes row.change.opens front.0 row.first row.front front.1) (fronts-no_parts bytes row.change.opens front.0 row.first row.front front.1)) h)
     (fill-append bytes ends ends ending ending (fill-same bytes ends (ends-unlinked last.leaves last.end) (ends-no_parts last.leaves last.end)) (fill-ending bytes name last other))
 
-fill-inside : (bytes : List ℕ) (row : Row) → NoLinks row.inside → IsInside row → Fill bytes row.inside row.inside
-fill-inside bytes row h inside = fill-same bytes row.inside h (quiet-no_parts row.inside inside.quiet)
+fill-single : (options : ParseOptions) (bytes : List ℕ) (row : Row) → IsSingle options bytes row → Fill bytes (titled_row_by bytes row.kind row) (single_events_by bytes row.kind row)
+fill-single options bytes row is =
+    fill-line bytes (ending_of row.kind) row row (leaf_unread bytes row.kind row) (leaf_done bytes row.kind row) (ending-no_part row.kind) is.front (row-facts options bytes is.line row is.is is.other).filled
 
-fill-single : (options : ParseOptions) (bytes : List ℕ) (row : Row) → IsSingle options bytes row → IsUnlinked row → (kind : RowKind) → row.kind ≡ kind →
-    Fill bytes (titled_row_by bytes kind row) (single_events_by bytes kind row)
-fill-single options bytes row is h BlankRow e =
-    let other : row.kind ≢ HeadingRow = blank-no_heading row.kind e in
-    fill-line bytes n.BlankLineEnding row row row.inside row.inside refl is.front (fill-inside bytes row (h other) (is.is.inside other))
-fill-single options bytes row is h HeadingRow e =
-    let unread : List Event = unread_title (row_title bytes row) in
-    let read : List Event = read_title bytes (row_title bytes row) in
-    fill-line bytes n.LineEnding row row (around n.HeadingAtx row.first row.end unread) (around n.HeadingAtx row.first row.end read) refl is.front
-    (fill-around bytes n.HeadingAtx row.first row.end unread read refl
-    (subst (λ (line : List ℕ). Fill bytes (unread_title (title_of line row.first)) (read_title bytes (title_of line row.first))) (sym is.is.text)
-    (fill-title bytes is.line row.first)))
-fill-single options bytes row is h BreakRow e =
-    let other : row.kind ≢ HeadingRow = break-no_heading row.kind e in
-    let block : List Event = around n.ThematicBreak row.first row.end row.inside in
-    fill-line bytes n.LineEnding row row block block refl is.front
-    (fill-around bytes n.ThematicBreak row.first row.end row.inside row.inside refl (fill-inside bytes row (h other) (is.is.inside other)))
-fill-single options bytes row is h TextRow e = absurd (is.other e)
-
--- Paragraphs.
 
 -- a line ends no earlier than it begins
 line-order : (options : ParseOptions) (bytes line : List ℕ) (row : Row) → IsRow options bytes line row → IsTrue (at_or_before row.first row.end)
@@ -155,14 +132,14 @@ fill-paragraph options bytes row rows h front =
 
 -- Texts.
 
-fill-groups : (options : ParseOptions) (bytes : List ℕ) (gs : List Group) → AreGroups options bytes gs → AreUnlinked gs → Fill bytes (titled_groups bytes gs) (groups_events bytes gs)
-fill-groups options bytes [] are h = fill-same bytes [] tt tt
-fill-groups options bytes (Single row ∷ gs) are h =
+fill-groups : (options : ParseOptions) (bytes : List ℕ) (gs : List Group) → AreGroups options bytes gs → Fill bytes (titled_groups bytes gs) (groups_events bytes gs)
+fill-groups options bytes [] are = fill-same bytes [] tt tt
+fill-groups options bytes (Single row ∷ gs) are =
     fill-append bytes (titled_group bytes (Single row)) (group_events bytes (Single row)) (titled_groups bytes gs) (groups_events bytes gs)
-    (fill-single options bytes row are.0 h.0 row.kind refl) (fill-groups options bytes gs are.1 h.1)
-fill-groups options bytes (Lines row rows ∷ gs) are h =
+    (fill-single options bytes row are.0) (fill-groups options bytes gs are.1)
+fill-groups options bytes (Lines row rows ∷ gs) are =
     fill-append bytes (titled_group bytes (Lines row rows)) (group_events bytes (Lines row rows)) (titled_groups bytes gs) (groups_events bytes gs)
-    (fill-paragraph options bytes row rows are.0 are.2) (fill-groups options bytes gs are.3 h)
+    (fill-paragraph options bytes row rows are.0 are.2) (fill-groups options bytes gs are.3)
 
 fill-mark : (bytes : List ℕ) → Fill bytes (mark_events bytes) (mark_events bytes)
 fill-mark bytes = go (has_mark bytes)
@@ -172,20 +149,20 @@ fill-mark bytes = go (has_mark bytes)
     go false = fill-same bytes [] tt tt
 
 -- The same with a mark in front.
-pub blocks-filled : (options : ParseOptions) (bytes : List ℕ) (open_before : List Container) (going : Bool) (p : Point) (lines : List (List ℕ)) (rows : List Row) → AreRows options bytes open_before going p lines rows → EachNoContent rows → EachUnlinked rows →
+pub blocks-filled : (options : ParseOptions) (bytes : List ℕ) (open_before : List Container) (going : Bool) (p : Point) (lines : List (List ℕ)) (rows : List Row) → AreRows options bytes open_before going p lines rows → EachNoContent rows →
     IsFilled bytes (mark_events bytes ++ titled_groups bytes (groups rows)) (mark_events bytes ++ groups_events bytes (groups rows))
-blocks-filled options bytes open_before going p lines rows are quiet unlinked =
+blocks-filled options bytes open_before going p lines rows are quiet =
     let mark : List Event = mark_events bytes in
     fill-all bytes (mark ++ titled_groups bytes (groups rows)) (mark ++ groups_events bytes (groups rows))
     (fill-append bytes mark mark (titled_groups bytes (groups rows)) (groups_events bytes (groups rows)) (fill-mark bytes)
-    (fill-groups options bytes (groups rows) (groups-are options bytes open_before going p lines rows are quiet) (groups-unlinked rows unlinked)))
+    (fill-groups options bytes (groups rows) (groups-are options bytes open_before going p lines rows are quiet)))
 
 -- So it is with the lines that flow reads.
 pub text-filled : (options : ParseOptions) (bytes : List ℕ) (p : Point) (lines : List (List ℕ)) → AreRows options bytes [] false p lines (text_rows options bytes p) →
     IsFilled bytes (mark_events bytes ++ titled_groups bytes (groups (text_rows options bytes p))) (mark_events bytes ++ groups_events bytes (groups (text_rows options bytes p)))
 text-filled options bytes p lines are =
     let cells : List Cell = text_cells bytes options p in
-    blocks-filled options bytes [] false p lines (text_rows options bytes p) are (rows_at-no_content options (suc (length cells)) [] false cells p) (rows_at-unlinked options (suc (length cells)) [] false cells p)
+    blocks-filled options bytes [] false p lines (text_rows options bytes p) are (rows_at-no_content options (suc (length cells)) [] false cells p)
 
 -- The empty text has no events.
 

@@ -1,102 +1,42 @@
--- The tree of a text where quotes, headings and breaks alone may be on is what the events of its lines are read as.
-use Rattle.std.proofs.Common.{◌≡◌, ℕ, zero, suc, ◌+◌, ◌-◌, Bool, true, false, cond, not, ◌==◌, ◌&&◌, ◌||◌, List, [], ◌∷◌, ◌++◌, map, length, drop, refl, ap, sym, ◌∙◌, subst, inl, inr, ◌⊎◌, arith}
-use Rattle.std.specs.Prelude.{nat_le, Option, Some, None}
+-- The tree of a text where only constructs that are built may be on is what the events of its lines are read as.
+use Rattle.std.proofs.Common.{◌≡◌, ℕ, zero, suc, ◌+◌, ◌-◌, Bool, true, false, cond, not, ◌==◌, ◌&&◌, ◌||◌, List, [], ◌∷◌, ◌++◌, map, length, drop, refl, ap, sym, ◌∙◌, subst, inl, inr, ◌⊎◌}
+use Rattle.std.specs.Prelude.{Option, Some, None}
 use Rattle.std.specs.List.{onto_first}
-use Rattle.std.proofs.lemmas.Bool.{and_from, and_parts}
 use Rattle.std.proofs.lemmas.List.{map-append}
 use Rattle.std.proofs.lemmas.List.Sums.{take_while-cons}
 use Rattle.md_engine.specs.declared.configuration.ParseOptions.{ParseOptions}
 use Rattle.md_engine.specs.declared.event.Point.{Point}
 use Rattle.md_engine.specs.Place.{first_point}
-use Rattle.md_leaves.specs.HeadingRule.{is_heading}
 use Rattle.md_seam.specs.Standard.Containers.{Taken, continues, opens_quote, quote_taken}
-use Rattle.md_seam.specs.Standard.Grouped.{grouped, grouped_block, with_front}
+use Rattle.md_seam.specs.Standard.Grouped.{grouped}
 use Rattle.md_seam.specs.Standard.Lines.{begins_with, ends_line, full_lines_of, is_ending, lines_of, without_ending}
 use Rattle.md_seam.specs.Standard.Meaning.{tree, with_frontmatter}
 use Rattle.md_seam.specs.Standard.Preamble.{Preamble, first_column, front_of, has_mark, preamble, preamble_by, rest_at, rests_at, without_mark}
-use Rattle.md_seam.specs.Standard.Rest.{Rest, has_small_indent, is_parted, lose, run_len, trim_start}
+use Rattle.md_seam.specs.Standard.Rest.{Rest, has_small_indent, lose}
 use Rattle.md_seam.specs.Events.Spelled.{QuoteShape, spelled}
 use Rattle.md_seam.specs.Standard.State.{At, Container, InFootnote, InItem, InQuote, Kept, Leaf, NoLeaf, OpenParagraph, Path, Spot, Within, closed, container_block, kept, shut, texts, then_block, then_leaf}
 use Rattle.md_seam.specs.Standard.Step.{fresh_line, spot_of, step, steps}
 use Rattle.md_seam.specs.Standard.Texts.{split_lines}
-use Rattle.md_seam.specs.Standard.Tree.{Block, Blocks, Break, End, Heading, More, Paragraph, Quote}
+use Rattle.md_seam.specs.Standard.Tree.{Blocks, End, Paragraph, Quote}
 use Rattle.md_seam.proofs.LinesLemmas.{without_ending-onto}
-use Rattle.md_outline.specs.Outlined.{are_shallow, is_shallow}
+use Rattle.md_outline.specs.Outlined.{are_shallow}
 use Rattle.markdown_blocks.specs.Change.{change_by, interrupts, others_of}
+use Rattle.markdown_blocks.specs.ContainerKinds.{shape_of}
 use Rattle.markdown_blocks.specs.Document.{body_point, mark_end}
 use Rattle.markdown_blocks.specs.Fed.{rests_from}
-use Rattle.markdown_blocks.specs.Fronted.{Contained, Prefixed, contained, no_prefix, one_more, prefixes_new, prefixes_on, rest_line}
+use Rattle.markdown_blocks.specs.Fronted.{Contained, Prefixed, contained, no_prefix, one_more, prefixes_new, prefixes_on}
 use Rattle.markdown_blocks.specs.Parsed.{IsBuilt}
-use Rattle.markdown_blocks.specs.Rows.{BlankRow, Row, RowKind, TextRow, groups, groups_events, is_lazy, line_kind}
-use Rattle.markdown_blocks.specs.Stands.{IsPlain, IsPlainLeaf, containers_of, is_going, shape_of}
+use Rattle.markdown_blocks.specs.Registry.{leaf}
+use Rattle.markdown_blocks.specs.Rows.{BlankRow, LeafRow, Row, RowKind, TextRow, groups, groups_events, is_lazy, line_kind}
+use Rattle.markdown_blocks.specs.Stands.{IsPlain, IsPlainLeaf, containers_of, is_going}
 use Rattle.markdown_blocks.proofs.ContainedLemmas.{IsQuoteTaken, contained-shapes, opens-quote, quote-alone}
-use Rattle.markdown_blocks.proofs.LineKinds.{heading-kind}
+use Rattle.markdown_blocks.proofs.KindLemmas.{kind-starts}
 use Rattle.markdown_blocks.proofs.LineSteps.{behind_path, contained_at, fresh-found, goes_lazy, kept_to, longer, new_line, new_path, plain-step, renewed, shut-lines, spot_by, step-contained, step-new, stepped_on}
 use Rattle.markdown_blocks.proofs.MarkLemmas.{without-mark}
 use Rattle.markdown_blocks.proofs.RowFacts as f
 use Rattle.markdown_blocks.proofs.SpelledRows.{spelled-rows}
-use Rattle.markdown_blocks.specs.Leaf.HeadingAtx.{heading_block}
-
--- Simple trees.
-
--- quotes, headings that are not deeper than 6, breaks and paragraphs
-abbrev mutual
-  is_simple : Block → Bool
-  is_simple (Heading depth lines) = nat_le depth 6
-  is_simple (Quote blocks) = are_simple blocks
-  is_simple Break = true
-  is_simple (Paragraph lines) = true
-  is_simple _ = false
-
-  are_simple : Blocks → Bool
-  are_simple End = true
-  are_simple (More block blocks) = is_simple block && are_simple blocks
-
--- they have no deeper heading
-mutual
-  shallow-block : (b : Block) → is_simple b ≡ true → is_shallow b ≡ true
-  shallow-block (Heading depth lines) h = h
-  shallow-block (Quote blocks) h = shallow-blocks blocks h
-  shallow-block Break h = refl
-  shallow-block (Paragraph lines) h = refl
-  shallow-block b h = cc
-
-  shallow-blocks : (bs : Blocks) → are_simple bs ≡ true → are_shallow bs ≡ true
-  shallow-blocks End h = refl
-  shallow-blocks (More b bs) h = let parts = and_parts (is_simple b) (are_simple bs) h in and_from (is_shallow b) (are_shallow bs) (shallow-block b parts.0) (shallow-blocks bs parts.1)
-
-front-simple : (b : Block) (bs : Blocks) → is_simple b ≡ true → with_front b bs ≡ More b bs
-front-simple (Heading depth lines) bs h = refl
-front-simple (Quote blocks) bs h = refl
-front-simple Break bs h = refl
-front-simple (Paragraph lines) bs h = refl
-front-simple b bs h = cc
-
--- and they make no list
-mutual
-  grouped-block : (b : Block) → is_simple b ≡ true → grouped_block b ≡ b
-  grouped-block (Heading depth lines) h = refl
-  grouped-block (Quote blocks) h = ap Quote (grouped-blocks blocks h)
-  grouped-block Break h = refl
-  grouped-block (Paragraph lines) h = refl
-  grouped-block b h = cc
-
-  grouped-blocks : (bs : Blocks) → are_simple bs ≡ true → grouped bs ≡ bs
-  grouped-blocks End h = refl
-  grouped-blocks (More b bs) h =
-      let parts = and_parts (is_simple b) (are_simple bs) h in
-      ap (λ (x : Block). with_front x (grouped bs)) (grouped-block b parts.0) ∙ front-simple b (grouped bs) parts.0 ∙ ap (More b) (grouped-blocks bs parts.1)
-
-simple-then : (bs : Blocks) (b : Block) → are_simple bs ≡ true → is_simple b ≡ true → are_simple (then_block bs b) ≡ true
-simple-then End b h k = and_from (is_simple b) true k refl
-simple-then (More a bs) b h k = let parts = and_parts (is_simple a) (are_simple bs) h in and_from (is_simple a) (are_simple (then_block bs b)) parts.0 (simple-then bs b parts.1 k)
-
-simple-heading : (line : List ℕ) → is_heading (trim_start line) ≡ true → is_simple (heading_block line) ≡ true
-simple-heading line h =
-    let text = trim_start line in
-    let depth = run_len 35 text in
-    let same : depth ≡ 0 + depth = omega arith in
-    ap (λ (k : ℕ). nat_le k 6) same ∙ (and_parts (nat_le (0 + depth) 6) (is_parted (drop depth text)) (and_parts (nat_le 1 depth) (nat_le (0 + depth) 6 && is_parted (drop depth text)) h).1).0
+use Rattle.markdown_blocks.proofs.RegistryFound.{leaf-simple}
+use Rattle.markdown_blocks.proofs.SimpleBlocks.{AreSimple, grouped-blocks, shallow-blocks, simple-paragraph, simple-quote, simple-then}
 
 -- Quotes alone are open.
 
@@ -141,7 +81,7 @@ quotes-new options interrupting (suc n) r built = subst (λ (o : Option Taken). 
 -- and those that open on it
 quotes-open : (options : ParseOptions) (cs : List Container) (going : Bool) (r : Rest) → IsBuilt options → AreQuotes (contained options cs going r).change.opens
 unfolding contained
-quotes-open options cs going r built = go (is_lazy going new.containers (line_kind options (rest_line new.rest)))
+quotes-open options cs going r built = go (is_lazy going new.containers (line_kind options new.rest))
   where
     on : Prefixed
     on = prefixes_on options cs r
@@ -158,61 +98,69 @@ quotes-open options cs going r built = go (is_lazy going new.containers (line_ki
 
 -- Paths.
 
--- of quotes, and simple trees in them
-abbrev IsSimple : Path → Type 0
-IsSimple (At s) = are_simple s.here ≡ true
-IsSimple (Within before container p) = (are_simple before ≡ true) × (container ≡ InQuote) × IsSimple p
+-- of quotes, and simple blocks in them
+abbrev HoldsSimple : Path → Type 0
+HoldsSimple (At s) = AreSimple s.here
+HoldsSimple (Within before container p) = AreSimple before × (container ≡ InQuote) × HoldsSimple p
 
-simple-quotes : (p : Path) → IsSimple p → AreQuotes (containers_of p)
+simple-quotes : (p : Path) → HoldsSimple p → AreQuotes (containers_of p)
 simple-quotes (At s) h = tt
 simple-quotes (Within before container p) h = (h.1, simple-quotes p h.2)
 
-simple-shut : (options : ParseOptions) (s : Spot) → IsBuilt options → IsPlainLeaf s.leaf → are_simple s.here ≡ true → are_simple (shut options s) ≡ true
+simple-shut : (options : ParseOptions) (s : Spot) → IsBuilt options → IsPlainLeaf s.leaf → AreSimple s.here →
+    AreSimple (shut options s)
 simple-shut options s built plain h = go s.leaf plain
   where
-    go : (leaf : Leaf) → IsPlainLeaf leaf → are_simple (then_leaf options s.here leaf) ≡ true
+    go : (leaf : Leaf) → IsPlainLeaf leaf → AreSimple (then_leaf options s.here leaf)
     go NoLeaf plain = h
-    go (OpenParagraph (k ∷ ks)) plain = ap are_simple (shut-lines options s.here (texts (k ∷ ks)) built.definition) ∙ simple-then s.here (Paragraph (texts (k ∷ ks))) h refl
+    go (OpenParagraph (k ∷ ks)) plain =
+        subst AreSimple (sym (shut-lines options s.here (texts (k ∷ ks)) built.definition)) (simple-then s.here (Paragraph (texts (k ∷ ks))) h (simple-paragraph (texts (k ∷ ks))))
     go leaf plain = absurd plain
 
-simple-closed : (options : ParseOptions) (p : Path) → IsBuilt options → IsPlain p → IsSimple p → are_simple (closed options p) ≡ true
+simple-closed : (options : ParseOptions) (p : Path) → IsBuilt options → IsPlain p → HoldsSimple p →
+    AreSimple (closed options p)
 simple-closed options (At s) built plain h = simple-shut options s built plain h
 simple-closed options (Within before container p) built plain h =
-    subst (λ (c : Container). are_simple (then_block before (container_block c (closed options p))) ≡ true) (sym h.1) (simple-then before (Quote (closed options p)) h.0 (simple-closed options p built plain h.2))
+    subst (λ (c : Container). AreSimple (then_block before (container_block c (closed options p)))) (sym h.1)
+    (simple-then before (Quote (closed options p)) h.0 (simple-quote (closed options p) (simple-closed options p built plain h.2)))
 
-simple-kept : (options : ParseOptions) (cs : List Container) (p : Path) → IsBuilt options → IsPlain p → AreQuotes cs → IsSimple p → IsSimple (kept_to options cs p)
+simple-kept : (options : ParseOptions) (cs : List Container) (p : Path) → IsBuilt options → IsPlain p → AreQuotes cs →
+    HoldsSimple p → HoldsSimple (kept_to options cs p)
 simple-kept options [] p built plain quotes h = simple-closed options p built plain h
 simple-kept options (c ∷ cs) (At s) built plain quotes h = simple-shut options s built plain h
 simple-kept options (c ∷ cs) (Within before container p) built plain quotes h = (h.0, quotes.0, simple-kept options cs p built plain quotes.1 h.2)
 
-simple-renewed : (cs : List Container) (p : Path) → AreQuotes cs → IsSimple p → IsSimple (renewed cs p)
+simple-renewed : (cs : List Container) (p : Path) → AreQuotes cs → HoldsSimple p → HoldsSimple (renewed cs p)
 simple-renewed [] p quotes h = h
 simple-renewed (c ∷ cs) (At s) quotes h = h
 simple-renewed (c ∷ cs) (Within before container p) quotes h = (h.0, quotes.0, simple-renewed cs p quotes.1 h.2)
 
-simple-longer : (p : Path) (lines : List Kept) → IsSimple p → IsSimple (longer p lines)
+simple-longer : (p : Path) (lines : List Kept) → HoldsSimple p → HoldsSimple (longer p lines)
 simple-longer (At s) lines h = h
 simple-longer (Within before container p) lines h = (h.0, h.1, simple-longer p lines h.2)
 
-simple-behind : (p : Path) (f : Blocks → Path) → IsSimple p → ((bs : Blocks) → are_simple bs ≡ true → IsSimple (f bs)) → IsSimple (behind_path p f)
+simple-behind : (p : Path) (f : Blocks → Path) → HoldsSimple p → ((bs : Blocks) → AreSimple bs → HoldsSimple (f bs)) →
+    HoldsSimple (behind_path p f)
 simple-behind (At s) f h each = each s.here h
 simple-behind (Within before container p) f h each = (h.0, h.1, simple-behind p f h.2 each)
 
-simple-fresh : (options : ParseOptions) (bs : Blocks) (r : Rest) → IsBuilt options → are_simple bs ≡ true → are_simple (fresh_line options bs r).here ≡ true
-simple-fresh options bs r built h = ap (λ (s : Spot). are_simple s.here) (fresh-found options bs r built) ∙ go (line_kind options r.bytes) refl
+simple-fresh : (options : ParseOptions) (bs : Blocks) (r : Rest) → IsBuilt options → AreSimple bs →
+    AreSimple (fresh_line options bs r).here
+simple-fresh options bs r built h = subst (λ (s : Spot). AreSimple s.here) (sym (fresh-found options bs r built)) (go (line_kind options r) refl)
   where
-    go : (kind : RowKind) → line_kind options r.bytes ≡ kind → are_simple (spot_by bs [] r kind).here ≡ true
+    go : (kind : RowKind) → line_kind options r ≡ kind → AreSimple (spot_by bs [] r kind).here
     go BlankRow e = h
-    go HeadingRow e = simple-then bs (heading_block r.bytes) h (simple-heading r.bytes (heading-kind options r.bytes e))
-    go BreakRow e = simple-then bs Break h refl
+    go (LeafRow l) e = simple-then bs ((leaf l).block r) h (leaf-simple l options r (kind-starts options r l e))
     go TextRow e = h
 
-simple-new_line : (options : ParseOptions) (cs : List Container) (r : Rest) (bs : Blocks) → IsBuilt options → AreQuotes cs → are_simple bs ≡ true → IsSimple (new_line options cs r bs)
+simple-new_line : (options : ParseOptions) (cs : List Container) (r : Rest) (bs : Blocks) → IsBuilt options →
+    AreQuotes cs → AreSimple bs → HoldsSimple (new_line options cs r bs)
 simple-new_line options [] r bs built quotes h = simple-fresh options bs r built h
-simple-new_line options (c ∷ cs) r bs built quotes h = (h, quotes.0, simple-new_line options cs r End built quotes.1 refl)
+simple-new_line options (c ∷ cs) r bs built quotes h = (h, quotes.0, simple-new_line options cs r End built quotes.1 tt)
 
-simple-step : (options : ParseOptions) (p : Path) (r : Rest) → IsBuilt options → IsPlain p → IsSimple p → IsSimple (step options p r)
-simple-step options p r built plain h = subst IsSimple (sym (step-contained options p r built plain)) (go (goes_lazy options p c))
+simple-step : (options : ParseOptions) (p : Path) (r : Rest) → IsBuilt options → IsPlain p → HoldsSimple p →
+    HoldsSimple (step options p r)
+simple-step options p r built plain h = subst HoldsSimple (sym (step-contained options p r built plain)) (go (goes_lazy options p c))
   where
     c : Contained
     c = contained_at options p r
@@ -223,7 +171,7 @@ simple-step options p r built plain h = subst IsSimple (sym (step-contained opti
     open_new : AreQuotes c.change.opens
     open_new = quotes-open options (containers_of p) (is_going p) r built
 
-    go : (x : Bool) → IsSimple (cond x (longer (renewed c.change.stays p) (kept c.rest ∷ [])) (new_path options p c))
+    go : (x : Bool) → HoldsSimple (cond x (longer (renewed c.change.stays p) (kept c.rest ∷ [])) (new_path options p c))
     go true = simple-longer (renewed c.change.stays p) (kept c.rest ∷ []) (simple-renewed c.change.stays p stay h)
     go false =
         simple-behind (kept_to options c.change.stays p) (new_line options c.change.opens c.rest) (simple-kept options c.change.stays p built plain stay h)
@@ -233,7 +181,8 @@ plain-steps : (options : ParseOptions) (p : Path) (rs : List Rest) → IsBuilt o
 plain-steps options p [] built plain = plain
 plain-steps options p (r ∷ rs) built plain = plain-steps options (step options p r) rs built (plain-step options p r built plain)
 
-simple-steps : (options : ParseOptions) (p : Path) (rs : List Rest) → IsBuilt options → IsPlain p → IsSimple p → IsSimple (steps options p rs)
+simple-steps : (options : ParseOptions) (p : Path) (rs : List Rest) → IsBuilt options → IsPlain p → HoldsSimple p →
+    HoldsSimple (steps options p rs)
 simple-steps options p [] built plain h = h
 simple-steps options p (r ∷ rs) built plain h = simple-steps options (step options p r) rs built (plain-step options p r built plain) (simple-step options p r built plain h)
 
@@ -241,8 +190,8 @@ simple-steps options p (r ∷ rs) built plain h = simple-steps options (step opt
 abbrev come : ParseOptions → List Rest → Blocks
 come options rs = closed options (steps options (At (spot_of End)) rs)
 
-simple-come : (options : ParseOptions) (rs : List Rest) → IsBuilt options → are_simple (come options rs) ≡ true
-simple-come options rs built = simple-closed options (steps options (At (spot_of End)) rs) built (plain-steps options (At (spot_of End)) rs built tt) (simple-steps options (At (spot_of End)) rs built tt refl)
+simple-come : (options : ParseOptions) (rs : List Rest) → IsBuilt options → AreSimple (come options rs)
+simple-come options rs built = simple-closed options (steps options (At (spot_of End)) rs) built (plain-steps options (At (spot_of End)) rs built tt) (simple-steps options (At (spot_of End)) rs built tt tt)
 
 -- An empty line at the end adds nothing.
 
@@ -288,7 +237,7 @@ come-empty options column (line ∷ lines) built =
     let first : Path = step options (At (spot_of End)) (rest_at column line) in
     let rs : List Rest = map (rest_at 0) lines in
     let plain : IsPlain first = plain-step options (At (spot_of End)) (rest_at column line) built tt in
-    let simple : IsSimple first = simple-step options (At (spot_of End)) (rest_at column line) built tt refl in
+    let simple : HoldsSimple first = simple-step options (At (spot_of End)) (rest_at column line) built tt tt in
     ap (λ (l : List Rest). closed options (steps options first l)) (map-append (rest_at 0) lines ([] ∷ []))
     ∙ ap (closed options) (steps-append options first rs (rest_at 0 [] ∷ []))
     ∙ step-empty options (steps options first rs) 0 built (plain-steps options first rs built plain) (simple-quotes (steps options first rs) (simple-steps options first rs built plain simple))
@@ -360,7 +309,7 @@ tree-body options bytes built =
     ap (λ (p : Preamble). with_frontmatter p.front (grouped (closed options (steps options (At (spot_of End)) p.body)))) (preamble-off options bytes built.frontmatter)
     ∙ grouped-blocks (body_of options bytes) (simple-come options (rests_at (first_column bytes) (lines_of (without_mark bytes))) built)
 
--- No heading of such a text is deeper than 6.
+-- Such a tree is not too deep for an outline.
 pub tree-shallow : (options : ParseOptions) (bytes : List ℕ) → IsBuilt options → are_shallow (tree options bytes) ≡ true
 tree-shallow options bytes built =
     ap are_shallow (tree-body options bytes built)

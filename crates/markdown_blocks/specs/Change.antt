@@ -1,11 +1,10 @@
 -- What a line does to the containers that are open before it.
 use Rattle.std.specs.Prelude.{Bool, true, false, ◌&&◌, List, [], ◌∷◌, ◌++◌, length, drop}
 use Rattle.md_engine.specs.declared.event.Event.{Event}
-use Rattle.md_engine.specs.declared.event.Name.{Name}
-use Rattle.md_engine.specs.declared.event.Name.TheVariants as n
 use Rattle.md_engine.specs.declared.event.Point.{Point}
 use Rattle.md_seam.specs.Events.Nested.{exit}
-use Rattle.md_seam.specs.Standard.State.{Container, InFootnote, InItem, InQuote}
+use Rattle.markdown_blocks.specs.ContainerKinds.{container_name}
+use Rattle.md_seam.specs.Standard.State.{Container}
 
 -- The containers of a line, the outermost first.
 pub record Change : Type 0 where
@@ -36,12 +35,6 @@ is_none (c ∷ cs) = false
 -- whether a container that opens would interrupt a paragraph: one is open, and all containers went on
 abbrev pub interrupts : Bool → List Container → Bool
 interrupts going others = going && is_none others
-
--- the name of a container's events
-abbrev pub container_name : Container → Name
-container_name InQuote = n.BlockQuote
-container_name (InItem digits marker width starts_blank) = n.ListItem
-container_name (InFootnote label) = n.GfmFootnoteDefinition
 
 -- the ends of containers at a point, the innermost first
 abbrev pub ends_of : List Container → Point → List Event

@@ -4,7 +4,11 @@ pub mod States
 pub mod Parsed
 pub mod Resolved
 pub mod FlowRule
+pub mod ContainerKinds
 pub mod Change
+pub mod MarkRuns
+pub mod Passed
+pub mod Containers
 pub mod LineLeaf
 pub mod Leaf
 pub mod Registry

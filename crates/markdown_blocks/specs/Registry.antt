@@ -1,7 +1,17 @@
 -- The constructs that are built, and their order: the one place of the frame that names them.
-use Rattle.std.specs.Prelude.{Bool, if◌then◌else◌, List, [], ◌∷◌, Option, Some, None}
+use Rattle.std.specs.Prelude.{Bool, ◌&&◌, if◌then◌else◌, List, [], ◌∷◌, Option, Some, None}
+use Rattle.md_engine.specs.declared.configuration.ParseOptions.{ParseOptions}
 use Rattle.md_engine.specs.declared.event.Event.{Event}
-use Rattle.md_leaves.specs.HeadingText.{headings_resolved}
+use Rattle.md_engine.specs.declared.event.Point.{Point}
+use Rattle.md_engine.specs.Meaning.{Cell}
+use Rattle.md_containers.specs.QuoteRule.{takes_prefix}
+use Rattle.md_leaves.specs.HeadingText.{headings_resolved, is_heading}
+use Rattle.md_seam.specs.Standard.State.{Container, InQuote}
+use Rattle.markdown_blocks.specs.Containers.BlockQuote.{quote_new, quote_on}
+use Rattle.markdown_blocks.specs.Passed.{Passed}
+use Rattle.md_engine.specs.declared.event.Name.{Name}
+use Rattle.md_engine.specs.declared.resolve.Name.{Name as ResolveName}
+use Rattle.md_engine.specs.declared.resolve.Name.TheVariants as r
 use Rattle.markdown_blocks.specs.Leaf.HeadingAtx.{heading_leaf}
 use Rattle.markdown_blocks.specs.Leaf.ThematicBreak.{break_leaf}
 use Rattle.markdown_blocks.specs.LineLeaf.{LineLeaf}
@@ -25,8 +35,31 @@ abbrev pub first_of : (LeafName → Bool) → List LeafName → Option LeafName
 first_of test [] = None
 first_of test (l ∷ ls) = if test l then Some l else first_of test ls
 
--- Resolvers, behind that of content.
+-- Resolvers, behind that of content. There is one yet.
 
--- what they make of events, in their order; each changes nothing where nothing is its own
+abbrev pub resolver : ResolveName
+resolver = r.HeadingAtx
+
+-- the names of the parts that it rewrites
+abbrev pub is_own : Name → Bool
+is_own name = is_heading name
+
+-- what each makes of events: that of no construct that is built changes nothing
+abbrev pub resolved_by : ResolveName → List Event → List Event
+resolved_by r.HeadingAtx events = headings_resolved events
+resolved_by _ events = events
+
+-- what all make of them, in their order; each changes nothing where nothing is its own
 abbrev pub resolved : List Event → List Event
-resolved events = headings_resolved events
+resolved events = resolved_by resolver events
+
+-- Containers, by the cells of a line.
+
+-- whether an open container goes on
+abbrev pub goes_at : ParseOptions → Container → List Cell → Point → Option Passed
+goes_at options InQuote cells p = if takes_prefix options cells then Some (quote_on options cells p) else None
+goes_at options container cells p = None
+
+-- the container that opens, if one does, where it would interrupt a paragraph or not
+abbrev pub opens_at : ParseOptions → Bool → List Cell → Point → Option Passed
+opens_at options interrupting cells p = if options.constructs.block_quote && takes_prefix options cells then Some (quote_new options cells p) else None

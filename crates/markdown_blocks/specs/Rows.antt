@@ -6,17 +6,17 @@ use Rattle.md_engine.specs.declared.event.Name.{Name}
 use Rattle.md_engine.specs.declared.event.Name.TheVariants as n
 use Rattle.md_engine.specs.declared.event.Point.{Point}
 use Rattle.md_engine.specs.Meaning.{Cell}
-use Rattle.md_containers.specs.QuoteRule.{prefix_end, prefix_events, prefix_rest, takes_prefix}
 use Rattle.md_content.specs.Chunks.{content_link}
 use Rattle.md_leaves.specs.BlankRule.{blank_events}
 use Rattle.md_seam.specs.declared.inline.Chunk.{Chunk}
 use Rattle.md_seam.specs.Ahead.{from_ending, line_bytes, line_end}
 use Rattle.md_seam.specs.Events.Inline.{plain_chunk}
 use Rattle.md_seam.specs.Events.Places.{past_text}
-use Rattle.md_seam.specs.Events.Nested.{around, enter, enter_link, exit, pair}
+use Rattle.md_seam.specs.Events.Nested.{around, enter_link, exit, pair}
 use Rattle.md_seam.specs.Standard.Rest.{Rest, is_blank}
-use Rattle.md_seam.specs.Standard.State.{Container, InQuote}
-use Rattle.markdown_blocks.specs.Registry.{LeafName, first_of, leaf, trials}
+use Rattle.md_seam.specs.Standard.State.{Container}
+use Rattle.markdown_blocks.specs.Passed.{Passed}
+use Rattle.markdown_blocks.specs.Registry.{LeafName, first_of, goes_at, leaf, opens_at, trials}
 use Rattle.markdown_blocks.specs.Change.{Change, change_by, ends_of, interrupts, is_none, open_behind, others_of}
 
 -- what the rest of a line is, behind the prefixes of its containers
@@ -71,30 +71,6 @@ after_ending [] = None
 after_ending (c ∷ cs) = Some c.after
 
 -- Containers by the cells of a line.
-
--- a container that goes on or opens: what stands in front of its content, and what is left behind it
-pub record Passed : Type 0 where
-  pub container : Container
-  pub events : List Event
-  pub cells : List Cell
-  pub point : Point
-
--- a quote that goes on
-abbrev pub quote_on : ParseOptions → List Cell → Point → Passed
-quote_on options cells p = record { container = InQuote; events = prefix_events options cells p; cells = prefix_rest options cells; point = prefix_end options cells p }
-
--- one that opens
-abbrev pub quote_new : ParseOptions → List Cell → Point → Passed
-quote_new options cells p = record { container = InQuote; events = enter n.BlockQuote p ∷ prefix_events options cells p; cells = prefix_rest options cells; point = prefix_end options cells p }
-
--- whether an open container goes on; there are only quotes yet
-abbrev pub goes_at : ParseOptions → Container → List Cell → Point → Option Passed
-goes_at options InQuote cells p = if takes_prefix options cells then Some (quote_on options cells p) else None
-goes_at options container cells p = None
-
--- the container that opens, if one does, where it would interrupt a paragraph or not
-abbrev pub opens_at : ParseOptions → Bool → List Cell → Point → Option Passed
-opens_at options interrupting cells p = if options.constructs.block_quote && takes_prefix options cells then Some (quote_new options cells p) else None
 
 -- containers that have a prefix on a line, and what is left of it behind them
 pub record Front : Type 0 where

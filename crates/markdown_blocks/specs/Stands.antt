@@ -1,26 +1,20 @@
 -- What stands between two lines: what was read of the text, what the tokenizer knows, and what is open by the line definition.
 --
 -- The events before a line, without the ends of the containers that the line closes, spell the finished blocks, and the open leaf
--- as if it ended there. What is still open, and may go on, is told by the flags. A container adds a clause to `MatchesContainer`. Items are
+-- as if it ended there. What is still open, and may go on, is told by the flags. What the tokenizer holds of a container is said in `ContainerKinds`. Items are
 -- meant as they stand before their resolver puts lists around them. A leaf of several lines (fenced code, HTML, a table) will add
 -- what its scratch holds.
 use Rattle.std.specs.Prelude.{◌≡◌, Bool, List, [], ◌∷◌, None}
 use Rattle.md_engine.specs.declared.configuration.ParseOptions.{ParseOptions}
 use Rattle.md_engine.specs.declared.tokenizer.Container.{Container as Held}
-use Rattle.md_engine.specs.declared.tokenizer.ContainerKind.TheVariants as kind
 use Rattle.md_engine.specs.World.{Flags}
-use Rattle.md_seam.specs.Events.Spelled.{Around, FootnoteShape, ItemShape, QuoteShape, Reading, Shape}
-use Rattle.md_seam.specs.Standard.State.{At, Container, InFootnote, InItem, InQuote, Leaf, NoLeaf, OpenParagraph, Path, Within, closed, shut, spot}
+use Rattle.md_seam.specs.Events.Spelled.{Around, Reading}
+use Rattle.markdown_blocks.specs.ContainerKinds.{MatchesContainer, shape_of}
+use Rattle.md_seam.specs.Standard.State.{At, Container, Leaf, NoLeaf, OpenParagraph, Path, Within, closed, shut, spot}
 use Rattle.md_seam.specs.Standard.Step.{is_open_text}
 use Rattle.md_seam.specs.Standard.Tree.{Blocks}
 
 -- What was read.
-
--- what the events tell of an open container; the width of an item, and whether it started blank, they do not tell
-abbrev pub shape_of : Container → Shape
-shape_of InQuote = QuoteShape
-shape_of (InItem digits marker width starts_blank) = ItemShape marker digits
-shape_of (InFootnote label) = FootnoteShape label
 
 -- an open container behind these blocks
 abbrev pub around_of : Container → Blocks → Around
@@ -47,12 +41,6 @@ final options p = final_on options [] p
 
 -- What the tokenizer knows.
 
--- A container that the tokenizer holds is this one: it is of its kind, and holds what the events do not tell. Quotes alone have
--- a kind yet.
-abbrev pub MatchesContainer : Held → Container → Type 0
-MatchesContainer held InQuote = held.kind ≡ kind.BlockQuote
-MatchesContainer held container = ⊥
-
 -- those that the tokenizer holds are these, the outermost first
 abbrev pub AreOpen : List Held → List Container → Type 0
 AreOpen [] [] = Unit {0}
@@ -74,7 +62,7 @@ pub record StandsFor (options : ParseOptions) (g : Flags) (r : Reading) (p : Pat
   pub going : g.interrupt ≡ is_going p
   pub reading : r ≡ reading options p
 
--- What may be open where quotes, headings and breaks alone may be on: nothing or a paragraph, in containers.
+-- What may be open in what is built: nothing or a paragraph, in containers.
 abbrev pub IsPlainLeaf : Leaf → Type 0
 IsPlainLeaf NoLeaf = Unit {0}
 IsPlainLeaf (OpenParagraph (k ∷ ks)) = Unit {0}

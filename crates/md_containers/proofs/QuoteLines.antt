@@ -321,14 +321,14 @@ PrefixIs options line text past end stop cells p (Some taken) = HasPrefix option
 PrefixIs options line text past end stop cells p None = takes_prefix options cells ≡ false
 
 -- a small indent fits, where there are not too many cells
-small-room : (options : ParseOptions) (r : Rest) (size : ℕ) → has_small_indent options r ≡ true → indent r ≤ size → size < 2 ^ 63 → indent r ≤ small_indent options
+pub small-room : (options : ParseOptions) (r : Rest) (size : ℕ) → has_small_indent options r ≡ true → indent r ≤ size → size < 2 ^ 63 → indent r ≤ small_indent options
 small-room options r size e le lt = go options.constructs.code_indented e
   where
     go : (t : Bool) → (not t || nat_le (indent r) 3) ≡ true → indent r ≤ cond t 3 any_size
     go true small = grind (arith, nat_tests, small)
     go false small = omega (arith, le, lt)
 
-large-room : (options : ParseOptions) (r : Rest) → has_small_indent options r ≡ false → small_indent options < indent r
+pub large-room : (options : ParseOptions) (r : Rest) → has_small_indent options r ≡ false → small_indent options < indent r
 large-room options r e = go options.constructs.code_indented e
   where
     go : (t : Bool) → (not t || nat_le (indent r) 3) ≡ false → cond t 3 any_size < indent r

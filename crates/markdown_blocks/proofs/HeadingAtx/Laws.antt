@@ -1,6 +1,96 @@
 -- The laws of ATX headings.
-use Rattle.markdown_blocks.specs.Leaf.HeadingAtx.{heading_leaf}
+use Rattle.std.proofs.Common.{◌≡◌, ℕ, true, List, ◌&&◌, refl, sym, ap, ◌∙◌, subst}
+use Rattle.std.specs.Prelude.{Some}
+use Rattle.std.proofs.lemmas.Bool.{and_parts}
+use Rattle.md_engine.specs.declared.configuration.ParseOptions.{ParseOptions}
+use Rattle.md_engine.specs.declared.event.Event.{Event}
+use Rattle.md_engine.specs.declared.event.Name.TheVariants as n
+use Rattle.md_engine.specs.declared.event.Point.{Point}
+use Rattle.md_leaves.specs.HeadingRule.{is_heading}
+use Rattle.md_leaves.specs.HeadingTitle.{title_of, unread_title}
+use Rattle.md_seam.specs.Events.Places.{past_text}
+use Rattle.md_seam.specs.Standard.Rest.{Rest, has_small_indent, trim_start}
+use Rattle.markdown_blocks.specs.Fronted.{rest_line}
+use Rattle.markdown_blocks.specs.Leaf.HeadingAtx.{heading_leaf, read_title}
+use Rattle.markdown_blocks.proofs.FillFacts.{fill-around}
+use Rattle.markdown_blocks.proofs.HeadingAtx.Between.{heading-between}
+use Rattle.markdown_blocks.proofs.HeadingAtx.Cells.{heading-adds, heading-fits}
+use Rattle.markdown_blocks.proofs.HeadingAtx.Endings.{read-ending, unread-ending}
+use Rattle.markdown_blocks.proofs.HeadingAtx.Nested.{read-nested, unread-nested}
+use Rattle.markdown_blocks.proofs.HeadingAtx.NoContent.{heading-no_content}
+use Rattle.markdown_blocks.proofs.HeadingAtx.Parted.{heading-sits}
+use Rattle.markdown_blocks.proofs.HeadingAtx.Pieces.{read-stood, unread-stood}
+use Rattle.markdown_blocks.proofs.HeadingAtx.Plain.{heading-plain}
+use Rattle.markdown_blocks.proofs.HeadingAtx.Spelled.{heading-reads}
+use Rattle.markdown_blocks.proofs.HeadingAtx.Texts.{fill-title, heading-resolved, stands-title, title-becomes}
+use Rattle.markdown_blocks.proofs.HeadingAtx.Tiled.{heading-tiled}
+use Rattle.markdown_blocks.proofs.HeadingAtx.Trial.{trial-refused, trial-shrinks, trial-took}
+use Rattle.markdown_blocks.proofs.HeadingAtx.Words.{read-word, unread-word}
+use Rattle.markdown_blocks.proofs.LeafFacts.{LeafFacts, LineAt}
 use Rattle.markdown_blocks.proofs.LeafLaws.{LeafLaws}
+use Rattle.markdown_blocks.proofs.PartsStand.{stands-around}
+use Rattle.markdown_blocks.proofs.PiecesLemmas.{Tiled}
+use Rattle.markdown_blocks.proofs.RestFacts.{rest-trim}
+use Rattle.markdown_blocks.proofs.SpanLemmas.{Nested_in}
+use Rattle.markdown_blocks.proofs.SubstitutedLemmas.{becomes-around}
+use Rattle.markdown_blocks.proofs.HeadingAtx.Outside.{heading-own}
 
+-- the line of a heading begins with its markers, behind whitespace
+line-begins : (options : ParseOptions) (r : Rest) → heading_leaf.starts options r ≡ true →
+    is_heading (trim_start (rest_line r)) ≡ true
+line-begins options r starts =
+    ap is_heading (rest-trim r) ∙ (and_parts (options.constructs.heading_atx && has_small_indent options r) (is_heading (trim_start r.bytes)) starts).1
+
+-- what is known of its events
+heading-facts : (options : ParseOptions) (bytes : List ℕ) (r : Rest) (p q : Point) →
+    heading_leaf.starts options r ≡ true → LineAt bytes r (rest_line r) p q →
+    LeafFacts bytes (Some (heading_leaf.block r)) p q (heading_leaf.unread (rest_line r) p) (heading_leaf.done bytes (rest_line r) p)
+heading-facts options bytes r p q starts is = record {
+  unread_nested = subst (λ (e : Point). Nested_in p e unread) (sym is.end) (unread-nested line p);
+  nested = subst (λ (e : Point). Nested_in p e done) (sym is.end) (read-nested bytes line p);
+  tiled = subst (λ (e : Point). Tiled p e unread) (sym is.end) (heading-tiled line p);
+  unread_stood = unread-stood bytes r line p q is begins;
+  stood = read-stood bytes r line p q is begins;
+  unread_word = unread-word line p begins;
+  word = read-word bytes line p begins;
+  unread_ending = unread-ending line p;
+  ending = read-ending bytes r line p q is;
+  parts =
+      stands-around bytes n.HeadingAtx p (past_text line p) (unread_title (title_of line p)) refl (stands-title bytes r line p q is);
+  filled =
+      fill-around bytes n.HeadingAtx p (past_text line p) (unread_title (title_of line p)) (read_title bytes (title_of line p)) refl (fill-title bytes line p);
+  between = λ first last. heading-between bytes r line p q is first last;
+  parted = heading-sits bytes line p;
+  plain = λ h. heading-plain bytes line p h;
+  reads = λ o text leaf. heading-reads bytes r line p q o is begins text leaf;
+}
+  where
+    line : List ℕ
+    line = rest_line r
+
+    unread : List Event
+    unread = heading_leaf.unread line p
+
+    done : List Event
+    done = heading_leaf.done bytes line p
+
+    begins : is_heading (trim_start (rest_line r)) ≡ true
+    begins = line-begins options r starts
+
+-- All that the frame asks of headings.
 pub heading-laws : LeafLaws heading_leaf
-heading-laws = ?
+heading-laws = record {
+  took = trial-took;
+  refused = trial-refused;
+  shrinks = trial-shrinks;
+  fits = heading-fits;
+  adds_is = heading-adds;
+  no_content = heading-no_content;
+  set =
+      λ options r p es starts. heading-resolved (rest_line r) p (past_text (rest_line r) p) es (line-begins options r starts);
+  own = heading-own;
+  facts = heading-facts;
+  becomes = λ options bytes r p q starts is wants reads w rt.
+      becomes-around wants reads n.HeadingAtx p (past_text (rest_line r) p) (unread_title (title_of (rest_line r) p)) (read_title bytes (title_of (rest_line r) p))
+      (title-becomes bytes r (rest_line r) p q is wants reads w rt);
+}

@@ -1,4 +1,4 @@
--- What stands in a heading parts no text.
+-- A heading parts no text.
 use Rattle.std.proofs.Common.{◌≡◌, ℕ, ◌+◌, ◌-◌, Bool, true, false, cond, List, [], ◌∷◌, ◌++◌, length, take, drop, refl, ap, ◌∙◌, append_assoc, append-nil}
 use Rattle.std.specs.Prelude.{◌==◌, not, Option, Some, None}
 use Rattle.std.proofs.lemmas.Bool.{and_from}
@@ -10,38 +10,46 @@ use Rattle.md_leaves.specs.HeadingTitle.{Title, chunk_unless_empty, front_len, l
 use Rattle.md_seam.specs.declared.inline.Chunk.{Chunk}
 use Rattle.md_seam.specs.Events.Inline.{plain_chunk}
 use Rattle.md_seam.specs.Events.Nested.{exit}
-use Rattle.md_seam.specs.Events.Places.{past_byte}
+use Rattle.md_seam.specs.Events.Places.{past_byte, past_text}
 use Rattle.md_seam.specs.Events.Spelled.{byte_at}
 use Rattle.md_outline.specs.Outlined.{TextSpan as Span, are_parted, is_unparted}
+use Rattle.markdown_blocks.specs.Leaf.HeadingAtx.{heading_around, read_text, read_title}
 use Rattle.markdown_blocks.proofs.HeadingAtx.Places.{text_begin, text_end}
-use Rattle.markdown_blocks.proofs.PartedFacts.{Sits, from-none, passes-chunk, sits-append}
-use Rattle.markdown_blocks.specs.Leaf.HeadingAtx.{read_text, read_title}
+use Rattle.markdown_blocks.proofs.PartedFacts.{Sits, around-sits, from-none, passes-chunk, sits-append}
 
 -- which text is read in a run
-abbrev pub InRun : Run → Option Span → Type 0
+abbrev InRun : Run → Option Span → Type 0
 InRun Hashes s = is_unparted s ≡ true
 InRun Apart s = s ≡ None
 InRun White s = s ≡ None
 InRun TextRun s = s ≡ None
 
-pub closes-sit : (bytes : List ℕ) (run : Run) (p : Point) (s : Option Span) (ys : List Event) → InRun run s → are_parted bytes None ys ≡ true → are_parted bytes s (closes run p ++ ys) ≡ true
+-- at the end of a run its text has ended
+closes-sit : (bytes : List ℕ) (run : Run) (p : Point) (s : Option Span) (ys : List Event) → InRun run s →
+    are_parted bytes None ys ≡ true → are_parted bytes s (closes run p ++ ys) ≡ true
 closes-sit bytes Apart p s ys h k = from-none bytes s ys h k
 closes-sit bytes White p s ys h k = from-none bytes s (exit n.SpaceOrTab p ∷ ys) h k
 closes-sit bytes TextRun p s ys h k = from-none bytes s (exit n.Data p ∷ ys) h k
 closes-sit bytes Hashes p None ys h k = k
 closes-sit bytes Hashes p (Some span) ys h k = and_from (not span.is_parted) (are_parted bytes None ys) h k
 
-pub opens-sit : (bytes : List ℕ) (run : Run) (p : Point) (ys : List Event) → ((s : Option Span) → InRun run s → are_parted bytes s ys ≡ true) → are_parted bytes None (opens run p ++ ys) ≡ true
+-- at its begin one may begin
+opens-sit : (bytes : List ℕ) (run : Run) (p : Point) (ys : List Event) →
+    ((s : Option Span) → InRun run s → are_parted bytes s ys ≡ true) → are_parted bytes None (opens run p ++ ys) ≡ true
 opens-sit bytes Apart p ys f = f None refl
 opens-sit bytes White p ys f = f None refl
 opens-sit bytes TextRun p ys f = f None refl
 opens-sit bytes Hashes p ys f = f (Some (record { from = byte_at p; is_parted = false })) refl
 
-pub runs-sit : (bytes : List ℕ) (run : Run) (xs : List ℕ) (p : Point) (s : Option Span) (ys : List Event) → InRun run s → are_parted bytes None ys ≡ true → are_parted bytes s (line_runs run xs p ++ ys) ≡ true
+-- so none is left open behind runs
+runs-sit : (bytes : List ℕ) (run : Run) (xs : List ℕ) (p : Point) (s : Option Span) (ys : List Event) → InRun run s →
+    are_parted bytes None ys ≡ true → are_parted bytes s (line_runs run xs p ++ ys) ≡ true
 runs-sit bytes run [] p s ys h k = closes-sit bytes run p s ys h k
-runs-sit bytes run (b ∷ xs) p s ys h k = go (runs_on run b) (runs-sit bytes run xs (past_byte b p) s ys h k) (λ t i. runs-sit bytes (begun b) xs (past_byte b p) t ys i k)
+runs-sit bytes run (b ∷ xs) p s ys h k =
+    go (runs_on run b) (runs-sit bytes run xs (past_byte b p) s ys h k) (λ t i. runs-sit bytes (begun b) xs (past_byte b p) t ys i k)
   where
-    go : (more : Bool) → are_parted bytes s (line_runs run xs (past_byte b p) ++ ys) ≡ true → ((t : Option Span) → InRun (begun b) t → are_parted bytes t (line_runs (begun b) xs (past_byte b p) ++ ys) ≡ true) →
+    go : (more : Bool) → are_parted bytes s (line_runs run xs (past_byte b p) ++ ys) ≡ true →
+        ((t : Option Span) → InRun (begun b) t → are_parted bytes t (line_runs (begun b) xs (past_byte b p) ++ ys) ≡ true) →
         are_parted bytes s (cond more (line_runs run xs (past_byte b p)) ((closes run p ++ opens (begun b) p) ++ line_runs (begun b) xs (past_byte b p)) ++ ys) ≡ true
     go true same next = same
     go false same next =
@@ -49,7 +57,8 @@ runs-sit bytes run (b ∷ xs) p s ys h k = go (runs_on run b) (runs-sit bytes ru
         let apart : ((closes run p ++ opens (begun b) p) ++ rest) ++ ys ≡ closes run p ++ (opens (begun b) p ++ (rest ++ ys)) = simp append_assoc in
         ap (are_parted bytes s) apart ∙ closes-sit bytes run p s (opens (begun b) p ++ (rest ++ ys)) h (opens-sit bytes (begun b) p (rest ++ ys) next)
 
-pub text-sits : (bytes : List ℕ) (size : ℕ) (p q : Point) → Sits bytes (read_text bytes (chunk_unless_empty size p q))
+-- nor behind the text of a heading
+text-sits : (bytes : List ℕ) (size : ℕ) (p q : Point) → Sits bytes (read_text bytes (chunk_unless_empty size p q))
 text-sits bytes size p q = go (size == 0)
   where
     go : (none : Bool) → Sits bytes (read_text bytes (cond none None (Some (record { first = p; after = q }))))
@@ -61,10 +70,17 @@ text-sits bytes size p q = go (size == 0)
         let span : Option Span = Some (record { from = byte_at p; is_parted = false }) in
         ap (are_parted bytes span) apart ∙ passes-chunk bytes span chunk (exit n.HeadingAtxText q ∷ ys) ∙ h
 
-pub title-sits : (bytes line : List ℕ) (p : Point) → Sits bytes (read_title bytes (title_of line p))
+-- nor behind what stands in it
+title-sits : (bytes line : List ℕ) (p : Point) → Sits bytes (read_title bytes (title_of line p))
 title-sits bytes line p =
     let title : Title = title_of line p in
     let size : ℕ = length (text_of line) in
     sits-append bytes (title.front ++ read_text bytes title.text) title.back
     (sits-append bytes title.front (read_text bytes title.text) (λ ys h. runs-sit bytes Apart (take (front_len line) line) p None ys refl h) (text-sits bytes size (text_begin line p) (text_end line p)))
     (λ ys h. runs-sit bytes Apart (drop (front_len line + size) line) (text_end line p) None ys refl h)
+
+-- nor does the heading
+pub heading-sits : (bytes line : List ℕ) (p : Point) →
+    Sits bytes (heading_around line p (read_title bytes (title_of line p)))
+heading-sits bytes line p =
+    around-sits bytes n.HeadingAtx p (past_text line p) (read_title bytes (title_of line p)) tt (title-sits bytes line p)

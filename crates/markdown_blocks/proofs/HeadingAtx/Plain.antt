@@ -1,4 +1,4 @@
--- What stands in a heading may be outlined.
+-- A heading may be outlined.
 use Rattle.std.proofs.Common.{◌≡◌, ℕ, ◌+◌, Bool, true, false, cond, ◌==◌, List, [], ◌∷◌, ◌++◌, length, take, drop, refl}
 use Rattle.std.specs.Prelude.{Some, None}
 use Rattle.md_engine.specs.declared.event.Name.TheVariants as n
@@ -8,37 +8,43 @@ use Rattle.md_leaves.specs.HeadingTitle.{Title, chunk_unless_empty, front_len, l
 use Rattle.md_seam.specs.declared.inline.Chunk.{Chunk}
 use Rattle.md_seam.specs.Events.Inline.{plain_chunk}
 use Rattle.md_seam.specs.Events.Nested.{enter, exit}
-use Rattle.md_seam.specs.Events.Places.{past_byte}
+use Rattle.md_seam.specs.Events.Places.{past_byte, past_text}
+use Rattle.markdown_blocks.specs.Leaf.HeadingAtx.{heading_around, read_text, read_title}
 use Rattle.markdown_blocks.proofs.HeadingAtx.Places.{text_begin, text_end}
-use Rattle.markdown_blocks.proofs.PlainFacts.{ArePlain, chunk-plain, past-clear, plain-append, plain-around, plain-cons, plain-nil}
-use Rattle.markdown_blocks.specs.Leaf.HeadingAtx.{read_text, read_title}
 use Rattle.markdown_blocks.proofs.PartedFacts.{clear}
+use Rattle.markdown_blocks.proofs.PlainFacts.{ArePlain, chunk-plain, past-clear, plain-append, plain-around, plain-cons, plain-nil}
 
 -- the begin and the end of a run
-pub plain-closes : (bytes : List ℕ) (run : Run) (p : Point) → clear bytes p ≡ true → ArePlain bytes (closes run p)
+plain-closes : (bytes : List ℕ) (run : Run) (p : Point) → clear bytes p ≡ true → ArePlain bytes (closes run p)
 plain-closes bytes Apart p h = plain-nil bytes
 plain-closes bytes White p h = record { names = refl; texts = refl }
 plain-closes bytes Hashes p h = plain-cons bytes (exit n.HeadingAtxSequence p) [] refl h (plain-nil bytes)
 plain-closes bytes TextRun p h = record { names = refl; texts = refl }
 
-pub plain-opens : (bytes : List ℕ) (run : Run) (p : Point) → clear bytes p ≡ true → ArePlain bytes (opens run p)
+plain-opens : (bytes : List ℕ) (run : Run) (p : Point) → clear bytes p ≡ true → ArePlain bytes (opens run p)
 plain-opens bytes Apart p h = plain-nil bytes
 plain-opens bytes White p h = record { names = refl; texts = refl }
 plain-opens bytes Hashes p h = plain-cons bytes (enter n.HeadingAtxSequence p) [] refl h (plain-nil bytes)
 plain-opens bytes TextRun p h = record { names = refl; texts = refl }
 
-pub plain-runs : (bytes : List ℕ) (run : Run) (xs : List ℕ) (p : Point) → clear bytes p ≡ true → ArePlain bytes (line_runs run xs p)
+-- what is left of runs
+plain-runs : (bytes : List ℕ) (run : Run) (xs : List ℕ) (p : Point) → clear bytes p ≡ true →
+    ArePlain bytes (line_runs run xs p)
 plain-runs bytes run [] p h = plain-closes bytes run p h
-plain-runs bytes run (b ∷ xs) p h = go (goes_on run b) (plain-runs bytes run xs (past_byte b p) refl) (plain-runs bytes (begun b) xs (past_byte b p) refl)
+plain-runs bytes run (b ∷ xs) p h =
+    go (goes_on run b) (plain-runs bytes run xs (past_byte b p) refl) (plain-runs bytes (begun b) xs (past_byte b p) refl)
   where
-    go : (more : Bool) → ArePlain bytes (line_runs run xs (past_byte b p)) → ArePlain bytes (line_runs (begun b) xs (past_byte b p)) →
+    go : (more : Bool) → ArePlain bytes (line_runs run xs (past_byte b p)) →
+        ArePlain bytes (line_runs (begun b) xs (past_byte b p)) →
         ArePlain bytes (cond more (line_runs run xs (past_byte b p)) ((closes run p ++ opens (begun b) p) ++ line_runs (begun b) xs (past_byte b p)))
     go true same next = same
     go false same next =
         plain-append bytes (closes run p ++ opens (begun b) p) (line_runs (begun b) xs (past_byte b p))
         (plain-append bytes (closes run p) (opens (begun b) p) (plain-closes bytes run p h) (plain-opens bytes (begun b) p h)) next
 
-pub plain-text : (bytes : List ℕ) (size : ℕ) (p q : Point) → clear bytes p ≡ true → clear bytes q ≡ true → ArePlain bytes (read_text bytes (chunk_unless_empty size p q))
+-- the text of a heading
+plain-text : (bytes : List ℕ) (size : ℕ) (p q : Point) → clear bytes p ≡ true → clear bytes q ≡ true →
+    ArePlain bytes (read_text bytes (chunk_unless_empty size p q))
 plain-text bytes size p q hp hq = go (size == 0)
   where
     go : (none : Bool) → ArePlain bytes (read_text bytes (cond none None (Some (record { first = p; after = q }))))
@@ -47,7 +53,9 @@ plain-text bytes size p q hp hq = go (size == 0)
         let chunk : Chunk = record { first = p; after = q } in
         plain-around bytes n.HeadingAtxText p q (plain_chunk bytes chunk ++ []) refl hp hq (plain-append bytes (plain_chunk bytes chunk) [] (chunk-plain bytes chunk) (plain-nil bytes))
 
-pub plain-title : (bytes line : List ℕ) (p : Point) → clear bytes p ≡ true → ArePlain bytes (read_title bytes (title_of line p))
+-- what stands in it
+plain-title : (bytes line : List ℕ) (p : Point) → clear bytes p ≡ true →
+    ArePlain bytes (read_title bytes (title_of line p))
 plain-title bytes line p h =
     let title : Title = title_of line p in
     let size : ℕ = length (text_of line) in
@@ -56,3 +64,9 @@ plain-title bytes line p h =
     plain-append bytes (title.front ++ read_text bytes title.text) title.back
     (plain-append bytes title.front (read_text bytes title.text) (plain-runs bytes Apart (take (front_len line) line) p h) (plain-text bytes size (text_begin line p) (text_end line p) begin end))
     (plain-runs bytes Apart (drop (front_len line + size) line) (text_end line p) end)
+
+-- and so may the heading
+pub heading-plain : (bytes line : List ℕ) (p : Point) → clear bytes p ≡ true →
+    ArePlain bytes (heading_around line p (read_title bytes (title_of line p)))
+heading-plain bytes line p h =
+    plain-around bytes n.HeadingAtx p (past_text line p) (read_title bytes (title_of line p)) refl refl refl (plain-title bytes line p h)

@@ -1,11 +1,10 @@
 -- What the events of a heading are read as: its markers, and its text.
-use Rattle.std.proofs.Common.{◌≡◌, ℕ, zero, suc, ◌+◌, ◌≤◌, Bool, true, false, cond, ◌&&◌, List, [], ◌∷◌, ◌++◌, length, take, drop, reverse, slice_range, refl, ap, sym, ◌∙◌, subst, drop-drop, inl, inr, ◌⊎◌, ◌<◌, arith}
+use Rattle.std.proofs.Common.{◌≡◌, ℕ, zero, suc, ◌+◌, ◌≤◌, Bool, true, false, cond, ◌&&◌, List, [], ◌∷◌, ◌++◌, length, take, drop, reverse, slice_range, refl, ap, sym, ◌∙◌, subst, drop-drop, inl, inr, ◌⊎◌, ◌||◌, ◌<◌, arith}
 use Rattle.std.specs.Prelude.{◌==◌, nat_le, Option, Some, None, option_map}
 use Rattle.std.specs.List.{prefix_len}
-use Rattle.std.proofs.lemmas.Bool.{and_parts}
+use Rattle.std.proofs.lemmas.Bool.{and_parts, eqb-true}
 use Rattle.std.proofs.lemmas.Bool.Decides.{nat_tests}
 use Rattle.std.proofs.lemmas.List.Folds.{length-prefix_len}
-use Rattle.md_engine.specs.declared.configuration.ParseOptions.{ParseOptions}
 use Rattle.md_engine.specs.declared.event.Event.{Event}
 use Rattle.md_engine.specs.declared.event.Name.TheVariants as n
 use Rattle.md_engine.specs.declared.event.Point.{Point}
@@ -16,24 +15,25 @@ use Rattle.md_leaves.proofs.TitleLemmas.{title-fits}
 use Rattle.md_leaves.proofs.TitleRuns.{begun-hash, begun-white}
 use Rattle.md_seam.specs.declared.inline.Chunk.{Chunk}
 use Rattle.md_seam.specs.Events.Inline.{plain_chunks, together}
-use Rattle.md_seam.specs.Standard.Leaves.{heading_lines, heading_text, without_closing}
 use Rattle.md_seam.specs.Events.Nested.{around}
 use Rattle.md_seam.specs.Events.Places.{past_byte, past_text}
-use Rattle.md_seam.specs.Standard.Rest.{is_parted, is_white, run_len, trim, trim_end, trim_start}
 use Rattle.md_seam.specs.Events.Spelled.{AsHeading, AsMarkers, HeadingAtxLeaf, HeadingSoFar, OfHeadingAtx, OpenLeaf, Reading, Tells, Text, add_block, begun, byte_at, columns_left, first_told, fresh, noted, read, read_exit, text_to, told_at}
+use Rattle.md_seam.specs.Standard.Leaves.{heading_lines, heading_text, without_closing}
+use Rattle.md_seam.specs.Standard.Rest.{Rest, is_parted, is_white, run_len, trim, trim_end, trim_start}
 use Rattle.md_seam.specs.Standard.Texts.{split_lines, trim_each}
-use Rattle.md_seam.specs.Standard.Tree.{Heading}
+use Rattle.md_seam.specs.Standard.Tree.{Block, Heading}
 use Rattle.md_seam.proofs.BlocksLemmas.{read-leaf, read-told}
+use Rattle.md_seam.proofs.FeedLines.{past_text-whole, slice-inside}
 use Rattle.md_seam.proofs.InlineLemmas.{past-index}
 use Rattle.md_seam.proofs.SpelledLemmas.{Between, Quiet, QuietOrEnding, Roles, read-from, read-quiet, text-inline, text_after}
 use Rattle.md_seam.proofs.TextsLemmas.{NoEnding, split-line}
-use Rattle.markdown_blocks.specs.Rows.{Row}
-use Rattle.md_seam.proofs.FeedLines.{past_text-whole, slice-inside}
-use Rattle.markdown_blocks.proofs.LineKinds.{count-none, count-one}
+use Rattle.markdown_blocks.specs.Leaf.HeadingAtx.{heading_around, heading_block, read_text, read_title}
+use Rattle.markdown_blocks.proofs.HeadingAtx.Places.{IsTitle, title-is}
+use Rattle.markdown_blocks.proofs.LeafFacts.{LineAt}
+use Rattle.markdown_blocks.proofs.LineTexts.{count-none, count-one}
+use Rattle.markdown_blocks.proofs.PieceFacts.{CutsFirst}
 use Rattle.markdown_blocks.proofs.PlainRoles.{plain-roles}
-use Rattle.markdown_blocks.proofs.RowFacts.{IsRow}
-use Rattle.markdown_blocks.specs.Leaf.HeadingAtx.{heading_block, read_text, read_title}
-use Rattle.markdown_blocks.proofs.HeadingAtx.Texts.{IsTitle, title-is}
+use Rattle.markdown_blocks.proofs.RestFacts.{rest-trim}
 
 -- how many bytes a run of `#` has, and the whitespace behind it
 abbrev opening_by : ℕ → List ℕ → ℕ
@@ -42,11 +42,15 @@ opening_by depth bs = depth + prefix_len is_white (drop depth bs)
 abbrev opening_len : List ℕ → ℕ
 opening_len bs = opening_by (run_len 35 bs) bs
 
+-- with one byte more in front
 opening-more : (depth b : ℕ) (bs : List ℕ) → opening_by (suc depth) (b ∷ bs) ≡ suc (opening_by depth bs)
 opening-more depth b bs = omega arith
 
+-- it goes on behind `#`, and is whitespace from another byte on
 opening-hash : (b : ℕ) (bs : List ℕ) → (b == 35) ≡ true → opening_len (b ∷ bs) ≡ suc (opening_len bs)
-opening-hash b bs e = ap (λ (k : ℕ). opening_by k (b ∷ bs)) (count-one (λ (c : ℕ). c == 35) b bs e) ∙ opening-more (run_len 35 bs) b bs
+opening-hash b bs e =
+    ap (λ (k : ℕ). opening_by k (b ∷ bs)) (count-one (λ (c : ℕ). c == 35) b bs e)
+    ∙ opening-more (run_len 35 bs) b bs
 
 opening-other : (b : ℕ) (bs : List ℕ) → (b == 35) ≡ false → opening_len (b ∷ bs) ≡ prefix_len is_white (b ∷ bs)
 opening-other b bs e = ap (λ (k : ℕ). opening_by k (b ∷ bs)) (count-none (λ (c : ℕ). c == 35) b bs e) ∙ omega arith
@@ -55,6 +59,7 @@ opening-other b bs e = ap (λ (k : ℕ). opening_by k (b ∷ bs)) (count-none (�
 abbrev front_by : ℕ → List ℕ → ℕ
 front_by indent line = let depth = run_len 35 (drop indent line) in opening_by (indent + depth) line
 
+-- it goes on behind whitespace, and begins at another byte
 front-white : (b : ℕ) (bs : List ℕ) → is_white b ≡ true → front_len (b ∷ bs) ≡ suc (front_len bs)
 front-white b bs e =
     let indent = prefix_len is_white bs in
@@ -71,10 +76,14 @@ front-other b bs e =
 
 -- Runs.
 
-run-goes : (run : Run) (b : ℕ) (bs : List ℕ) (p : Point) → goes_on run b ≡ true → line_runs run (b ∷ bs) p ≡ line_runs run bs (past_byte b p)
-run-goes run b bs p e = ap (λ (t : Bool). cond t (line_runs run bs (past_byte b p)) (closes run p ++ opens (rule.begun b) p ++ line_runs (rule.begun b) bs (past_byte b p))) e
+-- a run goes on with a byte, or another one begins with it
+run-goes : (run : Run) (b : ℕ) (bs : List ℕ) (p : Point) → goes_on run b ≡ true →
+    line_runs run (b ∷ bs) p ≡ line_runs run bs (past_byte b p)
+run-goes run b bs p e =
+    ap (λ (t : Bool). cond t (line_runs run bs (past_byte b p)) (closes run p ++ opens (rule.begun b) p ++ line_runs (rule.begun b) bs (past_byte b p))) e
 
-run-turns : (run into : Run) (b : ℕ) (bs : List ℕ) (p : Point) → goes_on run b ≡ false → rule.begun b ≡ into → line_runs run (b ∷ bs) p ≡ closes run p ++ opens into p ++ line_runs into bs (past_byte b p)
+run-turns : (run into : Run) (b : ℕ) (bs : List ℕ) (p : Point) → goes_on run b ≡ false → rule.begun b ≡ into →
+    line_runs run (b ∷ bs) p ≡ closes run p ++ opens into p ++ line_runs into bs (past_byte b p)
 run-turns run into b bs p e f =
     ap (λ (t : Bool). cond t (line_runs run bs (past_byte b p)) (closes run p ++ opens (rule.begun b) p ++ line_runs (rule.begun b) bs (past_byte b p))) e
     ∙ ap (λ (x : Run). closes run p ++ opens x p ++ line_runs x bs (past_byte b p)) f
@@ -86,25 +95,33 @@ white-quiet : (bs : List ℕ) (p : Point) → Roles Quiet (line_runs White (take
 white-quiet [] p = (tt, tt)
 white-quiet (b ∷ bs) p = go (is_white b) refl (white-quiet bs (past_byte b p))
   where
-    go : (x : Bool) → is_white b ≡ x → Roles Quiet (line_runs White (take (prefix_len is_white bs) bs) (past_byte b p)) → Roles Quiet (line_runs White (take (prefix_len is_white (b ∷ bs)) (b ∷ bs)) p)
-    go true e more = subst (λ (k : ℕ). Roles Quiet (line_runs White (take k (b ∷ bs)) p)) (sym (count-one is_white b bs e)) (subst (Roles Quiet) (sym (run-goes White b (take (prefix_len is_white bs) bs) p e)) more)
-    go false e more = subst (λ (k : ℕ). Roles Quiet (line_runs White (take k (b ∷ bs)) p)) (sym (count-none is_white b bs e)) (tt, tt)
+    go : (x : Bool) → is_white b ≡ x →
+        Roles Quiet (line_runs White (take (prefix_len is_white bs) bs) (past_byte b p)) →
+        Roles Quiet (line_runs White (take (prefix_len is_white (b ∷ bs)) (b ∷ bs)) p)
+    go true e more =
+        subst (λ (k : ℕ). Roles Quiet (line_runs White (take k (b ∷ bs)) p)) (sym (count-one is_white b bs e)) (subst (Roles Quiet) (sym (run-goes White b (take (prefix_len is_white bs) bs) p e)) more)
+    go false e more =
+        subst (λ (k : ℕ). Roles Quiet (line_runs White (take k (b ∷ bs)) p)) (sym (count-none is_white b bs e)) (tt, tt)
 
 -- a heading is open, with these markers
 abbrev marked : Reading → List ℕ → Reading
 marked r markers = record r { text = None; leaf = Some (HeadingAtxLeaf (record { markers = markers; text = [] })) }
 
 -- the first run of markers ends
-read-markers : (bytes : List ℕ) (r : Reading) (first p : Point) → r.text ≡ Some (begun first) → r.leaf ≡ Some (fresh OfHeadingAtx) → read_exit bytes (Tells AsMarkers) p r ≡ marked r (slice_range bytes (byte_at first) p.index)
+read-markers : (bytes : List ℕ) (r : Reading) (first p : Point) → r.text ≡ Some (begun first) →
+    r.leaf ≡ Some (fresh OfHeadingAtx) →
+    read_exit bytes (Tells AsMarkers) p r ≡ marked r (slice_range bytes (byte_at first) p.index)
 read-markers bytes r first p t l =
     ap (λ (x : Option Text). told_at bytes AsMarkers p x r) t
     ∙ ap (λ (x : Option OpenLeaf). record r { text = None; leaf = option_map (noted AsMarkers (record { spaces = columns_left first; text = slice_range bytes (byte_at first) p.index })) x }) l
 
 -- from inside the run on
-read-opening : (bytes : List ℕ) (r : Reading) (first : Point) (bs : List ℕ) (p : Point) → r.text ≡ Some (begun first) → r.leaf ≡ Some (fresh OfHeadingAtx) →
+read-opening : (bytes : List ℕ) (r : Reading) (first : Point) (bs : List ℕ) (p : Point) → r.text ≡ Some (begun first) →
+    r.leaf ≡ Some (fresh OfHeadingAtx) →
     read bytes r (line_runs Hashes (take (opening_len bs) bs) p) ≡ marked r (slice_range bytes (byte_at first) (p.index + run_len 35 bs))
 read-opening bytes r first [] p t l = let end : p.index ≡ p.index + run_len 35 [] = omega arith in read-markers bytes r first p t l ∙ ap (λ (i : ℕ). marked r (slice_range bytes (byte_at first) i)) end
-read-opening bytes r first (b ∷ bs) p t l = go (b == 35) refl (is_white b) refl (read-opening bytes r first bs (past_byte b p) t l)
+read-opening bytes r first (b ∷ bs) p t l =
+    go (b == 35) refl (is_white b) refl (read-opening bytes r first bs (past_byte b p) t l)
   where
     by : ℕ → Reading
     by k = read bytes r (line_runs Hashes (take k (b ∷ bs)) p)
@@ -115,7 +132,9 @@ read-opening bytes r first (b ∷ bs) p t l = go (b == 35) refl (is_white b) ref
     none : (b == 35) ≡ false → p.index ≡ p.index + run_len 35 (b ∷ bs)
     none e = let size = count-none (λ (c : ℕ). c == 35) b bs e in omega (arith, size)
 
-    go : (x : Bool) → (b == 35) ≡ x → (y : Bool) → is_white b ≡ y → read bytes r (line_runs Hashes (take (opening_len bs) bs) (past_byte b p)) ≡ to (p.index + 1 + run_len 35 bs) → by (opening_len (b ∷ bs)) ≡ to (p.index + run_len 35 (b ∷ bs))
+    go : (x : Bool) → (b == 35) ≡ x → (y : Bool) → is_white b ≡ y →
+        read bytes r (line_runs Hashes (take (opening_len bs) bs) (past_byte b p)) ≡ to (p.index + 1 + run_len 35 bs) →
+        by (opening_len (b ∷ bs)) ≡ to (p.index + run_len 35 (b ∷ bs))
     go true e y f more =
         let size = count-one (λ (c : ℕ). c == 35) b bs e in
         let end : p.index + 1 + run_len 35 bs ≡ p.index + run_len 35 (b ∷ bs) = omega (arith, size) in
@@ -127,7 +146,10 @@ read-opening bytes r first (b ∷ bs) p t l = go (b == 35) refl (is_white b) ref
         ∙ read-quiet bytes (read_exit bytes (Tells AsMarkers) p r) (line_runs White left (past_byte b p)) (white-quiet bs (past_byte b p))
         ∙ read-markers bytes r first p t l
         ∙ ap to (none e)
-    go false e false f more = ap by (opening-other b bs e ∙ count-none is_white b bs f) ∙ read-markers bytes r first p t l ∙ ap to (none e)
+    go false e false f more =
+        ap by (opening-other b bs e ∙ count-none is_white b bs f)
+        ∙ read-markers bytes r first p t l
+        ∙ ap to (none e)
 
 -- before the first marker
 abbrev Gap : Run → Type 0
@@ -135,12 +157,15 @@ Gap Apart = Unit {0}
 Gap White = Unit {0}
 Gap _ = ⊥
 
-gap-white : (bytes : List ℕ) (r : Reading) (run : Run) (b : ℕ) (bs : List ℕ) (p : Point) → Gap run → is_white b ≡ true → read bytes r (line_runs run (b ∷ bs) p) ≡ read bytes r (line_runs White bs (past_byte b p))
+-- it goes on with whitespace, and ends at the first marker
+gap-white : (bytes : List ℕ) (r : Reading) (run : Run) (b : ℕ) (bs : List ℕ) (p : Point) → Gap run → is_white b ≡ true →
+    read bytes r (line_runs run (b ∷ bs) p) ≡ read bytes r (line_runs White bs (past_byte b p))
 gap-white bytes r Apart b bs p gap e = ap (read bytes r) (run-turns Apart White b bs p refl (begun-white b e))
 gap-white bytes r White b bs p gap e = ap (read bytes r) (run-goes White b bs p e)
 gap-white bytes r run b bs p gap e = absurd gap
 
-gap-hash : (bytes : List ℕ) (r : Reading) (run : Run) (b : ℕ) (bs : List ℕ) (p : Point) → Gap run → is_white b ≡ false → (b == 35) ≡ true →
+gap-hash : (bytes : List ℕ) (r : Reading) (run : Run) (b : ℕ) (bs : List ℕ) (p : Point) → Gap run → is_white b ≡ false →
+    (b == 35) ≡ true →
     read bytes r (line_runs run (b ∷ bs) p) ≡ read bytes (record r { text = Some (begun p) }) (line_runs Hashes bs (past_byte b p))
 gap-hash bytes r Apart b bs p gap e f = ap (read bytes r) (run-turns Apart Hashes b bs p refl (begun-hash b f))
 gap-hash bytes r White b bs p gap e f = ap (read bytes r) (run-turns White Hashes b bs p e (begun-hash b f))
@@ -159,7 +184,8 @@ abbrev behind_white : List ℕ → Point → Point
 behind_white line p = past_text (take (prefix_len is_white line) line) p
 
 -- the markers of a heading, and what stands around them
-read-front : (bytes : List ℕ) (r : Reading) (run : Run) (line : List ℕ) (p : Point) → Gap run → is_heading (trim_start line) ≡ true → r.leaf ≡ Some (fresh OfHeadingAtx) →
+read-front : (bytes : List ℕ) (r : Reading) (run : Run) (line : List ℕ) (p : Point) → Gap run →
+    is_heading (trim_start line) ≡ true → r.leaf ≡ Some (fresh OfHeadingAtx) →
     read bytes r (line_runs run (take (front_len line) line) p) ≡ marked r (slice_range bytes (byte_at (behind_white line p)) ((behind_white line p).index + run_len 35 (trim_start line)))
 read-front bytes r run [] p gap h l = cc
 read-front bytes r run (b ∷ bs) p gap h l = go (is_white b) refl (read-front bytes r White bs (past_byte b p) tt)
@@ -204,20 +230,24 @@ abbrev InRun : Run → Option Text → Type 0
 InRun Hashes text = (first : Point) × (text ≡ Some (begun first))
 InRun _ text = text ≡ None
 
+-- so it is behind the begin of a run
 in-run : (run : Run) (p : Point) → InRun run (text_in run p)
 in-run Hashes p = (p, refl)
 in-run Apart p = refl
 in-run White p = refl
 in-run rule.Text p = refl
 
-read-opens : (bytes : List ℕ) (r : Reading) (run : Run) (p : Point) → r.text ≡ None → read bytes r (opens run p) ≡ record r { text = text_in run p }
+-- a run begins
+read-opens : (bytes : List ℕ) (r : Reading) (run : Run) (p : Point) → r.text ≡ None →
+    read bytes r (opens run p) ≡ record r { text = text_in run p }
 read-opens bytes r Hashes p t = refl
 read-opens bytes r Apart p t = ap (λ (x : Option Text). record r { text = x }) t
 read-opens bytes r White p t = ap (λ (x : Option Text). record r { text = x }) t
 read-opens bytes r rule.Text p t = ap (λ (x : Option Text). record r { text = x }) t
 
 -- a run behind the first one of markers says nothing
-read-closes : (bytes : List ℕ) (r : Reading) (heading : HeadingSoFar) (m : ℕ) (ms : List ℕ) (run : Run) (p : Point) → r.leaf ≡ Some (HeadingAtxLeaf heading) → heading.markers ≡ m ∷ ms → InRun run r.text →
+read-closes : (bytes : List ℕ) (r : Reading) (heading : HeadingSoFar) (m : ℕ) (ms : List ℕ) (run : Run) (p : Point) →
+    r.leaf ≡ Some (HeadingAtxLeaf heading) → heading.markers ≡ m ∷ ms → InRun run r.text →
     read bytes r (closes run p) ≡ record r { text = None }
 read-closes bytes r heading m ms Hashes p l e t =
     let further : List ℕ = slice_range bytes (byte_at t.0) p.index in
@@ -231,7 +261,9 @@ read-closes bytes r heading m ms Apart p l e t = ap (λ (x : Option Text). recor
 read-closes bytes r heading m ms White p l e t = ap (λ (x : Option Text). record r { text = x }) t
 read-closes bytes r heading m ms rule.Text p l e t = ap (λ (x : Option Text). record r { text = x }) t
 
-read-runs : (bytes : List ℕ) (r : Reading) (heading : HeadingSoFar) (m : ℕ) (ms : List ℕ) (run : Run) (line : List ℕ) (p : Point) → r.leaf ≡ Some (HeadingAtxLeaf heading) → heading.markers ≡ m ∷ ms → InRun run r.text →
+-- so what is left of runs says nothing
+read-runs : (bytes : List ℕ) (r : Reading) (heading : HeadingSoFar) (m : ℕ) (ms : List ℕ) (run : Run) (line : List ℕ) (p : Point) →
+    r.leaf ≡ Some (HeadingAtxLeaf heading) → heading.markers ≡ m ∷ ms → InRun run r.text →
     read bytes r (line_runs run line p) ≡ record r { text = None }
 read-runs bytes r heading m ms run [] p l e t = read-closes bytes r heading m ms run p l e t
 read-runs bytes r heading m ms run (b ∷ bs) p l e t =
@@ -243,7 +275,8 @@ read-runs bytes r heading m ms run (b ∷ bs) p l e t =
     mid : Reading
     mid = record r { text = text_in into p }
 
-    go : (x : Bool) → goes_on run b ≡ x → read bytes r (line_runs run bs (past_byte b p)) ≡ record r { text = None } → read bytes mid (line_runs into bs (past_byte b p)) ≡ record r { text = None } →
+    go : (x : Bool) → goes_on run b ≡ x → read bytes r (line_runs run bs (past_byte b p)) ≡ record r { text = None } →
+        read bytes mid (line_runs into bs (past_byte b p)) ≡ record r { text = None } →
         read bytes r (line_runs run (b ∷ bs) p) ≡ record r { text = None }
     go true k same turned = ap (read bytes r) (run-goes run b bs p k) ∙ same
     go false k same turned =
@@ -258,13 +291,15 @@ read-runs bytes r heading m ms run (b ∷ bs) p l e t =
 abbrev Bare : List ℕ → Type 0
 Bare bytes = prefix_len is_white bytes ≡ 0
 
+-- none does where it was dropped, nor in what is taken of such bytes
 bare-trim : (bytes : List ℕ) → Bare (trim_start bytes)
 bare-trim [] = refl
 bare-trim (b ∷ bs) = go (is_white b) refl (bare-trim bs)
   where
     go : (x : Bool) → is_white b ≡ x → Bare (trim_start bs) → Bare (trim_start (b ∷ bs))
     go true e more = subst (λ (k : ℕ). Bare (drop k (b ∷ bs))) (sym (count-one is_white b bs e)) more
-    go false e more = subst (λ (k : ℕ). Bare (drop k (b ∷ bs))) (sym (count-none is_white b bs e)) (count-none is_white b bs e)
+    go false e more =
+        subst (λ (k : ℕ). Bare (drop k (b ∷ bs))) (sym (count-none is_white b bs e)) (count-none is_white b bs e)
 
 bare-take : (n : ℕ) (bytes : List ℕ) → Bare bytes → Bare (take n bytes)
 bare-take zero bytes h = refl
@@ -295,9 +330,12 @@ text-lines text none bare = ap trim_each (split-line text none) ∙ ap (λ (k : 
 
 -- a heading is open, with its markers and its text
 abbrev titled : Reading → List ℕ → List (List ℕ) → Reading
-titled r markers lines = record r { text = None; leaf = Some (HeadingAtxLeaf (record { markers = markers; text = lines })) }
+titled r markers lines =
+    record r { text = None; leaf = Some (HeadingAtxLeaf (record { markers = markers; text = lines })) }
 
-read-part : (bytes : List ℕ) (r : Reading) (markers : List ℕ) (begin end : Point) (text : List ℕ) → begin.vs ≡ 0 → slice_range bytes begin.index end.index ≡ text → NoEnding text → Bare text →
+-- the text of a heading is read as that line
+read-part : (bytes : List ℕ) (r : Reading) (markers : List ℕ) (begin end : Point) (text : List ℕ) → begin.vs ≡ 0 →
+    slice_range bytes begin.index end.index ≡ text → NoEnding text → Bare text →
     read bytes (marked r markers) (read_text bytes (chunk_unless_empty (length text) begin end)) ≡ titled r markers (heading_lines text)
 read-part bytes r markers begin end [] whole is none bare = refl
 read-part bytes r markers begin end (b ∷ bs) whole is none bare =
@@ -315,9 +353,11 @@ read-part bytes r markers begin end (b ∷ bs) whole is none bare =
 
 -- Headings.
 
+-- a heading has a marker
 heading-depth : (bytes : List ℕ) → is_heading bytes ≡ true → 1 ≤ run_len 35 bytes
 heading-depth bytes h = let some : nat_le 1 (run_len 35 bytes) ≡ true = (and_parts (nat_le 1 (run_len 35 bytes)) (nat_le (0 + run_len 35 bytes) 6 && is_parted (drop (run_len 35 bytes) bytes)) h).0 in grind (arith, nat_tests)
 
+-- what has a byte has a first one
 not-empty : (bytes : List ℕ) → 1 ≤ length bytes → (b : ℕ) × (bs : List ℕ) × (bytes ≡ b ∷ bs)
 not-empty [] h = absurd (omega (arith, h))
 not-empty (b ∷ bs) h = (b, bs, refl)
@@ -338,7 +378,9 @@ record IsAt (bytes line : List ℕ) (p : Point) (end : ℕ) : Type 0 where
 abbrev markers_of : List ℕ → List ℕ → Point → List ℕ
 markers_of bytes line p = let q = behind_white line p in slice_range bytes (byte_at q) (q.index + run_len 35 (trim_start line))
 
-markers-are : (bytes line : List ℕ) (p : Point) (end : ℕ) → IsAt bytes line p end → length (markers_of bytes line p) ≡ run_len 35 (trim_start line)
+-- they are as many as the run of `#`
+markers-are : (bytes line : List ℕ) (p : Point) (end : ℕ) → IsAt bytes line p end →
+    length (markers_of bytes line p) ≡ run_len 35 (trim_start line)
 markers-are bytes line p end is =
     let indent = prefix_len is_white line in
     let depth = run_len 35 (trim_start line) in
@@ -371,7 +413,14 @@ read-inside bytes line p end r is t =
     ∙ read-runs bytes (titled r markers lines) heading some.0 some.1 Apart (drop (first + size) line) to refl some.2 refl
     ∙ ap (λ (x : Option Text). record r { text = x; leaf = Some (HeadingAtxLeaf heading) }) (sym t)
 
-read-at : (bytes line : List ℕ) (p q : Point) (end : ℕ) (r : Reading) → IsAt bytes line p end → r.text ≡ None → r.leaf ≡ None → read bytes r (around n.HeadingAtx p q (read_title bytes (title_of line p))) ≡ add_block (heading_block line) r
+-- the heading of a text that begins with its markers
+abbrev heading_of : List ℕ → Block
+heading_of text = let depth = run_len 35 text in Heading depth (heading_lines (heading_text (drop depth text)))
+
+-- The heading is read as its block.
+read-at : (bytes line : List ℕ) (p q : Point) (end : ℕ) (r : Reading) → IsAt bytes line p end → r.text ≡ None →
+    r.leaf ≡ None →
+    read bytes r (around n.HeadingAtx p q (read_title bytes (title_of line p))) ≡ add_block (heading_of (trim_start line)) r
 read-at bytes line p q end r is t l =
     let indent = prefix_len is_white line in
     let depth = run_len 35 (trim_start line) in
@@ -381,7 +430,8 @@ read-at bytes line p q end r is t l =
     ∙ ap (λ (x : List ℕ). add_block (Heading depth (heading_lines (heading_text x))) r) (sym (drop-drop depth indent line))
 
 -- behind a byte no tab is cut
-taken-whole : (n : ℕ) (line : List ℕ) (p : Point) → (p.vs ≡ 0) ⊎ ((0 < n) × (0 < length line)) → (past_text (take n line) p).vs ≡ 0
+taken-whole : (n : ℕ) (line : List ℕ) (p : Point) → (p.vs ≡ 0) ⊎ ((0 < n) × (0 < length line)) →
+    (past_text (take n line) p).vs ≡ 0
 taken-whole n line p (inl whole) = past_text-whole (take n line) p whole
 taken-whole zero line p (inr some) = absurd (omega arith)
 taken-whole (suc n) [] p (inr some) = absurd (omega arith)
@@ -395,21 +445,37 @@ heading-some line h =
     let front : 1 ≤ front_len line = omega (arith, depth) in
     (omega arith, omega arith)
 
--- a line begins a byte, or with a tab
-pub data Begun (line : List ℕ) (p : Point) : Type 0 where
-  Whole : p.vs ≡ 0 → Begun line p
-  WithTab : (bytes : List ℕ) → line ≡ 9 ∷ bytes → Begun line p
+-- where the markers begin no tab is cut: one that is cut is whitespace in front
+markers-whole : (line : List ℕ) (p : Point) → CutsFirst p line → is_heading (trim_start line) ≡ true →
+    (behind_white line p).vs ≡ 0
+markers-whole [] p cut h = cc
+markers-whole (b ∷ bs) p cut h = go (p.vs == 0) refl (b == 9) refl cut
+  where
+    whole : (p.vs == 0) ≡ true → p.vs ≡ 0
+    whole e = eqb-true p.vs 0 e
 
-markers-whole : (line : List ℕ) (p : Point) → Begun line p → (behind_white line p).vs ≡ 0
-markers-whole line p (Whole whole) = past_text-whole (take (prefix_len is_white line) line) p whole
-markers-whole line p (WithTab bytes e) =
-    let size = count-one is_white 9 bytes refl in
-    ap (λ (l : List ℕ). (behind_white l p).vs) e
-    ∙ taken-whole (prefix_len is_white (9 ∷ bytes)) (9 ∷ bytes) p (inr (omega arith, omega arith))
+    tab : (b == 9) ≡ true → is_white b ≡ true
+    tab e = grind (arith, nat_tests)
+
+    go : (x : Bool) → (p.vs == 0) ≡ x → (y : Bool) → (b == 9) ≡ y → (x || y) ≡ true → (behind_white (b ∷ bs) p).vs ≡ 0
+    go true e y f k = past_text-whole (take (prefix_len is_white (b ∷ bs)) (b ∷ bs)) p (whole e)
+    go false e true f k = let size = count-one is_white b bs (tab f) in taken-whole (prefix_len is_white (b ∷ bs)) (b ∷ bs) p (inr (omega arith, omega arith))
+    go false e false f k = cc
 
 -- The events of a line that is a heading are read as its heading.
-pub read-heading : (options : ParseOptions) (bytes line : List ℕ) (row : Row) (r : Reading) → IsRow options bytes line row → Begun line row.first → is_heading (trim_start line) ≡ true → r.text ≡ None → r.leaf ≡ None →
-    read bytes r (around n.HeadingAtx row.first row.end (read_title bytes (row_title bytes row))) ≡ add_block (heading_block line) r
-read-heading options bytes line row r is begun_so h t l =
-    ap (λ (x : List ℕ). read bytes r (around n.HeadingAtx row.first row.end (read_title bytes (title_of x row.first)))) is.text
-    ∙ read-at bytes line row.first row.end row.end.index r (record { text = is.text; size = is.size; whole = markers-whole line row.first begun_so; text_whole = taken-whole (front_len line) line row.first (inr (heading-some line h)); no_ending = is.no_ending; heading = h; title = title-is options bytes line row is; fits = title-fits line }) t l
+pub heading-reads : (bytes : List ℕ) (r : Rest) (line : List ℕ) (p q : Point) (o : Reading) → LineAt bytes r line p q →
+    is_heading (trim_start line) ≡ true → o.text ≡ None → o.leaf ≡ None →
+    read bytes o (heading_around line p (read_title bytes (title_of line p))) ≡ add_block (heading_block r) o
+heading-reads bytes r line p q o is h t l =
+    read-at bytes line p (past_text line p) q.index o
+    (record {
+      text = is.text;
+      size = is.size;
+      whole = markers-whole line p is.cut_first h;
+      text_whole = taken-whole (front_len line) line p (inr (heading-some line h));
+      no_ending = is.no_ending;
+      heading = h;
+      title = title-is bytes r line p q is;
+      fits = title-fits line;
+    }) t l
+    ∙ ap (λ (text : List ℕ). add_block (heading_of text) o) (ap trim_start is.line_is ∙ rest-trim r)

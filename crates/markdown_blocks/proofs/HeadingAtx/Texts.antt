@@ -1,104 +1,218 @@
--- The text of a heading is one line, and is read as one.
-use Rattle.std.proofs.Common.{◌≡◌, ℕ, ◌+◌, ◌-◌, ◌<◌, Bool, true, false, cond, List, [], ◌∷◌, ◌++◌, length, take, drop, slice_range, refl, ap, sym, ◌∙◌, subst, arith}
-use Rattle.std.specs.Prelude.{◌==◌, Some, None}
-use Rattle.std.specs.List.{list_all}
+-- The text of a heading: the resolver sets it as one chunk, and what is read of it stands in its place.
+use Rattle.std.proofs.Common.{◌≡◌, ℕ, ◌+◌, Bool, true, false, cond, List, [], ◌∷◌, ◌++◌, length, drop, take, refl, arith, ◌&&◌, ◌==◌, ◌-◌, ◌<◌, sym, subst, ◌||◌, append_assoc, append-nil, ◌∙◌, ap}
+use Rattle.std.specs.Prelude.{◌==◌, IsTrue, Some, None}
+use Rattle.std.specs.List.{AllPass, list_all}
 use Rattle.std.proofs.lemmas.Bool.{and_from, eq-eqb}
 use Rattle.std.proofs.lemmas.Bool.Decides.{nat_tests}
-use Rattle.std.proofs.lemmas.List.{length-take-le, take-append-drop}
-use Rattle.md_engine.specs.declared.configuration.ParseOptions.{ParseOptions}
+use Rattle.std.proofs.lemmas.List.{length-take-le}
 use Rattle.md_engine.specs.declared.event.Content.{Content}
 use Rattle.md_engine.specs.declared.event.Content.TheVariants as content
+use Rattle.md_engine.specs.declared.event.Event.{Event}
 use Rattle.md_engine.specs.declared.event.Name.TheVariants as n
 use Rattle.md_engine.specs.declared.event.Point.{Point}
 use Rattle.md_leaves.specs.Heading.{heading_link}
-use Rattle.md_leaves.specs.HeadingText.{linked_text}
-use Rattle.md_leaves.specs.HeadingTitle.{Title, front_len, text_of, title_of, unread_title}
-use Rattle.md_leaves.proofs.TitleLemmas.{title-fits, title-text}
+use Rattle.md_leaves.specs.HeadingRule as heading
+use Rattle.md_leaves.specs.HeadingText.{Before, headings_resolved, linked_text, resolved}
+use Rattle.md_leaves.specs.HeadingTitle.{Title, chunk_unless_empty, front_len, line_runs, text_of, title_of, unread_title}
+use Rattle.md_leaves.proofs.TitleLemmas.{behind-marks, front-marks, is_mark, title-fits, title-resolved}
+use Rattle.md_leaves.proofs.TitleRuns.{pass-first, pass-rest}
 use Rattle.md_seam.specs.declared.inline.Chunk.{Chunk}
 use Rattle.md_seam.specs.declared.inline.PartKind.TheVariants.{Text}
-use Rattle.md_seam.specs.Events.Inline.{are_lines, is_one_line, plain_events}
-use Rattle.md_seam.specs.Events.Places.{past_text, same_place}
+use Rattle.md_seam.specs.Events.Inline.{in_order, plain_chunks, plain_events, together}
+use Rattle.md_seam.specs.Events.Nested.{around, enter, exit}
+use Rattle.md_seam.specs.Events.Places.{at_or_before, past_byte, past_text}
+use Rattle.md_seam.specs.Standard.Rest.{Rest, is_white, trim_start}
 use Rattle.md_seam.specs.Substituted.{Readings}
-use Rattle.md_seam.specs.Standard.Texts.{split_lines}
-use Rattle.md_seam.proofs.InlineLemmas.{past-index}
-use Rattle.md_seam.proofs.TextsLemmas.{NoEnding, no_ending-drop}
-use Rattle.markdown_blocks.specs.Rows.{Row}
-use Rattle.md_seam.proofs.FeedLines.{slice-inside}
-use Rattle.markdown_blocks.proofs.LineKinds.{no_ending-parts}
-use Rattle.markdown_blocks.proofs.RowFacts.{IsRow}
-use Rattle.markdown_blocks.proofs.SubstitutedLemmas.{Becomes, becomes-append, becomes-same, no_links-unwanted, part-becomes}
-use Rattle.markdown_blocks.proofs.HeadingAtx.Facts.{back-unlinked, front-unlinked}
-use Rattle.markdown_blocks.proofs.LeafFacts.{ReadsText}
+use Rattle.md_seam.proofs.InlineLemmas.{plain-fills, same-refl}
+use Rattle.md_seam.proofs.NestedLemmas.{at_or_before-refl}
 use Rattle.markdown_blocks.specs.Leaf.HeadingAtx.{read_text, read_title}
-use Rattle.markdown_blocks.proofs.GroupLemmas.{past-whole, one-last}
+use Rattle.markdown_blocks.specs.Unread.{linked}
+use Rattle.markdown_blocks.proofs.FillFacts.{Fill, fill-append, fill-part, fill-same, linked-filled}
+use Rattle.markdown_blocks.proofs.HeadingAtx.Places.{text-order, text_begin, text_end, title-lines}
+use Rattle.markdown_blocks.proofs.LeafFacts.{LineAt, ReadsText}
+use Rattle.markdown_blocks.proofs.LineTexts.{past-whole}
+use Rattle.markdown_blocks.proofs.PartFacts.{NoLinks, NoParts, no_parts-append}
+use Rattle.markdown_blocks.proofs.PartsStand.{Stands, inside-linked, stands-append, stands-outside, stands-part}
+use Rattle.markdown_blocks.proofs.SpanLemmas.{either}
+use Rattle.markdown_blocks.proofs.SubstitutedLemmas.{Becomes, becomes-append, becomes-same, no_links-unwanted, part-becomes}
 
--- where the text of a heading stands on its line, and in the text
-pub record IsTitle (bytes line : List ℕ) (p : Point) : Type 0 where
-  pub slice : slice_range bytes (past_text (take (front_len line) line) p).index (past_text (take (front_len line + length (text_of line)) line) p).index ≡ text_of line
-  pub no_ending : NoEnding (text_of line)
+-- It is set.
 
-pub title-is : (options : ParseOptions) (bytes line : List ℕ) (row : Row) → IsRow options bytes line row → IsTitle bytes line row.first
-title-is options bytes line row is =
-    let p : Point = row.first in
-    let first : ℕ = front_len line in
-    let text : List ℕ = text_of line in
-    let size : ℕ = length text in
-    let fits = title-fits line in
-    let from : (past_text (take first line) p).index ≡ p.index + first = past-index (take first line) p ∙ ap (λ (k : ℕ). p.index + k) (length-take-le first line (omega (arith, fits))) in
-    let to : (past_text (take (first + size) line) p).index ≡ p.index + (first + size) = past-index (take (first + size) line) p ∙ ap (λ (k : ℕ). p.index + k) (length-take-le (first + size) line fits) in
-    let sum : p.index + (first + size) ≡ p.index + first + size = omega arith in
-    let parts : drop first line ≡ text ++ drop size (drop first line) = sym (take-append-drop size (drop first line)) ∙ ap (λ (l : List ℕ). l ++ drop size (drop first line)) (title-text line) in
-    let behind : NoEnding (drop first line) = no_ending-drop first line is.no_ending in
-    record {
-      slice =
-          ap (λ (k : ℕ). slice_range bytes k (past_text (take (first + size) line) p).index) from
-          ∙ ap (slice_range bytes (p.index + first)) (to ∙ sum)
-          ∙ slice-inside bytes line p.index row.end.index first size is.text is.size fits
-          ∙ title-text line;
-      no_ending = (no_ending-parts text (drop size (drop first line)) (subst NoEnding parts behind)).0;
-    }
+-- the resolver sets the text of a heading, and goes on behind it
+pub heading-resolved : (line : List ℕ) (p q : Point) (es : List Event) → heading.is_heading (trim_start line) ≡ true →
+    headings_resolved (around n.HeadingAtx p q (line_runs heading.Apart line p) ++ es) ≡ around n.HeadingAtx p q (unread_title (title_of line p)) ++ headings_resolved es
+heading-resolved line p q es h =
+    let after = headings_resolved es in
+    ap (λ (rest : List Event). enter n.HeadingAtx p ∷ resolved Before rest) (append_assoc (line_runs heading.Apart line p) (exit n.HeadingAtx q ∷ []) es)
+    ∙ ap (λ (rest : List Event). enter n.HeadingAtx p ∷ rest) (title-resolved line p q es h ∙ sym (append_assoc (unread_title (title_of line p)) (exit n.HeadingAtx q ∷ []) after))
 
--- the text of a heading is a line
-pub title-lines : (options : ParseOptions) (bytes line : List ℕ) (row : Row) → IsRow options bytes line row → 0 < length (text_of line) →
-    are_lines bytes (past_text (take (front_len line + length (text_of line)) line) row.first)
-    (record { first = past_text (take (front_len line) line) row.first; after = past_text (take (front_len line + length (text_of line)) line) row.first } ∷ []) ≡ true
-title-lines options bytes line row is some =
-    let end : Point = past_text (take (front_len line + length (text_of line)) line) row.first in
-    let title : IsTitle bytes line row.first = title-is options bytes line row is in
-    and_from _ _
-    (ap (λ (l : List ℕ). is_one_line (split_lines l) (same_place end end)) title.slice
-    ∙ one-last (text_of line) some title.no_ending (same_place end end) (and_from _ _ (eq-eqb end.index end.index refl) (eq-eqb end.vs end.vs refl)))
-    refl
+-- Around it nothing is read later.
 
--- the text of a heading is read
-pub text-becomes : (options : ParseOptions) (bytes line : List ℕ) (row : Row) (wants : Content → Bool) (reads : Readings) → wants content.Text ≡ true → ReadsText bytes reads →
-    IsRow options bytes line row → Becomes wants reads (linked_text (title_of line row.first).text) (read_text bytes (title_of line row.first).text)
-text-becomes options bytes line row wants reads w rt is = go (length (text_of line) == 0) refl
+-- the end of a run has no link
+closes-unlinked : (run : heading.Run) (p : Point) (es : List Event) → NoLinks es → NoLinks (heading.closes run p ++ es)
+closes-unlinked heading.Apart p es h = h
+closes-unlinked heading.White p es h = (refl, h)
+closes-unlinked heading.Hashes p es h = (refl, h)
+closes-unlinked heading.Text p es h = (refl, h)
+
+-- nor has its begin, where it is no text
+opens-unlinked : (b : ℕ) (p : Point) (es : List Event) → is_mark b ≡ true → NoLinks es →
+    NoLinks (heading.opens (heading.begun b) p ++ es)
+opens-unlinked b p es mark h = go (is_white b) (b == 35) refl refl mark
+  where
+    go : (x y : Bool) → is_white b ≡ x → (b == 35) ≡ y → (x || y) ≡ true →
+        NoLinks (heading.opens (heading.begun b) p ++ es)
+    go true y e k mark = rw e (refl, h)
+    go false true e k mark = rw (e, k) (refl, h)
+    go false false e k mark = cc
+
+-- so it is in what is left of runs
+runs-unlinked : (run : heading.Run) (bytes : List ℕ) (p : Point) → AllPass is_mark bytes →
+    NoLinks (line_runs run bytes p)
+runs-unlinked run [] p h = subst NoLinks (append-nil (heading.closes run p)) (closes-unlinked run p [] tt)
+runs-unlinked run (b ∷ bs) p h =
+    go (heading.goes_on run b) refl (runs-unlinked run bs q (pass-rest is_mark b bs h)) (runs-unlinked (heading.begun b) bs q (pass-rest is_mark b bs h))
+  where
+    q : Point
+    q = past_byte b p
+
+    go : (x : Bool) → heading.goes_on run b ≡ x → NoLinks (line_runs run bs q) →
+        NoLinks (line_runs (heading.begun b) bs q) → NoLinks (line_runs run (b ∷ bs) p)
+    go true e same next = rw e same
+    go false e same next =
+        let rest = line_runs (heading.begun b) bs q in
+        rw e (subst NoLinks (sym (append_assoc (heading.closes run p) (heading.opens (heading.begun b) p) rest)) (closes-unlinked run p (heading.opens (heading.begun b) p ++ rest) (opens-unlinked b p rest (pass-first is_mark b bs h) next)))
+
+-- nothing around the text is read later
+front-unlinked : (line : List ℕ) (p : Point) → NoLinks (title_of line p).front
+front-unlinked line p = runs-unlinked heading.Apart (take (front_len line) line) p (front-marks line)
+
+back-unlinked : (line : List ℕ) (p : Point) → NoLinks (title_of line p).back
+back-unlinked line p =
+    let end = front_len line + length (text_of line) in
+    runs-unlinked heading.Apart (drop end line) (past_text (take end line) p) (behind-marks line)
+
+-- And no part stands there whose text is read.
+
+-- the begin of a run begins no such part, nor does its end
+opens-no_parts : (run : heading.Run) (p : Point) → NoParts (heading.opens run p)
+opens-no_parts heading.Apart p = tt
+opens-no_parts heading.White p = (refl, tt)
+opens-no_parts heading.Hashes p = (refl, tt)
+opens-no_parts heading.Text p = (refl, tt)
+
+closes-no_parts : (run : heading.Run) (p : Point) → NoParts (heading.closes run p)
+closes-no_parts heading.Apart p = tt
+closes-no_parts heading.White p = (refl, tt)
+closes-no_parts heading.Hashes p = (refl, tt)
+closes-no_parts heading.Text p = (refl, tt)
+
+-- so it is in what is left of runs
+runs-no_parts : (run : heading.Run) (xs : List ℕ) (p : Point) → NoParts (line_runs run xs p)
+runs-no_parts run [] p = closes-no_parts run p
+runs-no_parts run (b ∷ xs) p =
+    let rest : List Event = line_runs (heading.begun b) xs (past_byte b p) in
+    either NoParts (heading.goes_on run b) (line_runs run xs (past_byte b p)) ((heading.closes run p ++ heading.opens (heading.begun b) p) ++ rest) (runs-no_parts run xs (past_byte b p))
+    (no_parts-append (heading.closes run p ++ heading.opens (heading.begun b) p) rest
+    (no_parts-append (heading.closes run p) (heading.opens (heading.begun b) p) (closes-no_parts run p) (opens-no_parts (heading.begun b) p)) (runs-no_parts (heading.begun b) xs (past_byte b p)))
+
+-- The text is a chunk of one line.
+
+-- what stands in a heading
+pub stands-title : (bytes : List ℕ) (r : Rest) (line : List ℕ) (p q : Point) → LineAt bytes r line p q →
+    Stands bytes (unread_title (title_of line p))
+stands-title bytes r line p q is =
+    let title : Title = title_of line p in
+    stands-append bytes (title.front ++ linked_text title.text) title.back
+    (stands-append bytes title.front (linked_text title.text)
+    (stands-outside bytes title.front (runs-no_parts heading.Apart (take (front_len line) line) p) (front-unlinked line p)) (text (length (text_of line) == 0) refl))
+    (stands-outside bytes title.back (runs-no_parts heading.Apart (drop (front_len line + length (text_of line)) line) end) (back-unlinked line p))
   where
     begin : Point
-    begin = past_text (take (front_len line) line) row.first
+    begin = text_begin line p
 
     end : Point
-    end = past_text (take (front_len line + length (text_of line)) line) row.first
+    end = text_end line p
 
     chunk : Chunk
     chunk = record { first = begin; after = end }
 
-    whole : 0 < length (text_of line) → list_all (λ (chunk : Chunk). chunk.after.vs == 0) (chunk ∷ []) ≡ true
-    whole some = and_from (end.vs == 0) true (eq-eqb end.vs 0 (past-whole (take (front_len line + length (text_of line)) line) row.first (let size = length-take-le (front_len line + length (text_of line)) line (title-fits line) in omega arith))) refl
+    text : (x : Bool) → (length (text_of line) == 0) ≡ x → Stands bytes (linked_text (cond x None (Some chunk)))
+    text true e = stands-outside bytes [] tt tt
+    text false e =
+        stands-part bytes n.HeadingAtxText Text begin end (chunk ∷ []) (linked n.Data heading_link (chunk ∷ [])) refl (inside-linked bytes heading_link (chunk ∷ [])) (same-refl begin)
+        (title-lines bytes r line p q is (grind (arith, nat_tests)))
 
-    go : (x : Bool) → (length (text_of line) == 0) ≡ x → Becomes wants reads (linked_text (cond x None (Some chunk))) (read_text bytes (cond x None (Some chunk)))
+-- What is read stands in its place.
+
+-- the text of a heading, if there is one
+fill-text : (bytes : List ℕ) (size : ℕ) (p q : Point) → IsTrue (at_or_before p q) →
+    Fill bytes (linked_text (chunk_unless_empty size p q)) (read_text bytes (chunk_unless_empty size p q))
+fill-text bytes size p q h = go (size == 0)
+  where
+    chunk : Chunk
+    chunk = record { first = p; after = q }
+
+    order : in_order p (chunk ∷ []) ≡ true
+    order =
+        and_from (at_or_before p p && at_or_before p q) true (and_from (at_or_before p p) (at_or_before p q) (at_or_before-refl p) h) refl
+
+    go : (none : Bool) →
+        Fill bytes (linked_text (cond none None (Some chunk))) (read_text bytes (cond none None (Some chunk)))
+    go true = fill-same bytes [] tt tt
+    go false =
+        fill-part bytes n.HeadingAtxText Text p q (chunk ∷ []) (linked n.Data heading_link (chunk ∷ [])) (together (plain_chunks bytes (chunk ∷ []))) refl (inside-linked bytes heading_link (chunk ∷ [])) (plain-fills bytes p (chunk ∷ []) order)
+        (linked-filled bytes heading_link (chunk ∷ []))
+
+-- what stands in a heading
+pub fill-title : (bytes line : List ℕ) (p : Point) →
+    Fill bytes (unread_title (title_of line p)) (read_title bytes (title_of line p))
+fill-title bytes line p =
+    let title : Title = title_of line p in
+    fill-append bytes (title.front ++ linked_text title.text) (title.front ++ read_text bytes title.text) title.back title.back
+    (fill-append bytes title.front title.front (linked_text title.text) (read_text bytes title.text) (fill-same bytes title.front (front-unlinked line p) (runs-no_parts heading.Apart (take (front_len line) line) p))
+    (fill-text bytes (length (text_of line)) (text_begin line p) (text_end line p) (text-order line p)))
+    (fill-same bytes title.back (back-unlinked line p) (runs-no_parts heading.Apart (drop (front_len line + length (text_of line)) line) (text_end line p)))
+
+-- Whoever reads it as the plain layer does gives these events.
+
+-- the text of a heading, if there is one
+text-becomes : (bytes : List ℕ) (r : Rest) (line : List ℕ) (p q : Point) → LineAt bytes r line p q →
+    (wants : Content → Bool) (reads : Readings) → wants content.Text ≡ true → ReadsText bytes reads →
+    Becomes wants reads (linked_text (title_of line p).text) (read_text bytes (title_of line p).text)
+text-becomes bytes r line p q is wants reads w rt = go (length (text_of line) == 0) refl
+  where
+    begin : Point
+    begin = text_begin line p
+
+    end : Point
+    end = text_end line p
+
+    chunk : Chunk
+    chunk = record { first = begin; after = end }
+
+    size : length (take (front_len line + length (text_of line)) line) ≡ front_len line + length (text_of line)
+    size = length-take-le (front_len line + length (text_of line)) line (title-fits line)
+
+    whole : 0 < length (text_of line) → list_all (λ (chunk : Chunk). chunk.after.vs == 0) (chunk ∷ []) ≡ true
+    whole some =
+        and_from (end.vs == 0) true (eq-eqb end.vs 0 (past-whole (take (front_len line + length (text_of line)) line) p (omega (arith, size, some)))) refl
+
+    go : (x : Bool) → (length (text_of line) == 0) ≡ x →
+        Becomes wants reads (linked_text (cond x None (Some chunk))) (read_text bytes (cond x None (Some chunk)))
     go true e = becomes-same wants reads [] tt
     go false e =
         let some : 0 < length (text_of line) = grind (arith, nat_tests) in
         part-becomes wants reads n.HeadingAtxText n.Data heading_link begin end chunk (plain_events bytes (record { kind = Text; chunks = chunk ∷ [] })) w refl
-        (λ answer r. rt (chunk ∷ []) answer r end (title-lines options bytes line row is some) (whole some))
+        (λ answer h. rt (chunk ∷ []) answer h end (title-lines bytes r line p q is some) (whole some))
 
-pub title-becomes : (options : ParseOptions) (bytes line : List ℕ) (row : Row) (wants : Content → Bool) (reads : Readings) → wants content.Text ≡ true → ReadsText bytes reads →
-    IsRow options bytes line row → Becomes wants reads (unread_title (title_of line row.first)) (read_title bytes (title_of line row.first))
-title-becomes options bytes line row wants reads w rt is =
-    let title : Title = title_of line row.first in
+-- what stands in a heading
+pub title-becomes : (bytes : List ℕ) (r : Rest) (line : List ℕ) (p q : Point) → LineAt bytes r line p q →
+    (wants : Content → Bool) (reads : Readings) → wants content.Text ≡ true → ReadsText bytes reads →
+    Becomes wants reads (unread_title (title_of line p)) (read_title bytes (title_of line p))
+title-becomes bytes r line p q is wants reads w rt =
+    let title : Title = title_of line p in
     becomes-append wants reads (title.front ++ linked_text title.text) (title.front ++ read_text bytes title.text) title.back title.back
-    (becomes-append wants reads title.front title.front (linked_text title.text) (read_text bytes title.text) (becomes-same wants reads title.front (no_links-unwanted wants title.front (front-unlinked line row.first)))
-    (text-becomes options bytes line row wants reads w rt is))
-    (becomes-same wants reads title.back (no_links-unwanted wants title.back (back-unlinked line row.first)))
+    (becomes-append wants reads title.front title.front (linked_text title.text) (read_text bytes title.text) (becomes-same wants reads title.front (no_links-unwanted wants title.front (front-unlinked line p)))
+    (text-becomes bytes r line p q is wants reads w rt))
+    (becomes-same wants reads title.back (no_links-unwanted wants title.back (back-unlinked line p)))

@@ -1,31 +1,64 @@
--- A line is a rule by its cells if it is by its bytes.
-use Rattle.std.proofs.Common.{◌≡◌, ℕ, zero, suc, ◌+◌, Bool, true, false, cond, ◌&&◌, ◌||◌, List, [], ◌∷◌, ◌++◌, refl, sym, ap, ◌∙◌, subst, arith}
+-- Which lines are breaks: by their cells those that are by their bytes.
+use Rattle.std.proofs.Common.{◌≡◌, ℕ, zero, suc, ◌+◌, Bool, true, false, cond, ◌&&◌, ◌||◌, List, [], ◌∷◌, ◌++◌, length, drop, ◌<◌, ◌^◌, refl, sym, ap, ◌∙◌, subst, arith}
 use Rattle.std.specs.Prelude.{◌==◌, nat_le, count_by}
-use Rattle.std.specs.List.{list_all}
-use Rattle.std.proofs.lemmas.Bool.{eqb-true}
+use Rattle.std.specs.List.{list_all, prefix_len}
+use Rattle.std.proofs.lemmas.Bool.{and_parts, eq-eqb, eqb-true}
 use Rattle.std.proofs.lemmas.Bool.Decides.{nat_tests}
 use Rattle.md_engine.specs.declared.event.Point.{Point}
 use Rattle.md_engine.specs.declared.tokenizer.Line.{Line}
 use Rattle.md_engine.specs.Meaning.{Cell}
 use Rattle.md_seam.specs.Standard.Leaves.{is_rule, is_rule_marker}
 use Rattle.md_seam.specs.Events.Places.{past_byte}
-use Rattle.md_seam.specs.Standard.Rest.{is_white}
-use Rattle.md_seam.proofs.FeedLines.{all-spread, bytes_of, cell, columns_more, count-spread, spread, tab_cells}
+use Rattle.md_seam.specs.Standard.Rest.{Rest, has_small_indent, is_white, trim_start}
+use Rattle.md_seam.proofs.FeedLines.{Stops, all-spread, bytes_of, cell, columns_more, count-spread, spread, tab_cells}
+use Rattle.md_seam.proofs.AheadLemmas.{white-no_ending}
+use Rattle.md_seam.proofs.RestCells.{RestAt, rest_cells}
+use Rattle.md_seam.proofs.TextsLemmas.{NoEnding}
+use Rattle.md_seam.specs.Ahead.{begins_white, line_bytes, white_end, white_rest}
+use Rattle.md_seam.specs.Spaces.{small_indent}
+use Rattle.md_engine.specs.declared.configuration.ParseOptions.{ParseOptions}
+use Rattle.markdown_blocks.specs.Leaf.ThematicBreak.{break_leaf, first_byte, is_break}
+use Rattle.markdown_blocks.proofs.RestFacts.{large-white, small-indented}
 
-pub or_true : (x y : Bool) → (x || true) ≡ (y || true)
+-- The marker.
+
+-- it is no whitespace
+pub marker-black : (m : ℕ) → is_rule_marker m ≡ true → is_white m ≡ false
+marker-black m e = grind (arith, nat_tests)
+
+-- a rule begins with it
+pub rule-first : (bytes : List ℕ) → is_rule bytes ≡ true → is_rule_marker (first_byte bytes) ≡ true
+rule-first [] e = cc
+rule-first (m ∷ bytes) e =
+    let both = (and_parts (is_rule_marker m && list_all (λ b. (b == m) || is_white b) bytes) (nat_le 2 (count_by (λ b. b == m) bytes)) e).0 in
+    (and_parts (is_rule_marker m) (list_all (λ b. (b == m) || is_white b) bytes) both).0
+
+-- in front of it stands whitespace
+pub first-behind : (b : ℕ) (bs : List ℕ) (m : ℕ) → first_byte (trim_start (b ∷ bs)) ≡ m → (b == m) ≡ false → first_byte (trim_start bs) ≡ m
+first-behind b bs m first other = go (is_white b) first
+  where
+    go : (x : Bool) → first_byte (drop (cond x (1 + prefix_len is_white bs) 0) (b ∷ bs)) ≡ m → first_byte (trim_start bs) ≡ m
+    go true first =
+        let next : 1 + prefix_len is_white bs ≡ suc (prefix_len is_white bs) = omega arith in
+        ap (λ (i : ℕ). first_byte (drop i (b ∷ bs))) (sym next) ∙ first
+    go false first = let same : (b == m) ≡ true = eq-eqb b m first in absurd (cc)
+
+-- A rule.
+
+or_true : (x y : Bool) → (x || true) ≡ (y || true)
 or_true true true = refl
 or_true true false = refl
 or_true false true = refl
 or_true false false = refl
 
-pub marker-apart : (b : ℕ) → is_rule_marker b ≡ true → (32 == b) ≡ false
+marker-apart : (b : ℕ) → is_rule_marker b ≡ true → (32 == b) ≡ false
 marker-apart b e = grind (arith, nat_tests)
 
-pub rule-tab : (line : Line) (n : ℕ) (p : Point) (cs : List Cell) → is_rule (bytes_of (tab_cells line n 9 p ++ cs)) ≡ false
+rule-tab : (line : Line) (n : ℕ) (p : Point) (cs : List Cell) → is_rule (bytes_of (tab_cells line n 9 p ++ cs)) ≡ false
 rule-tab line zero p cs = refl
 rule-tab line (suc n) p cs = refl
 
-pub rule-none : (b : ℕ) (bs : List ℕ) → is_rule_marker b ≡ false → is_rule (b ∷ bs) ≡ false
+rule-none : (b : ℕ) (bs : List ℕ) → is_rule_marker b ≡ false → is_rule (b ∷ bs) ≡ false
 rule-none b bs e = rw e refl
 
 -- a line is a rule by its cells if it is by its bytes
@@ -45,3 +78,39 @@ rule-spread line (b ∷ bs) p = go (b == 9) refl (is_rule_marker b) refl
         ap (λ (t : Bool). is_rule (bytes_of (cond t (tab_cells line (columns_more p) 9 p) (cell b (past_byte b p) line ∷ []) ++ spread line bs (past_byte b p)))) e
         ∙ ap (λ (t : Bool). is_rule_marker b && t && nat_le 2 (count_by (λ c. c == b) (bytes_of (spread line bs (past_byte b p))))) (all-spread (λ c. (c == b) || is_white c) (or_true (32 == b) (9 == b)) line bs (past_byte b p))
         ∙ ap (λ (n : ℕ). is_rule_marker b && list_all (λ c. (c == b) || is_white c) bs && nat_le 2 n) (count-spread (λ c. c == b) (marker-apart b k) line bs (past_byte b p))
+
+-- Whether a break stands on a line.
+
+-- whitespace is no rule
+white-no_rule : (cells : List Cell) → begins_white cells ≡ true → is_rule (line_bytes cells) ≡ false
+white-no_rule [] e = cc
+white-no_rule (c ∷ cs) e = rw (white-no_ending c.byte e) (rule-none c.byte (line_bytes cs) (unmarked c.byte e))
+  where
+    unmarked : (b : ℕ) → is_white b ≡ true → is_rule_marker b ≡ false
+    unmarked b e = grind (arith, nat_tests)
+
+-- it does by its cells if it does by its rest
+pub break-fits : (options : ParseOptions) (said : Line) (text behind : List ℕ) (r : Rest) (p : Point) (stop : List Cell) → RestAt text behind r p → NoEnding r.bytes → Stops stop → length (rest_cells said r p ++ stop) < 2 ^ 63 →
+    is_break options (rest_cells said r p ++ stop) ≡ break_leaf.starts options r
+break-fits options said text behind r p stop is h k short = go (has_small_indent options r) refl
+  where
+    left : List Cell
+    left = white_rest (small_indent options) (rest_cells said r p ++ stop)
+
+    By : Bool → Type 0
+    By small = is_break options (rest_cells said r p ++ stop) ≡ (options.constructs.thematic_break && small && is_rule (trim_start r.bytes))
+
+    with-small : (on x y : Bool) → x ≡ y → (on && x) ≡ (on && true && y)
+    with-small true x y e = e
+    with-small false x y e = refl
+
+    with-large : (on x y : Bool) → x ≡ false → (on && x) ≡ (on && false && y)
+    with-large true x y e = e
+    with-large false x y e = refl
+
+    go : (small : Bool) → has_small_indent options r ≡ small → By (has_small_indent options r)
+    go true e =
+        let q : Point = white_end (small_indent options) (rest_cells said r p ++ stop) p in
+        let same : is_rule (line_bytes left) ≡ is_rule (trim_start r.bytes) = ap is_rule (small-indented options said text behind r p stop is h k short e).bytes ∙ rule-spread said (trim_start r.bytes) q in
+        subst By (sym e) (with-small options.constructs.thematic_break (is_rule (line_bytes left)) (is_rule (trim_start r.bytes)) same)
+    go false e = subst By (sym e) (with-large options.constructs.thematic_break (is_rule (line_bytes left)) (is_rule (trim_start r.bytes)) (white-no_rule left (large-white options said text behind r p stop is e)))

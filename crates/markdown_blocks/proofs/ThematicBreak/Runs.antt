@@ -1,54 +1,61 @@
--- The runs of a thematic break, by the cells of its line and by its bytes, stand over their bytes.
-use Rattle.std.proofs.Common.{◌≡◌, ℕ, zero, suc, ◌<◌, ◌≤◌, Bool, true, false, cond, ◌&&◌, ◌||◌, List, [], ◌∷◌, ◌++◌, length, drop, refl, ap, ap₂, sym, ◌∙◌, subst, append_assoc, arith, ◌^◌}
-use Rattle.std.specs.Prelude.{◌==◌, nat_le, count_by}
-use Rattle.std.specs.List.{list_all, prefix_len}
-use Rattle.std.proofs.lemmas.Bool.{and_from, and_parts, eq-eqb, eqb-true, or_left, or_right}
+-- The events of a thematic break by the cells of its line are those by its bytes.
+use Rattle.std.proofs.Common.{◌≡◌, ℕ, zero, suc, ◌<◌, ◌≤◌, ◌^◌, Bool, true, false, cond, ◌&&◌, List, [], ◌∷◌, ◌++◌, length, refl, ap, ap₂, sym, ◌∙◌, subst, arith}
+use Rattle.std.specs.Prelude.{◌==◌}
+use Rattle.std.proofs.lemmas.Bool.{and_parts, eq-eqb, eqb-true}
 use Rattle.std.proofs.lemmas.Bool.Decides.{nat_tests}
+use Rattle.md_engine.specs.declared.configuration.ParseOptions.{ParseOptions}
+use Rattle.md_engine.specs.declared.event.Content.{Content}
 use Rattle.md_engine.specs.declared.event.Event.{Event}
 use Rattle.md_engine.specs.declared.event.Name.TheVariants as n
 use Rattle.md_engine.specs.declared.event.Point.{Point}
 use Rattle.md_engine.specs.declared.tokenizer.Line.{Line}
 use Rattle.md_engine.specs.Meaning.{Cell}
-use Rattle.md_leaves.specs.BreakRule.{Apart, Marks, Run, White, runs}
-use Rattle.md_seam.specs.Events.Inline.{pieces}
+use Rattle.md_leaves.specs.BreakRule as break
+use Rattle.md_seam.specs.Ahead.{begins_white, line_bytes, line_cells, line_end, white_end, white_rest}
+use Rattle.md_seam.specs.Spaces.{small_indent}
 use Rattle.md_seam.specs.Standard.Leaves.{is_rule, is_rule_marker}
-use Rattle.md_seam.specs.Events.Nested.{enter, exit, pair}
-use Rattle.md_seam.specs.Events.Pieces.{is_run, pieces_stand, stands_over}
-use Rattle.md_seam.specs.Events.Places.{past_byte, past_text}
-use Rattle.md_seam.specs.Standard.Rest.{is_white, trim_start}
-use Rattle.md_seam.proofs.FeedLines.{byte-one, byte_cells, cell, columns_more, drop-past, next_column, spread, tab_cells, tab_end, tab_end-last, tab_end-next, tab_end-stop, Stops}
-use Rattle.md_seam.proofs.InlineLemmas.{past-index}
-use Rattle.markdown_blocks.proofs.PieceFacts.{CutsFirst}
-use Rattle.markdown_blocks.specs.Leaf.ThematicBreak.{first_cell, break_inside}
-use Rattle.md_engine.specs.declared.configuration.ParseOptions.{ParseOptions}
-use Rattle.markdown_blocks.specs.Rows.{line_kind}
-use Rattle.markdown_blocks.proofs.PieceRuns.{runs-stand, IsMarker, mark_runs, AreMarks}
+use Rattle.md_seam.specs.Standard.Rest.{Rest, has_small_indent, is_white, trim_start}
+use Rattle.md_seam.specs.Events.Nested.{around, enter, exit, pair}
+use Rattle.md_seam.specs.Events.Places.{past_byte}
+use Rattle.md_seam.proofs.AheadLemmas.{small-some, white-no_ending}
+use Rattle.md_seam.proofs.FeedLines.{Stops, byte-one, byte_cells, bytes_of, cell, columns_more, next_column, spread, tab_cells, tab_end, tab_end-last, tab_end-next, tab_end-stop}
+use Rattle.md_seam.proofs.RestCells.{Cut, RestAt, rest_cells}
 use Rattle.md_seam.proofs.TextsLemmas.{NoEnding}
-use Rattle.markdown_blocks.proofs.LineKinds.{white_front}
-use Rattle.md_seam.specs.Ahead.{begins_white, line_cells}
-use Rattle.std.proofs.lemmas.List.{take-append-drop}
+use Rattle.markdown_blocks.specs.Fronted.{rest_line}
+use Rattle.markdown_blocks.specs.Leaf.ThematicBreak.{break_inside, break_leaf, first_byte, first_cell}
+use Rattle.markdown_blocks.specs.MarkRuns.{Apart, Marks, Run, White, mark_runs}
+use Rattle.markdown_blocks.proofs.ContentFacts.{NoContent, no_content-append}
+use Rattle.markdown_blocks.proofs.SpanLemmas.{either}
+use Rattle.markdown_blocks.proofs.RestFacts.{rest-line_end, rest-no_ending, rest-same, rest-trim, small-indented, spread-line}
+use Rattle.markdown_blocks.proofs.ThematicBreak.Kinds.{marker-black, rule-first, rule-spread}
 
 -- a tab lies in whitespace as a whole
-pub tab-white : (line : Line) (m k byte : ℕ) (p q : Point) (ys : List Cell) → (byte == m) ≡ false → (32 == m) ≡ false → runs White m (tab_cells line k byte p ++ ys) q ≡ runs White m ys (tab_end k p)
-tab-white line m zero byte p q ys e f = rw e (ap (runs White m ys) (tab_end-last p))
-tab-white line m (suc k) byte p q ys e f = rw e (tab-white line m k 32 (next_column p) (next_column p) ys f f ∙ ap (runs White m ys) (tab_end-next k p))
+tab-white : (line : Line) (m k byte : ℕ) (p q : Point) (ys : List Cell) → (byte == m) ≡ false → (32 == m) ≡ false → break.runs break.White m (tab_cells line k byte p ++ ys) q ≡ break.runs break.White m ys (tab_end k p)
+tab-white line m zero byte p q ys e f = rw e (ap (break.runs break.White m ys) (tab_end-last p))
+tab-white line m (suc k) byte p q ys e f = rw e (tab-white line m k 32 (next_column p) (next_column p) ys f f ∙ ap (break.runs break.White m ys) (tab_end-next k p))
 
 -- behind another run it begins whitespace
-pub tab-apart : (line : Line) (m k : ℕ) (p : Point) (ys : List Cell) → (9 == m) ≡ false → runs Apart m (tab_cells line k 9 p ++ ys) p ≡ enter n.SpaceOrTab p ∷ runs White m (tab_cells line k 9 p ++ ys) p
+tab-apart : (line : Line) (m k : ℕ) (p : Point) (ys : List Cell) → (9 == m) ≡ false → break.runs break.Apart m (tab_cells line k 9 p ++ ys) p ≡ enter n.SpaceOrTab p ∷ break.runs break.White m (tab_cells line k 9 p ++ ys) p
 tab-apart line m zero p ys e = rw e refl
 tab-apart line m (suc k) p ys e = rw e refl
 
 -- behind a run of markers
-pub tab-marks : (line : Line) (m k : ℕ) (p : Point) (ys : List Cell) → (9 == m) ≡ false → runs Marks m (tab_cells line k 9 p ++ ys) p ≡ exit n.ThematicBreakSequence p ∷ enter n.SpaceOrTab p ∷ runs White m (tab_cells line k 9 p ++ ys) p
+tab-marks : (line : Line) (m k : ℕ) (p : Point) (ys : List Cell) → (9 == m) ≡ false → break.runs break.Marks m (tab_cells line k 9 p ++ ys) p ≡ exit n.ThematicBreakSequence p ∷ enter n.SpaceOrTab p ∷ break.runs break.White m (tab_cells line k 9 p ++ ys) p
 tab-marks line m zero p ys e = rw e refl
 tab-marks line m (suc k) p ys e = rw e refl
 
+-- a run of cells as one of bytes
+abbrev cell_run : Run → break.Run
+cell_run Apart = break.Apart
+cell_run Marks = break.Marks
+cell_run White = break.White
+
 -- the runs of cells are those of bytes
-abbrev pub Same : Run → ℕ → List Cell → List ℕ → Point → Type 0
-Same run m ys bs p = runs run m ys p ≡ mark_runs n.ThematicBreakSequence run m bs p
+abbrev Same : Run → ℕ → List Cell → List ℕ → Point → Type 0
+Same run m ys bs p = break.runs (cell_run run) m ys p ≡ mark_runs n.ThematicBreakSequence run m bs p
 
 -- those of a tab
-pub tab-same : (run : Run) (line : Line) (m : ℕ) (p : Point) (ys : List Cell) (bs : List ℕ) → is_white m ≡ false → 1 ≤ p.column → Same White m ys bs (past_byte 9 p) → Same run m (tab_cells line (columns_more p) 9 p ++ ys) (9 ∷ bs) p
+tab-same : (run : Run) (line : Line) (m : ℕ) (p : Point) (ys : List Cell) (bs : List ℕ) → is_white m ≡ false → 1 ≤ p.column → Same White m ys bs (past_byte 9 p) → Same run m (tab_cells line (columns_more p) 9 p ++ ys) (9 ∷ bs) p
 tab-same run line m p ys bs black one more = go run
   where
     tab : (9 == m) ≡ false
@@ -57,8 +64,8 @@ tab-same run line m p ys bs black one more = go run
     space : (32 == m) ≡ false
     space = grind (arith, nat_tests, black)
 
-    white : runs White m (tab_cells line (columns_more p) 9 p ++ ys) p ≡ mark_runs n.ThematicBreakSequence White m bs (past_byte 9 p)
-    white = tab-white line m (columns_more p) 9 p p ys tab space ∙ ap (runs White m ys) (tab_end-stop p one) ∙ more
+    white : break.runs break.White m (tab_cells line (columns_more p) 9 p ++ ys) p ≡ mark_runs n.ThematicBreakSequence White m bs (past_byte 9 p)
+    white = tab-white line m (columns_more p) 9 p p ys tab space ∙ ap (break.runs break.White m ys) (tab_end-stop p one) ∙ more
 
     go : (run : Run) → Same run m (tab_cells line (columns_more p) 9 p ++ ys) (9 ∷ bs) p
     go Apart = rw tab (tab-apart line m (columns_more p) p ys tab ∙ ap (λ (es : List Event). enter n.SpaceOrTab p ∷ es) white)
@@ -66,7 +73,7 @@ tab-same run line m p ys bs black one more = go run
     go White = rw tab white
 
 -- those of a byte
-pub byte-same : (run : Run) (line : Line) (m b : ℕ) (p : Point) (ys : List Cell) (bs : List ℕ) → is_white m ≡ false → 1 ≤ p.column → ((run : Run) → Same run m ys bs (past_byte b p)) → Same run m (byte_cells line b p ++ ys) (b ∷ bs) p
+byte-same : (run : Run) (line : Line) (m b : ℕ) (p : Point) (ys : List Cell) (bs : List ℕ) → is_white m ≡ false → 1 ≤ p.column → ((run : Run) → Same run m ys bs (past_byte b p)) → Same run m (byte_cells line b p ++ ys) (b ∷ bs) p
 byte-same run line m b p ys bs black one = go (b == 9) refl
   where
     P : ℕ → Type 0
@@ -79,119 +86,166 @@ byte-same run line m b p ys bs black one = go (b == 9) refl
 
     go : (t : Bool) → (b == 9) ≡ t → P b
     go true e = subst P (sym (eqb-true b 9 e)) (λ more. tab-same run line m p ys bs black one (more White))
-    go false e = λ more. ap (λ (t : Bool). runs run m (cond t (tab_cells line (columns_more p) 9 p) (cell b (past_byte b p) line ∷ []) ++ ys) p) e ∙ whole run more
+    go false e = λ more. ap (λ (t : Bool). break.runs (cell_run run) m (cond t (tab_cells line (columns_more p) 9 p) (cell b (past_byte b p) line ∷ []) ++ ys) p) e ∙ whole run more
 
 -- those of a line
-pub spread-same : (run : Run) (line : Line) (m : ℕ) (bytes : List ℕ) (p : Point) → is_white m ≡ false → 1 ≤ p.column → Same run m (spread line bytes p) bytes p
+spread-same : (run : Run) (line : Line) (m : ℕ) (bytes : List ℕ) (p : Point) → is_white m ≡ false → 1 ≤ p.column → Same run m (spread line bytes p) bytes p
 spread-same Apart line m [] p black one = refl
 spread-same Marks line m [] p black one = refl
 spread-same White line m [] p black one = refl
 spread-same run line m (b ∷ bs) p black one =
     byte-same run line m b p (spread line bs (past_byte b p)) bs black one (λ (r : Run). spread-same r line m bs (past_byte b p) black (omega arith))
 
--- a marker of breaks
-pub rule-marker : (m : ℕ) → is_rule_marker m ≡ true → IsMarker n.ThematicBreakSequence m
-rule-marker m e ys some all = go (m == 42) refl (m == 45) refl (m == 95) refl e
+-- those of the rest of a line
+rest-runs : (line : Line) (m : ℕ) (r : Rest) (p : Point) (stop : List Cell) → is_white m ≡ false → NoEnding r.bytes → Stops stop → 1 ≤ p.column → Cut r.spaces p →
+    break.runs break.Apart m (line_cells (rest_cells line r p ++ stop)) p ≡ mark_runs n.ThematicBreakSequence Apart m (rest_line r) p
+rest-runs line m r p stop black h k one cut =
+    rest-same (List Event) (λ (l : List Cell). break.runs break.Apart m (line_cells l) p) line same r p stop one cut
+    ∙ ap (λ (l : List Cell). break.runs break.Apart m l p) (spread-line line (rest_line r) p stop (rest-no_ending r h) k)
+    ∙ spread-same Apart line m (rest_line r) p black one
   where
-    least : nat_le 1 (length ys) ≡ true
-    least = grind (arith, nat_tests, some)
+    tab : (9 == m) ≡ false
+    tab = grind (arith, nat_tests, black)
 
-    run : (c : ℕ) → (m == c) ≡ true → is_run 1 c ys ≡ true
-    run c f = and_from (nat_le 1 (length ys)) (list_all (λ b. b == c) ys) least (subst (λ (d : ℕ). list_all (λ b. b == d) ys ≡ true) (eqb-true m c f) all)
+    space : (32 == m) ≡ false
+    space = grind (arith, nat_tests, black)
 
-    go : (x : Bool) → (m == 42) ≡ x → (y : Bool) → (m == 45) ≡ y → (z : Bool) → (m == 95) ≡ z → (x || y || z) ≡ true → stands_over n.ThematicBreakSequence ys ≡ true
-    go true f y g z h e = or_left (is_run 1 42 ys || is_run 1 45 ys) (is_run 1 95 ys) (or_left (is_run 1 42 ys) (is_run 1 45 ys) (run 42 f))
-    go false f true g z h e = or_left (is_run 1 42 ys || is_run 1 45 ys) (is_run 1 95 ys) (or_right (is_run 1 42 ys) (is_run 1 45 ys) (run 45 g))
-    go false f false g true h e = or_right (is_run 1 42 ys || is_run 1 45 ys) (is_run 1 95 ys) (run 95 h)
-    go false f false g false h e = cc
+    same : (at : Point) (cs : List Cell) → break.runs break.Apart m (line_cells (cell 32 at line ∷ cs)) p ≡ break.runs break.Apart m (line_cells (cell 9 at line ∷ cs)) p
+    same at cs = rw (tab, space) refl
 
--- the bytes of a rule
-pub rule-marks : (m : ℕ) (bs : List ℕ) → list_all (λ b. (b == m) || is_white b) bs ≡ true → AreMarks m bs
-rule-marks m [] h = tt
-rule-marks m (b ∷ bs) h = let both : (((b == m) || is_white b) ≡ true) × (list_all (λ b. (b == m) || is_white b) bs ≡ true) = and_parts ((b == m) || is_white b) (list_all (λ b. (b == m) || is_white b) bs) h in (both.0, rule-marks m bs both.1)
+-- The indent is the first run.
 
--- The runs of a break stand.
-pub rule-stand : (bytes text rest : List ℕ) (said : Line) (p : Point) (stop : List Cell) → is_rule text ≡ true → drop p.index bytes ≡ text ++ rest → CutsFirst p text → 1 ≤ p.column →
-    pieces_stand bytes (pieces (runs Apart (first_cell (spread said text p ++ stop)) (spread said text p) p)) ≡ true
-rule-stand bytes [] rest said p stop rule e cut one = cc
-rule-stand bytes (m ∷ text) rest said p stop rule e cut one =
-    ap (λ (c : ℕ). pieces_stand bytes (pieces (runs Apart c (spread said (m ∷ text) p) p))) first
-    ∙ ap (λ (es : List Event). pieces_stand bytes (pieces es)) (spread-same Apart said m (m ∷ text) p black one)
-    ∙ runs-stand bytes n.ThematicBreakSequence m (m ∷ text) rest p (rule-marker m marker) black (rule-marks m (m ∷ text) (and_from ((m == m) || is_white m) (list_all (λ b. (b == m) || is_white b) text) (ap (λ (x : Bool). x || is_white m) (eq-eqb m m refl)) all)) e cut
+-- a marker ends no line, and is no other byte of it
+marker-no_ending : (m : ℕ) → is_rule_marker m ≡ true → (m == 10) ≡ false
+marker-no_ending m e = grind (arith, nat_tests)
+
+white-other : (b m : ℕ) → is_white b ≡ true → is_rule_marker m ≡ true → (b == m) ≡ false
+white-other b m w e = grind (arith, nat_tests)
+
+-- a marker stands first
+abbrev Marked : ℕ → List Cell → Type 0
+Marked m [] = ⊥
+Marked m (c ∷ cs) = (c.byte == m) ≡ true
+
+-- in front of it whitespace ends
+marked-white : (m : ℕ) (c : Cell) (cs : List Cell) (p : Point) → is_rule_marker m ≡ true → (c.byte == m) ≡ true →
+    break.runs break.White m (line_cells (c ∷ cs)) p ≡ exit n.SpaceOrTab p ∷ break.runs break.Apart m (line_cells (c ∷ cs)) p
+marked-white m c cs p mark e = rw (black c.byte e, e) refl
   where
-    both : (is_rule_marker m && list_all (λ b. (b == m) || is_white b) text) ≡ true
-    both = (and_parts (is_rule_marker m && list_all (λ b. (b == m) || is_white b) text) (nat_le 2 (count_by (λ b. b == m) text)) rule).0
+    black : (b : ℕ) → (b == m) ≡ true → (b == 10) ≡ false
+    black b e = subst (λ (c : ℕ). (c == 10) ≡ false) (sym (eqb-true b m e)) (marker-no_ending m mark)
 
-    marker : is_rule_marker m ≡ true
-    marker = (and_parts (is_rule_marker m) (list_all (λ b. (b == m) || is_white b) text) both).0
+-- so it is behind whitespace
+white-run : (m room : ℕ) (cells : List Cell) (p : Point) → is_rule_marker m ≡ true → Marked m (white_rest room cells) →
+    break.runs break.White m (line_cells cells) p ≡ exit n.SpaceOrTab (white_end room cells p) ∷ break.runs break.Apart m (line_cells (white_rest room cells)) (white_end room cells p)
+white-run m room [] p mark h = absurd h
+white-run m zero (c ∷ cs) p mark h = marked-white m c cs p mark h
+white-run m (suc room) (c ∷ cs) p mark h = go (is_white c.byte) refl h (white-run m room cs c.after mark)
+  where
+    Done : List Cell → Point → Type 0
+    Done left q = break.runs break.White m (line_cells (c ∷ cs)) p ≡ exit n.SpaceOrTab q ∷ break.runs break.Apart m (line_cells left) q
 
-    all : list_all (λ b. (b == m) || is_white b) text ≡ true
-    all = (and_parts (is_rule_marker m) (list_all (λ b. (b == m) || is_white b) text) both).1
+    go : (x : Bool) → is_white c.byte ≡ x → Marked m (cond x (white_rest room cs) (c ∷ cs)) →
+        (Marked m (white_rest room cs) → break.runs break.White m (line_cells cs) c.after ≡ exit n.SpaceOrTab (white_end room cs c.after) ∷ break.runs break.Apart m (line_cells (white_rest room cs)) (white_end room cs c.after)) →
+        Done (cond x (white_rest room cs) (c ∷ cs)) (cond x (white_end room cs c.after) p)
+    go true e h more = rw (white-no_ending c.byte e, white-other c.byte m e mark) (more h)
+    go false e h more = marked-white m c cs p mark h
 
-    black : is_white m ≡ false
-    black = grind (arith, nat_tests, marker)
+-- the indent and the runs behind it are all runs of the line
+indent-runs : (m room : ℕ) (cells : List Cell) (p : Point) → 1 ≤ room → is_rule_marker m ≡ true → Marked m (white_rest room cells) →
+    cond (begins_white cells) (pair n.SpaceOrTab p (white_end room cells p)) [] ++ break.runs break.Apart m (line_cells (white_rest room cells)) (white_end room cells p) ≡ break.runs break.Apart m (line_cells cells) p
+indent-runs m zero cells p some mark h = absurd (omega arith)
+indent-runs m (suc room) [] p some mark h = absurd h
+indent-runs m (suc room) (c ∷ cs) p some mark h = go (is_white c.byte) refl h
+  where
+    go : (x : Bool) → is_white c.byte ≡ x → Marked m (cond x (white_rest room cs) (c ∷ cs)) →
+        cond x (pair n.SpaceOrTab p (cond x (white_end room cs c.after) p)) [] ++ break.runs break.Apart m (line_cells (cond x (white_rest room cs) (c ∷ cs))) (cond x (white_end room cs c.after) p) ≡ break.runs break.Apart m (line_cells (c ∷ cs)) p
+    go true e h = rw (white-no_ending c.byte e, white-other c.byte m e mark) (ap (λ (es : List Event). enter n.SpaceOrTab p ∷ es) (sym (white-run m room cs c.after mark h)))
+    go false e h = refl
 
-    first : first_cell (spread said (m ∷ text) p ++ stop) ≡ m
-    first = ap (λ (l : List Cell). first_cell ((l ++ spread said text (past_byte m p)) ++ stop)) (byte-one said m p black)
+-- The marker.
 
--- its indent, and its runs
-pub break-stand : (options : ParseOptions) (bytes line behind : List ℕ) (said : Line) (p : Point) (stop : List Cell) → options.constructs.code_indented ≡ false → length (spread said line p ++ stop) < 2 ^ 63 → is_rule (trim_start line) ≡ true →
-    NoEnding line → Stops stop → 1 ≤ p.column → CutsFirst p line → drop p.index bytes ≡ line ++ behind → pieces_stand bytes (pieces (break_inside options (spread said line p ++ stop) p)) ≡ true
-break-stand options bytes line behind said p stop off short rule h k one cut e =
-    subst (λ (r : Point). Done (white_rest (small_indent options) cells) r) (sym (small-end options said line p stop off short k one))
-    (subst (λ (l : List Cell). Done l q) (sym (small-rest options said line p stop off short k one))
-    (ap (pieces_stand bytes) (pieces-ended white (marks (left ++ stop) q) indent.ends) ∙ pieces-both bytes (pieces white) (pieces (marks (left ++ stop) q)) indent.stand stand))
+-- a rule begins with it by its cells
+cells-marked : (cells : List Cell) (m : ℕ) → is_rule (line_bytes cells) ≡ true → first_byte (line_bytes cells) ≡ m → (first_cell cells ≡ m) × Marked m cells
+cells-marked [] m e is = cc
+cells-marked (c ∷ cs) m e is = go (c.byte == 10) e is
+  where
+    go : (x : Bool) → is_rule (bytes_of (cond x [] (c ∷ line_cells cs))) ≡ true → first_byte (bytes_of (cond x [] (c ∷ line_cells cs))) ≡ m → (c.byte ≡ m) × ((c.byte == m) ≡ true)
+    go true e is = cc
+    go false e is = (is, eq-eqb c.byte m is)
+
+spread-first : (line : Line) (bytes : List ℕ) (p : Point) → is_rule bytes ≡ true → first_byte (bytes_of (spread line bytes p)) ≡ first_byte bytes
+spread-first line [] p e = cc
+spread-first line (m ∷ bytes) p e = ap (λ (l : List Cell). first_byte (bytes_of (l ++ spread line bytes (past_byte m p)))) (byte-one line m p (marker-black m (rule-first (m ∷ bytes) e)))
+
+-- The whole break.
+pub break-adds : (options : ParseOptions) (said : Line) (text behind : List ℕ) (r : Rest) (p : Point) (stop : List Cell) → RestAt text behind r p → NoEnding r.bytes → Stops stop → length (rest_cells said r p ++ stop) < 2 ^ 63 →
+    break_leaf.starts options r ≡ true → break_leaf.adds options (rest_cells said r p ++ stop) p ≡ break_leaf.added (rest_line r) p
+break-adds options said text behind r p stop is h k short starts =
+    ap₂ (λ (q : Point) (es : List Event). around n.ThematicBreak p q es) (rest-line_end said r p stop h k one is.cut) inside
   where
     cells : List Cell
-    cells = spread said line p ++ stop
+    cells = rest_cells said r p ++ stop
 
-    front : List ℕ
-    front = white_front line
-
-    q : Point
-    q = past_text (white_front line) p
+    room : ℕ
+    room = small_indent options
 
     left : List Cell
-    left = spread said (trim_start line) q
+    left = white_rest (small_indent options) (rest_cells said r p ++ stop)
 
-    white : List Event
-    white = cond (begins_white cells) (pair n.SpaceOrTab p q) []
+    q : Point
+    q = white_end (small_indent options) (rest_cells said r p ++ stop) p
 
-    marks : List Cell → Point → List Event
-    marks l r = runs Apart (first_cell l) (line_cells l) r
+    m : ℕ
+    m = first_byte (trim_start r.bytes)
 
-    Done : List Cell → Point → Type 0
-    Done l r = pieces_stand bytes (pieces (cond (begins_white cells) (pair n.SpaceOrTab p r) [] ++ marks l r)) ≡ true
+    one : 1 ≤ p.column
+    one = let column = is.column in omega arith
 
-    parts : front ++ trim_start line ≡ line
-    parts = take-append-drop (prefix_len is_white line) line
+    small : has_small_indent options r ≡ true
+    small = (and_parts options.constructs.thematic_break (has_small_indent options r) (and_parts (options.constructs.thematic_break && has_small_indent options r) (is_rule (trim_start r.bytes)) starts).0).1
 
-    apart : drop p.index bytes ≡ front ++ (trim_start line ++ behind)
-    apart = e ∙ ap (λ (l : List ℕ). l ++ behind) (sym parts) ∙ append_assoc front (trim_start line) behind
+    rule : is_rule (trim_start r.bytes) ≡ true
+    rule = (and_parts (options.constructs.thematic_break && has_small_indent options r) (is_rule (trim_start r.bytes)) starts).1
 
-    indent : Stood bytes white
-    indent = white-stood bytes cells p q front (trim_start line ++ behind) apart (front-blank line) refl (white-some said line p stop k)
+    mark : is_rule_marker (first_byte (trim_start r.bytes)) ≡ true
+    mark = rule-first (trim_start r.bytes) rule
 
-    at : drop q.index bytes ≡ trim_start line ++ behind
-    at = ap (λ (i : ℕ). drop i bytes) (past-index front p) ∙ drop-past bytes p.index front (trim_start line ++ behind) apart
+    same : line_bytes left ≡ bytes_of (spread said (trim_start r.bytes) q)
+    same = (small-indented options said text behind r p stop is h k short small).bytes
 
-    -- a tab that is cut is taken with the indent
-    first : (front : List ℕ) → front ++ trim_start line ≡ line → CutsFirst (past_text front p) (trim_start line)
-    first [] same = subst (CutsFirst p) (sym same) cut
-    first (b ∷ front) same = whole-first (past_text (b ∷ front) p) (trim_start line) (past-vs b front p)
+    begins : (first_cell left ≡ m) × Marked m left
+    begins = cells-marked left m (ap is_rule same ∙ rule-spread said (trim_start r.bytes) q ∙ rule) (ap first_byte same ∙ spread-first said (trim_start r.bytes) q rule)
 
-    stand : pieces_stand bytes (pieces (marks (left ++ stop) q)) ≡ true
-    stand =
-        ap (λ (l : List Cell). pieces_stand bytes (pieces (runs Apart (first_cell (left ++ stop)) l q))) (spread-line said (trim_start line) q stop (no_ending-trim line h) k)
-        ∙ rule-stand bytes (trim_start line) behind said q stop rule at (first front parts) (past_text-column front p one)
+    inside : break_inside options cells p ≡ mark_runs n.ThematicBreakSequence Apart (first_byte (trim_start (rest_line r))) (rest_line r) p
+    inside =
+        ap (λ (c : ℕ). cond (begins_white cells) (pair n.SpaceOrTab p q) [] ++ break.runs break.Apart c (line_cells left) q) begins.0
+        ∙ indent-runs m room cells p (small-some options) mark begins.1
+        ∙ rest-runs said m r p stop (marker-black m mark) h k one is.cut
+        ∙ ap (λ (l : List ℕ). mark_runs n.ThematicBreakSequence Apart (first_byte l) (rest_line r) p) (sym (rest-trim r))
 
--- a break
-pub kind-rule : (options : ParseOptions) (line : List ℕ) → line_kind options line ≡ BreakRow → is_rule (trim_start line) ≡ true
-kind-rule options line e = go (is_blank line) (options.constructs.heading_atx && is_heading (trim_start line)) options.constructs.thematic_break (is_rule (trim_start line)) e
-  where
-    go : (w x y z : Bool) → cond w BlankRow (cond x HeadingRow (cond (y && z) BreakRow TextRow)) ≡ BreakRow → z ≡ true
-    go true x y z e = cc
-    go false true y z e = cc
-    go false false true true e = refl
-    go false false true false e = cc
-    go false false false z e = cc
+-- No content stands in it.
+
+runs-no_content : (wants : Content → Bool) (run : break.Run) (m : ℕ) (cells : List Cell) (p : Point) → NoContent wants (break.runs run m cells p)
+runs-no_content wants break.Apart m [] p = tt
+runs-no_content wants break.Marks m [] p = (refl, refl, tt)
+runs-no_content wants break.White m [] p = (refl, refl, tt)
+runs-no_content wants break.Apart m (c ∷ cs) p =
+    let marks = runs-no_content wants break.Marks m cs c.after in
+    let white = runs-no_content wants break.White m cs c.after in
+    either (NoContent wants) (c.byte == m) _ _ (refl, refl, marks) (refl, refl, white)
+runs-no_content wants break.Marks m (c ∷ cs) p =
+    let white = runs-no_content wants break.White m cs c.after in
+    either (NoContent wants) (c.byte == m) _ _ (runs-no_content wants break.Marks m cs c.after) (refl, refl, (refl, refl, white))
+runs-no_content wants break.White m (c ∷ cs) p =
+    let marks = runs-no_content wants break.Marks m cs c.after in
+    either (NoContent wants) (c.byte == m) _ _ (refl, refl, (refl, refl, marks)) (runs-no_content wants break.White m cs c.after)
+
+pub break-no_content : (wants : Content → Bool) (options : ParseOptions) (cells : List Cell) (p : Point) → NoContent wants (break_leaf.adds options cells p)
+break-no_content wants options cells p =
+    let q : Point = white_end (small_indent options) cells p in
+    let left : List Cell = white_rest (small_indent options) cells in
+    let white : List Event = cond (begins_white cells) (pair n.SpaceOrTab p q) [] in
+    let runs : List Event = break.runs break.Apart (first_cell left) (line_cells left) q in
+    let inside : NoContent wants (white ++ runs) = no_content-append wants white runs (either (NoContent wants) (begins_white cells) _ _ (refl, refl, (refl, refl, tt)) tt) (runs-no_content wants break.Apart (first_cell left) (line_cells left) q) in
+    (refl, refl, no_content-append wants (white ++ runs) (exit n.ThematicBreak (line_end cells p) ∷ []) inside (refl, refl, tt))

@@ -1,5 +1,6 @@
 -- What a thematic break comes to, where it takes a line and where it refuses one.
-use Rattle.std.proofs.Common.{◌≡◌, ℕ, Bool, true, false, cond, List, [], ◌∷◌, ◌++◌, refl, sym, ◌∙◌, ap, ap₂, append_assoc}
+use Rattle.std.proofs.Common.{◌≡◌, ℕ, ◌≤◌, Bool, true, false, cond, List, [], ◌∷◌, ◌++◌, length, arith, refl, sym, ◌∙◌, ap, ap₂, append_assoc}
+use Rattle.std.specs.Prelude.{not}
 use Rattle.std.proofs.lemmas.Bool.{and_parts}
 use Rattle.md_engine.specs.declared.configuration.ParseOptions.{ParseOptions}
 use Rattle.md_engine.specs.declared.event.Event.{Event}
@@ -15,44 +16,51 @@ use Rattle.md_seam.specs.Standard.Leaves.{is_rule}
 use Rattle.md_seam.specs.Events.Nested.{around, enter, exit, pair}
 use Rattle.md_seam.specs.Spaces.{IsRest, calmed, small_indent}
 use Rattle.md_seam.proofs.AheadLemmas.{none-end, none-rest, white-ending, white-line_end}
+use Rattle.md_seam.proofs.RestCells.{white-length}
 use Rattle.md_seam.proofs.WhiteSteps.{behind_white}
 use Rattle.markdown_blocks.specs.Leaf.ThematicBreak.{break_inside, first_cell, is_break}
-use Rattle.markdown_blocks.proofs.LeafLaws.{shut_line}
+use Rattle.markdown_blocks.proofs.FromEnding.{from_ending-again, from_ending-shrinks}
+use Rattle.markdown_blocks.proofs.LeafLaws.{Shrinks, cond-shrinks, shut_line}
 
-pub inside-none : (options : ParseOptions) (cells : List Cell) (p : Point) → begins_white cells ≡ false → break_inside options cells p ≡ runs Apart (first_cell cells) (line_cells cells) p
+-- what stands in a break with no indent, and with one
+inside-none : (options : ParseOptions) (cells : List Cell) (p : Point) → begins_white cells ≡ false → break_inside options cells p ≡ runs Apart (first_cell cells) (line_cells cells) p
 inside-none options cells p e =
     let room = small_indent options in
     ap (λ (x : Bool). cond x (pair n.SpaceOrTab p (white_end room cells p)) [] ++ runs Apart (first_cell (white_rest room cells)) (line_cells (white_rest room cells)) (white_end room cells p)) e
     ∙ ap₂ (λ (r : List Cell) (q : Point). runs Apart (first_cell r) (line_cells r) q) (none-rest room cells e) (none-end room cells p e)
 
-pub inside-white : (options : ParseOptions) (cells : List Cell) (p : Point) → begins_white cells ≡ true →
+inside-white : (options : ParseOptions) (cells : List Cell) (p : Point) → begins_white cells ≡ true →
     break_inside options cells p ≡ pair n.SpaceOrTab p (white_end (small_indent options) cells p) ++ runs Apart (first_cell (white_rest (small_indent options) cells)) (line_cells (white_rest (small_indent options) cells)) (white_end (small_indent options) cells p)
 inside-white options cells p e =
     let room = small_indent options in
     ap (λ (x : Bool). cond x (pair n.SpaceOrTab p (white_end room cells p)) [] ++ runs Apart (first_cell (white_rest room cells)) (line_cells (white_rest room cells)) (white_end room cells p)) e
 
-pub marked : (cells : List Cell) (h : Here) → is_rule (line_bytes cells) ≡ true → before_marker cells h ≡ broken Apart (first_cell cells) cells h
+-- at the marker a rule is taken to the end of the line, and else nothing is
+marked : (cells : List Cell) (h : Here) → is_rule (line_bytes cells) ≡ true → before_marker cells h ≡ broken Apart (first_cell cells) cells h
 unfolding before_marker
 marked [] h e = cc
 marked (c ∷ cs) h e = ap (λ (x : Bool). cond x (broken Apart c.byte (c ∷ cs) h) (Refuses (without_marker h.scratch) h.flags)) e
 
-pub unmarked : (cells : List Cell) (h : Here) → is_rule (line_bytes cells) ≡ false → before_marker cells h ≡ Refuses (without_marker h.scratch) h.flags
+unmarked : (cells : List Cell) (h : Here) → is_rule (line_bytes cells) ≡ false → before_marker cells h ≡ Refuses (without_marker h.scratch) h.flags
 unfolding before_marker
 unmarked [] h e = refl
 unmarked (c ∷ cs) h e = ap (λ (x : Bool). cond x (broken Apart c.byte (c ∷ cs) h) (Refuses (without_marker h.scratch) h.flags)) e
 
-pub regroup : (es rs : List Event) (a d : Event) → (es ++ a ∷ []) ++ rs ++ d ∷ [] ≡ es ++ (a ∷ rs ++ d ∷ [])
+-- the events of a break, behind those that were there
+regroup : (es rs : List Event) (a d : Event) → (es ++ a ∷ []) ++ rs ++ d ∷ [] ≡ es ++ (a ∷ rs ++ d ∷ [])
 regroup es rs a d = ap (λ (xs : List Event). xs ++ d ∷ []) (append_assoc es (a ∷ []) rs) ∙ append_assoc es (a ∷ rs) (d ∷ [])
 
-pub regroup-white : (es rs : List Event) (a b c d : Event) → (es ++ a ∷ []) ++ b ∷ c ∷ [] ++ rs ++ d ∷ [] ≡ es ++ (a ∷ b ∷ c ∷ rs ++ d ∷ [])
+regroup-white : (es rs : List Event) (a b c d : Event) → (es ++ a ∷ []) ++ b ∷ c ∷ [] ++ rs ++ d ∷ [] ≡ es ++ (a ∷ b ∷ c ∷ rs ++ d ∷ [])
 regroup-white es rs a b c d = ap (λ (xs : List Event). xs ++ d ∷ []) (append_assoc (es ++ a ∷ []) (b ∷ c ∷ []) rs) ∙ regroup es (b ∷ c ∷ rs) a d
 
-pub rest-marker : (s : Scratch) → IsRest s → without_marker s ≡ s
+-- a trial at rest ends at rest
+rest-marker : (s : Scratch) → IsRest s → without_marker s ≡ s
 rest-marker s e = ap without_marker e ∙ sym e
 
-pub rest-white : (s : Scratch) → IsRest s → without_marker (calmed s) ≡ s
+rest-white : (s : Scratch) → IsRest s → without_marker (calmed s) ≡ s
 rest-white s e = ap (λ (t : Scratch). without_marker (calmed t)) e ∙ sym e
 
+-- A break takes its line,
 pub break-took : (options : ParseOptions) (cells : List Cell) (h : Here) → IsRest h.scratch → is_break options cells ≡ true →
     break_at options cells h ≡ shut_line (around n.ThematicBreak h.point (line_end cells h.point) (break_inside options cells h.point)) cells h
 break-took options cells h is e = go (begins_white cells) refl
@@ -100,6 +108,7 @@ break-took options cells h is e = go (begins_white cells) refl
         at-none options cells h on s ∙ marked cells at here'
         ∙ ap₂ (λ (xs : List Event) (t : Scratch). new xs p t (from_ending cells)) same (rest-marker h.scratch is)
 
+-- and where none stands all is left as it was.
 pub break-refused : (options : ParseOptions) (cells : List Cell) (h : Here) → IsRest h.scratch → is_break options cells ≡ false → break_at options cells h ≡ Refuses h.scratch h.flags
 break-refused options cells h is e = by options.constructs.thematic_break refl
   where
@@ -121,3 +130,16 @@ break-refused options cells h is e = by options.constructs.thematic_break refl
     by : (x : Bool) → options.constructs.thematic_break ≡ x → break_at options cells h ≡ Refuses h.scratch h.flags
     by true on = go on (rw on at e) (begins_white cells) refl
     by false off = at-off options cells h off
+
+-- What is left of a line.
+
+before_marker-shrinks : (n : ℕ) (cells : List Cell) (h : Here) → length cells ≤ n → Shrinks n (before_marker cells h)
+unfolding before_marker
+before_marker-shrinks n [] h le = tt
+before_marker-shrinks n (c ∷ cs) h le = cond-shrinks n (is_rule (line_bytes (c ∷ cs))) _ _ (let less = from_ending-shrinks (c ∷ cs) in omega arith, from_ending-again (c ∷ cs)) tt
+
+pub break-shrinks : (options : ParseOptions) (cells : List Cell) (h : Here) → Shrinks (length cells) (break_at options cells h)
+unfolding break_at
+break-shrinks options cells h =
+    cond-shrinks (length cells) (not options.constructs.thematic_break) _ _ tt
+    (cond-shrinks (length cells) (begins_white cells) _ _ (before_marker-shrinks (length cells) _ _ (white-length (small_indent options) cells)) (before_marker-shrinks (length cells) cells _ (omega arith)))

@@ -1,19 +1,21 @@
 -- Thematic breaks (CommonMark 4.1), as a leaf on one line.
-use Rattle.std.specs.Prelude.{ℕ, Bool, ◌&&◌, ◌==◌, if◌then◌else◌, List, [], ◌∷◌, ◌++◌}
+use Rattle.std.specs.Prelude.{ℕ, Bool, ◌&&◌, if◌then◌else◌, List, [], ◌∷◌, ◌++◌}
 use Rattle.md_engine.specs.declared.configuration.ParseOptions.{ParseOptions}
 use Rattle.md_engine.specs.declared.event.Event.{Event}
 use Rattle.md_engine.specs.declared.event.Name.TheVariants as n
 use Rattle.md_engine.specs.declared.event.Point.{Point}
 use Rattle.md_engine.specs.Meaning.{Cell}
-use Rattle.md_leaves.specs.BreakRule.{Apart, Marks, Run, White, break_at, runs}
+use Rattle.md_leaves.specs.BreakRule.{Apart, break_at, runs}
 use Rattle.md_seam.specs.Ahead.{begins_white, line_bytes, line_cells, line_end, white_end, white_rest}
-use Rattle.md_seam.specs.Events.Nested.{around, enter, exit, pair}
-use Rattle.md_seam.specs.Events.Places.{past_byte, past_text}
+use Rattle.md_seam.specs.Events.Nested.{around, pair}
+use Rattle.md_seam.specs.Events.Places.{past_text}
 use Rattle.md_seam.specs.Spaces.{small_indent}
 use Rattle.md_seam.specs.Standard.Leaves.{is_rule}
 use Rattle.md_seam.specs.Standard.Rest.{has_small_indent, trim_start}
 use Rattle.md_seam.specs.Standard.Tree.{Break}
 use Rattle.markdown_blocks.specs.LineLeaf.{LineLeaf}
+use Rattle.markdown_blocks.specs.MarkRuns.{mark_runs}
+use Rattle.markdown_blocks.specs.MarkRuns as mark
 
 -- By the cells of a line.
 
@@ -36,18 +38,6 @@ break_inside options cells p =
 
 -- By its bytes.
 
--- the runs of a marker and of whitespace that are left of a line: each is one part, as long as it can be
-abbrev pub line_marks : Run → ℕ → List ℕ → Point → List Event
-line_marks Apart m [] p = []
-line_marks Marks m [] p = exit n.ThematicBreakSequence p ∷ []
-line_marks White m [] p = exit n.SpaceOrTab p ∷ []
-line_marks Apart m (b ∷ bs) p =
-    if b == m then enter n.ThematicBreakSequence p ∷ line_marks Marks m bs (past_byte b p) else enter n.SpaceOrTab p ∷ line_marks White m bs (past_byte b p)
-line_marks Marks m (b ∷ bs) p =
-    if b == m then line_marks Marks m bs (past_byte b p) else exit n.ThematicBreakSequence p ∷ enter n.SpaceOrTab p ∷ line_marks White m bs (past_byte b p)
-line_marks White m (b ∷ bs) p =
-    if b == m then exit n.SpaceOrTab p ∷ enter n.ThematicBreakSequence p ∷ line_marks Marks m bs (past_byte b p) else line_marks White m bs (past_byte b p)
-
 -- the byte of the markers, and 0 of none
 abbrev pub first_byte : List ℕ → ℕ
 first_byte [] = 0
@@ -55,7 +45,7 @@ first_byte (b ∷ bs) = b
 
 -- a break on a line that begins at this point
 abbrev pub break_line : List ℕ → Point → List Event
-break_line line p = around n.ThematicBreak p (past_text line p) (line_marks Apart (first_byte (trim_start line)) line p)
+break_line line p = around n.ThematicBreak p (past_text line p) (mark_runs n.ThematicBreakSequence mark.Apart (first_byte (trim_start line)) line p)
 
 abbrev pub break_leaf : LineLeaf
 break_leaf = record {

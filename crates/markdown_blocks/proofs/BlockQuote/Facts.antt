@@ -1,0 +1,171 @@
+-- What is known of the prefix of a block quote.
+use Rattle.std.proofs.Common.{◌-◌, ◌+◌, ℕ, ◌≡◌, true, refl, sym, subst, arith, suc, Bool, false, cond, List, [], ◌∷◌, ◌++◌, ◌∙◌, append_assoc, ◌≤◌, ◌≢◌}
+use Rattle.std.specs.Prelude.{slice_index, IsTrue}
+use Rattle.markdown_blocks.proofs.BetweenFacts.{AreBetween, between-append, between-before, between-behind, between-more, between-unless, is_low, white-between}
+use Rattle.std.proofs.lemmas.Option.{get_or_from_slice_get}
+use Rattle.markdown_blocks.proofs.PrefixFacts.{Continues, Opens, PrefixFacts}
+use Rattle.markdown_blocks.proofs.PrefixNames.{ArePrefixes, prefixes-append, prefixes-front, prefixes-roles}
+use Rattle.std.proofs.lemmas.Bool.Decides.{nat_tests}
+use Rattle.md_engine.specs.declared.event.Event.{Event}
+use Rattle.md_engine.specs.declared.event.Name.TheVariants as n
+use Rattle.md_engine.specs.declared.event.Point.{Point}
+use Rattle.md_seam.specs.Events.Inline.{pair_unless_empty}
+use Rattle.md_seam.specs.Events.Nested.{Balanced, enter, exit, pair, around}
+use Rattle.md_seam.specs.Events.Places.{at_or_before, same_place}
+use Rattle.md_seam.specs.Standard.State.{InQuote}
+use Rattle.md_seam.proofs.NestedLemmas.{at_or_before-refl}
+use Rattle.md_seam.proofs.SpelledLemmas.{QuietOrPrefix}
+use Rattle.markdown_blocks.proofs.FrontFacts.{IsPrefix}
+use Rattle.markdown_blocks.proofs.SpanLemmas.{Spans, order-grows}
+use Rattle.markdown_blocks.proofs.PartsStand.{Inside}
+use Rattle.md_outline.specs.Between.{is_between}
+use Rattle.markdown_blocks.proofs.PiecesLemmas.{Tiled, tiled-append, tiled-unless_empty, tiled-around, tiled-pair}
+use Rattle.markdown_blocks.proofs.BlockQuote.Pieces.{prefix-stood}
+use Rattle.markdown_blocks.proofs.BlockQuote.Parted.{prefix-clear, prefix-parted}
+use Rattle.markdown_blocks.proofs.BlockQuote.Grammar.{prefix-others, prefix-stays, prefix-begins}
+
+-- a byte further comes no earlier
+pub further : (p q : Point) → q.index ≡ suc p.index → IsTrue (at_or_before p q)
+further p q e = grind (arith, nat_tests)
+
+-- the events of a prefix
+abbrev pub prefix_list : Point → Point → Point → Point → List Event
+prefix_list p marker behind q =
+    pair_unless_empty n.SpaceOrTab p marker ++ enter n.BlockQuotePrefix marker ∷ enter n.BlockQuoteMarker marker ∷ exit n.BlockQuoteMarker behind ∷ pair_unless_empty n.SpaceOrTab behind q ++ exit n.BlockQuotePrefix q ∷ []
+
+pub list-balanced : (p marker behind q : Point) → Balanced (prefix_list p marker behind q)
+list-balanced p marker behind q = go (same_place p marker) (same_place behind q)
+  where
+    go : (x y : Bool) → Balanced (cond x [] (pair n.SpaceOrTab p marker) ++ enter n.BlockQuotePrefix marker ∷ enter n.BlockQuoteMarker marker ∷ exit n.BlockQuoteMarker behind ∷ cond y [] (pair n.SpaceOrTab behind q) ++ exit n.BlockQuotePrefix q ∷ [])
+    go true true = record { matches = (tt, (tt, (refl, (refl, tt)))); closed = refl }
+    go true false = record { matches = (tt, (tt, (refl, (tt, (refl, (refl, tt)))))); closed = refl }
+    go false true = record { matches = (tt, (refl, (tt, (tt, (refl, (refl, tt)))))); closed = refl }
+    go false false = record { matches = (tt, (refl, (tt, (tt, (refl, (tt, (refl, (refl, tt)))))))); closed = refl }
+
+pub list-spans : (p marker behind q : Point) → IsTrue (at_or_before p marker) → IsTrue (at_or_before marker behind) → IsTrue (at_or_before behind q) → Spans p q (prefix_list p marker behind q)
+list-spans p marker behind q h k l = go (same_place p marker) (same_place behind q)
+  where
+    same : (r : Point) → IsTrue (at_or_before r r)
+    same r = at_or_before-refl r
+
+    go : (x y : Bool) → Spans p q (cond x [] (pair n.SpaceOrTab p marker) ++ enter n.BlockQuotePrefix marker ∷ enter n.BlockQuoteMarker marker ∷ exit n.BlockQuoteMarker behind ∷ cond y [] (pair n.SpaceOrTab behind q) ++ exit n.BlockQuotePrefix q ∷ [])
+    go true true = ((h, (same marker, (k, (l, tt)))), same q)
+    go true false = ((h, (same marker, (k, (same behind, (l, (same q, tt)))))), same q)
+    go false true = ((same p, (h, (same marker, (same marker, (k, (l, tt)))))), same q)
+    go false false = ((same p, (h, (same marker, (same marker, (k, (same behind, (l, (same q, tt)))))))), same q)
+
+pub prefix-balanced : (bytes : List ℕ) (p q : Point) (es : List Event) → IsPrefix bytes p q es → Balanced es
+prefix-balanced bytes p q es is = subst Balanced (sym is.events) (list-balanced p is.marker is.behind q)
+
+pub prefix-spans : (bytes : List ℕ) (p q : Point) (es : List Event) → IsPrefix bytes p q es → Spans p q es
+prefix-spans bytes p q es is = subst (Spans p q) (sym is.events) (list-spans p is.marker is.behind q is.indent (further is.marker is.behind is.past) is.column)
+
+pub pair-prefixes : (p q : Point) → ArePrefixes (pair_unless_empty n.SpaceOrTab p q)
+pair-prefixes p q = go (same_place p q)
+  where
+    go : (x : Bool) → ArePrefixes (cond x [] (pair n.SpaceOrTab p q))
+    go true = tt
+    go false = (refl, refl, (refl, refl, tt))
+
+pub prefix-are : (bytes : List ℕ) (p q : Point) (es : List Event) → IsPrefix bytes p q es → ArePrefixes es
+prefix-are bytes p q es is =
+    let indent = pair_unless_empty n.SpaceOrTab p is.marker in
+    let white = pair_unless_empty n.SpaceOrTab is.behind q in
+    let marker = enter n.BlockQuotePrefix is.marker ∷ enter n.BlockQuoteMarker is.marker ∷ exit n.BlockQuoteMarker is.behind ∷ white in
+    subst ArePrefixes (sym is.events)
+    (prefixes-append (indent ++ marker) (exit n.BlockQuotePrefix q ∷ [])
+    (prefixes-append indent marker (pair-prefixes p is.marker) (refl, refl, (refl, refl, (refl, refl, pair-prefixes is.behind q)))) (refl, refl, tt))
+
+pub prefix-grows : (bytes : List ℕ) (p q : Point) (es : List Event) → IsPrefix bytes p q es → p.index ≤ q.index
+prefix-grows bytes p q es is =
+    let before = order-grows p is.marker is.indent in
+    let behind = order-grows is.behind q is.column in
+    omega (arith, is.past)
+
+-- a prefix covers what it takes
+pub prefix-tiled : (bytes : List ℕ) (p q : Point) (es : List Event) → IsPrefix bytes p q es → Tiled p q es
+prefix-tiled bytes p q es is =
+    let indent : List Event = pair_unless_empty n.SpaceOrTab p is.marker in
+    let white : List Event = pair_unless_empty n.SpaceOrTab is.behind q in
+    let inside : List Event = pair n.BlockQuoteMarker is.marker is.behind ++ white in
+    subst (Tiled p q) (sym (is.events ∙ append_assoc indent (enter n.BlockQuotePrefix is.marker ∷ inside) (exit n.BlockQuotePrefix q ∷ [])))
+    (tiled-append p is.marker q indent (around n.BlockQuotePrefix is.marker q inside) (tiled-unless_empty n.SpaceOrTab p is.marker)
+    (tiled-around n.BlockQuotePrefix is.marker q inside
+    (tiled-append is.marker is.behind q (pair n.BlockQuoteMarker is.marker is.behind) white (tiled-pair n.BlockQuoteMarker is.marker is.behind) (tiled-unless_empty n.SpaceOrTab is.behind q))))
+
+-- a prefix has events
+pub prefix-some : (bytes : List ℕ) (p q : Point) (es : List Event) → IsPrefix bytes p q es → es ≢ []
+prefix-some bytes p q es is none = go (same_place p is.marker) (sym is.events ∙ none)
+  where
+    go : (x : Bool) → (cond x [] (pair n.SpaceOrTab p is.marker) ++ enter n.BlockQuotePrefix is.marker ∷ enter n.BlockQuoteMarker is.marker ∷ exit n.BlockQuoteMarker is.behind ∷ pair_unless_empty n.SpaceOrTab is.behind q ++ exit n.BlockQuotePrefix q ∷ []) ≢ []
+    go true h = cc
+    go false h = cc
+
+-- the prefix of a quote
+pub prefix-inside : (bytes : List ℕ) (p q : Point) (es : List Event) → IsPrefix bytes p q es → Inside bytes [] es
+prefix-inside bytes p q es is = subst (Inside bytes []) (sym is.events) (go (same_place p is.marker) (same_place is.behind q))
+  where
+    prefix : Bool → Bool → List Event
+    prefix x y =
+        cond x [] (pair n.SpaceOrTab p is.marker) ++ enter n.BlockQuotePrefix is.marker ∷ enter n.BlockQuoteMarker is.marker ∷ exit n.BlockQuoteMarker is.behind ∷ cond y [] (pair n.SpaceOrTab is.behind q) ++ exit n.BlockQuotePrefix q ∷ []
+
+    go : (x y : Bool) → Inside bytes [] (prefix x y)
+    go true true = record { outside = (refl, (refl, (refl, (refl, tt)))); ends = refl; white = refl; has = refl; stand = λ ys. refl }
+    go true false = record { outside = (refl, (refl, (refl, (refl, (refl, (refl, tt)))))); ends = refl; white = rw is.white_behind refl; has = refl; stand = λ ys. refl }
+    go false true = record { outside = (refl, (refl, (refl, (refl, (refl, (refl, tt)))))); ends = refl; white = rw is.white_before refl; has = refl; stand = λ ys. refl }
+    go false false = record { outside = (refl, (refl, (refl, (refl, (refl, (refl, (refl, (refl, tt)))))))); ends = refl; white = rw (is.white_before, is.white_behind) refl; has = refl; stand = λ ys. refl }
+
+-- a prefix stands between characters, if it begins so
+pub prefix-between : (bytes : List ℕ) (p q : Point) (es : List Event) → is_between bytes p.index ≡ true → IsPrefix bytes p q es → AreBetween bytes es × (is_between bytes q.index ≡ true)
+prefix-between bytes p q es from is =
+    let quote : slice_index bytes is.marker.index ≡ 62 = get_or_from_slice_get bytes is.marker.index 62 0 is.byte in
+    let low : is_low (slice_index bytes is.marker.index) ≡ true = subst (λ (b : ℕ). is_low b ≡ true) (sym quote) refl in
+    let marker : is_between bytes is.marker.index ≡ true = between-before bytes is.marker.index low in
+    let back : is.behind.index - 1 ≡ is.marker.index = omega (arith, is.past) in
+    let behind : is_between bytes is.behind.index ≡ true = between-behind bytes is.behind.index (subst (λ (i : ℕ). is_low (slice_index bytes i) ≡ true) (sym back) low) in
+    let end : is_between bytes q.index ≡ true = white-between bytes is.behind.index q.index is.white_behind (order-grows is.behind q is.column) behind in
+    let one : List Event = pair_unless_empty n.SpaceOrTab p is.marker in
+    let two : List Event = enter n.BlockQuotePrefix is.marker ∷ enter n.BlockQuoteMarker is.marker ∷ exit n.BlockQuoteMarker is.behind ∷ [] in
+    let three : List Event = pair_unless_empty n.SpaceOrTab is.behind q in
+    let middle : AreBetween bytes two =
+    between-more bytes (enter n.BlockQuotePrefix is.marker) (enter n.BlockQuoteMarker is.marker ∷ exit n.BlockQuoteMarker is.behind ∷ []) marker
+    (between-more bytes (enter n.BlockQuoteMarker is.marker) (exit n.BlockQuoteMarker is.behind ∷ []) marker (between-more bytes (exit n.BlockQuoteMarker is.behind) [] behind refl)) in (
+      subst (AreBetween bytes) (sym is.events)
+          (between-append bytes (one ++ (two ++ three)) (exit n.BlockQuotePrefix q ∷ [])
+          (between-append bytes one (two ++ three) (between-unless bytes n.SpaceOrTab p is.marker from marker) (between-append bytes two three middle (between-unless bytes n.SpaceOrTab is.behind q behind end)))
+          (between-more bytes (exit n.BlockQuotePrefix q) [] end refl)),
+      end,
+    )
+
+-- All of it.
+
+prefix-facts : (bytes : List ℕ) (p q : Point) (es : List Event) → IsPrefix bytes p q es → PrefixFacts bytes p q es
+prefix-facts bytes p q es is = record {
+  nested = (prefix-balanced bytes p q es is, prefix-spans bytes p q es is);
+  line = is.line;
+  tiled = prefix-tiled bytes p q es is;
+  stood = prefix-stood bytes p q es is;
+  others = prefix-others bytes p q es is;
+  clear = prefix-clear bytes p q es is;
+  between = λ from. prefix-between bytes p q es from is;
+}
+
+-- where a quote goes on, and where it opens
+pub quote-continues : (bytes : List ℕ) (p q : Point) (es : List Event) → IsPrefix bytes p q es → Continues bytes p q es
+quote-continues bytes p q es is = record {
+  common = prefix-facts bytes p q es is;
+  names = prefix-are bytes p q es is;
+  stays = prefix-stays bytes p q es is;
+  parted = prefix-parted bytes p q es is;
+  inside = prefix-inside bytes p q es is;
+}
+
+pub quote-opens : (bytes : List ℕ) (p q : Point) (es : List Event) → IsPrefix bytes p q es → Opens bytes InQuote p q es
+quote-opens bytes p q es is = record {
+  common = prefix-facts bytes p q es is;
+  names = prefixes-front es (prefix-are bytes p q es is);
+  roles = prefixes-roles QuietOrPrefix es tt tt (prefix-are bytes p q es is);
+  leads = prefix-begins bytes p q es is;
+  shown = refl;
+  some = prefix-some bytes p q es is;
+}

@@ -1,0 +1,95 @@
+-- The names of containers, whichever construct opens them.
+use Rattle.std.proofs.Common.{◌≡◌, Bool, true, false, cond, List, [], ◌∷◌, ◌++◌, refl, ap, ◌∙◌, map}
+use Rattle.std.specs.Prelude.{None}
+use Rattle.md_engine.specs.declared.event.Event.{Event}
+use Rattle.md_engine.specs.declared.event.Name.{Name}
+use Rattle.md_engine.specs.declared.event.Name.TheVariants as n
+use Rattle.md_engine.specs.declared.event.Point.{Point}
+use Rattle.md_content.specs.Joined.{content_behind}
+use Rattle.md_seam.specs.Events.Nested.{enter, exit}
+use Rattle.md_seam.specs.Standard.State.{Container, InFootnote, InItem, InQuote}
+use Rattle.md_seam.specs.Substituted.{is_prefix}
+use Rattle.md_seam.specs.Events.Spelled.{FootnoteShape, ItemShape, OrderedShape, QuoteShape, Shape, UnorderedShape, Holds, role}
+use Rattle.md_seam.specs.Events.Tiles.{part_kind}
+use Rattle.md_seam.specs.Events.Endings.{on_line}
+use Rattle.md_seam.proofs.EndingsLemmas.{is_other}
+use Rattle.md_outline.specs.Outlined.{is_plain}
+use Rattle.markdown_blocks.specs.ContainerKinds.{container_name, shape_of}
+use Rattle.markdown_blocks.proofs.PartedFacts.{Still}
+use Rattle.markdown_blocks.proofs.PlainFacts.{Untold}
+
+-- events with names of prefixes or of containers, none of which begins a chunk
+abbrev pub is_front : Name → Bool
+is_front n.BlockQuote = true
+is_front n.ListItem = true
+is_front n.GfmFootnoteDefinition = true
+is_front name = is_prefix name
+
+pub container-front : (c : Container) → is_front (container_name c) ≡ true
+container-front InQuote = refl
+container-front (InItem digits marker width starts_blank) = refl
+container-front (InFootnote label) = refl
+
+-- and not over the begin or the end of a container, whose name is not that of a prefix
+pub container-prefix : (c : Container) → is_prefix (container_name c) ≡ false
+container-prefix InQuote = refl
+container-prefix (InItem digits marker width starts_blank) = refl
+container-prefix (InFootnote label) = refl
+
+pub begin-stops : (c : Container) (p : Point) (ys : List Event) → content_behind (enter (container_name c) p ∷ ys) ≡ false
+begin-stops InQuote p ys = refl
+begin-stops (InItem digits marker width starts_blank) p ys = refl
+begin-stops (InFootnote label) p ys = refl
+
+pub end-stops : (c : Container) (p : Point) (ys : List Event) → content_behind (exit (container_name c) p ∷ ys) ≡ false
+end-stops c p ys = ap (λ (x : Bool). cond x (content_behind ys) false) (container-prefix c)
+
+-- a container is no text part
+pub container-no_part : (c : Container) → part_kind (container_name c) ≡ None
+container-no_part InQuote = refl
+container-no_part (InItem digits marker width starts_blank) = refl
+container-no_part (InFootnote label) = refl
+
+-- nor a leaf or an ending
+pub container-other : (c : Container) → is_other (on_line (container_name c)) ≡ true
+container-other InQuote = refl
+container-other (InItem digits marker width starts_blank) = refl
+container-other (InFootnote label) = refl
+
+-- no text begins or ends with it
+pub container-still : (c : Container) → Still (role (container_name c))
+container-still InQuote = tt
+container-still (InItem digits marker width starts_blank) = tt
+container-still (InFootnote label) = tt
+
+-- it has a plain name, if an outline shows it
+pub container-untold : (c : Container) → is_plain (Holds (shape_of c)) ≡ true → Untold (role (container_name c))
+container-untold InQuote h = (refl, refl)
+container-untold (InItem digits marker width starts_blank) h = (h, refl)
+container-untold (InFootnote label) h = (h, refl)
+
+-- the names that are open where these containers are, the innermost first
+abbrev pub open_names : List Container → List Name
+open_names [] = []
+open_names (c ∷ cs) = open_names cs ++ container_name c ∷ []
+
+-- the events of a container tell its name by its shape
+abbrev pub shape_name : Shape → Name
+shape_name QuoteShape = n.BlockQuote
+shape_name OrderedShape = n.ListOrdered
+shape_name UnorderedShape = n.ListUnordered
+shape_name (ItemShape marker digits) = n.ListItem
+shape_name (FootnoteShape label) = n.GfmFootnoteDefinition
+
+abbrev pub shape_names : List Shape → List Name
+shape_names [] = []
+shape_names (s ∷ ss) = shape_names ss ++ shape_name s ∷ []
+
+pub name-shape : (c : Container) → container_name c ≡ shape_name (shape_of c)
+name-shape InQuote = refl
+name-shape (InItem digits marker width starts_blank) = refl
+name-shape (InFootnote label) = refl
+
+pub names-shapes : (cs : List Container) → open_names cs ≡ shape_names (map shape_of cs)
+names-shapes [] = refl
+names-shapes (c ∷ cs) = ap (λ (l : List Name). l ++ container_name c ∷ []) (names-shapes cs) ∙ ap (λ (name : Name). shape_names (map shape_of cs) ++ name ∷ []) (name-shape c)

@@ -1,0 +1,32 @@
+-- The resolver of headings passes events in which no heading begins; and none begins in a heading that does not end.
+use Rattle.std.proofs.Common.{◌≡◌, Bool, true, false, cond, List, [], ◌∷◌, ◌++◌, refl, ap, ◌∙◌}
+use Rattle.md_engine.specs.declared.configuration.ParseOptions.{ParseOptions}
+use Rattle.md_engine.specs.declared.event.Event.{Event}
+use Rattle.md_engine.specs.declared.event.Name.{Name}
+use Rattle.md_engine.specs.declared.event.Name.TheVariants as n
+use Rattle.md_engine.specs.declared.event.Point.{Point}
+use Rattle.md_engine.specs.Meaning.{Cell}
+use Rattle.md_leaves.specs.HeadingRule.{heading_inside}
+use Rattle.md_leaves.specs.HeadingText.{Before, Outside, headings_resolved, is_heading, resolved}
+use Rattle.md_seam.specs.Ahead.{line_end}
+use Rattle.md_seam.specs.Events.Nested.{exit}
+use Rattle.markdown_blocks.specs.Leaf.HeadingAtx.{heading_leaf}
+use Rattle.markdown_blocks.specs.Registry.{is_own}
+use Rattle.markdown_blocks.proofs.EachEvent.{each-behind}
+use Rattle.markdown_blocks.proofs.OutsideFacts.{AreOutside, IsNoEnd, NoEnds}
+use Rattle.markdown_blocks.proofs.ContainerNames.{is_front}
+
+pub heading-passes : (xs ys : List Event) → AreOutside xs → headings_resolved (xs ++ ys) ≡ xs ++ headings_resolved ys
+heading-passes [] ys h = refl
+heading-passes (e ∷ xs) ys h = ap (λ (x : Bool). e ∷ resolved (cond x Before Outside) (xs ++ ys)) h.0 ∙ ap (λ (l : List Event). e ∷ l) (heading-passes xs ys h.1)
+
+-- no heading stands in front of a line
+pub front-heading : (name : Name) → is_front name ≡ true → is_heading name ≡ false
+front-heading n.HeadingAtx h = cc
+front-heading _ h = refl
+
+-- a heading that begins on a line ends there too
+pub heading-own : (options : ParseOptions) (cells : List Cell) (p : Point) → NoEnds is_own (heading_leaf.adds options cells p) → AreOutside (heading_leaf.adds options cells p)
+heading-own options cells p h =
+    let bad : true ≡ false = (each-behind (IsNoEnd is_own) (heading_inside options cells p) (exit n.HeadingAtx (line_end cells p) ∷ []) h.1).0 in
+    absurd (cc)

@@ -1,0 +1,40 @@
+-- The trial of a heading takes a line to its end, or refuses it.
+use Rattle.std.proofs.Common.{◌≡◌, ℕ, ◌≤◌, true, false, List, length, sym, ◌∙◌, arith}
+use Rattle.std.specs.Prelude.{not}
+use Rattle.md_engine.specs.declared.configuration.ParseOptions.{ParseOptions}
+use Rattle.md_engine.specs.Meaning.{Cell, Here, Refuses}
+use Rattle.md_leaves.specs.HeadingRule.{before_opening, heading_at, in_heading, is_heading, is_heading_line}
+use Rattle.md_leaves.proofs.HeadingWhole.{heading-refused, heading-taken}
+use Rattle.md_seam.specs.Ahead.{begins_white, line_bytes}
+use Rattle.md_seam.specs.Spaces.{IsRest, small_indent}
+use Rattle.md_seam.proofs.RestCells.{white-length}
+use Rattle.md_seam.proofs.SpacesGoods.{rest-calm}
+use Rattle.markdown_blocks.specs.Leaf.HeadingAtx.{heading_leaf}
+use Rattle.markdown_blocks.proofs.FromEnding.{from_ending-again, from_ending-shrinks}
+use Rattle.markdown_blocks.proofs.LeafLaws.{Shrinks, cond-shrinks, shut_line}
+
+-- a line that holds a heading is taken
+pub trial-took : (options : ParseOptions) (cells : List Cell) (h : Here) → IsRest h.scratch →
+    is_heading_line options cells ≡ true →
+    heading_at options cells h ≡ shut_line (heading_leaf.adds options cells h.point) cells h
+trial-took options cells h is e = heading-taken options cells h (rest-calm h.scratch is ∙ sym is) e
+
+-- any other line is refused
+pub trial-refused : (options : ParseOptions) (cells : List Cell) (h : Here) → IsRest h.scratch →
+    is_heading_line options cells ≡ false →
+    heading_at options cells h ≡ Refuses h.scratch h.flags
+trial-refused options cells h is e = heading-refused options cells h (rest-calm h.scratch is ∙ sym is) e
+
+-- what is left of a line is no longer than it was, and begins with its ending
+before_opening-shrinks : (n : ℕ) (cells : List Cell) (h : Here) → length cells ≤ n → Shrinks n (before_opening cells h)
+unfolding before_opening in_heading
+before_opening-shrinks n cells h le =
+    let shorter = from_ending-shrinks cells in
+    cond-shrinks n (is_heading (line_bytes cells)) _ _ (omega arith, from_ending-again cells) tt
+
+pub trial-shrinks : (options : ParseOptions) (cells : List Cell) (h : Here) →
+    Shrinks (length cells) (heading_at options cells h)
+unfolding heading_at
+trial-shrinks options cells h =
+    cond-shrinks _ (not options.constructs.heading_atx) _ _ tt
+    (cond-shrinks _ (begins_white cells) _ _ (before_opening-shrinks _ _ _ (white-length (small_indent options) cells)) (before_opening-shrinks _ cells _ (omega arith)))

@@ -1,0 +1,86 @@
+-- The bytes of a line: its parts, its ending, and where it stands in a text.
+use Rattle.std.proofs.Common.{◌≡◌, ℕ, suc, ◌+◌, ◌-◌, ◌<◌, ◌≤◌, Bool, true, false, cond, List, [], ◌∷◌, ◌++◌, length, drop, slice_range, refl, ap, sym, ◌∙◌, append-nil, drop-drop, arith}
+use Rattle.std.specs.Prelude.{not}
+use Rattle.std.specs.List.{prefix_len}
+use Rattle.std.proofs.lemmas.List.{take-append-drop}
+use Rattle.std.proofs.lemmas.List.Sums.{take_while-cons}
+use Rattle.md_engine.specs.declared.event.Point.{Point}
+use Rattle.md_seam.specs.Events.Inline.{is_one_line}
+use Rattle.md_seam.specs.Events.Places.{past_byte, past_text}
+use Rattle.md_seam.specs.Standard.Lines.{is_ending, without_ending}
+use Rattle.md_seam.specs.Standard.Rest.{Rest}
+use Rattle.md_seam.specs.Standard.Texts.{split_lines}
+use Rattle.md_seam.proofs.FeedLines.{past_text-whole}
+use Rattle.md_seam.proofs.TextsLemmas.{Both, Ending, EndsBefore, LineFeed, NoEnding, Return, ending_bytes, split-line, split-next}
+use Rattle.markdown_blocks.proofs.LeafFacts.{LineAt}
+
+-- how many bytes pass a test at the front: one more, and none
+pub count-one : (test : ℕ → Bool) (b : ℕ) (bs : List ℕ) → test b ≡ true →
+    prefix_len test (b ∷ bs) ≡ suc (prefix_len test bs)
+count-one test b bs e = ap (λ (t : Bool). cond t (1 + prefix_len test bs) 0) e ∙ omega arith
+
+pub count-none : (test : ℕ → Bool) (b : ℕ) (bs : List ℕ) → test b ≡ false → prefix_len test (b ∷ bs) ≡ 0
+count-none test b bs e = ap (λ (t : Bool). cond t (1 + prefix_len test bs) 0) e
+
+-- the parts of a line without endings have none
+pub no_ending-parts : (xs ys : List ℕ) → NoEnding (xs ++ ys) → NoEnding xs × NoEnding ys
+no_ending-parts [] ys h = (tt, h)
+no_ending-parts (b ∷ xs) ys h = let parts : NoEnding xs × NoEnding ys = no_ending-parts xs ys h.1 in ((h.0, parts.0), parts.1)
+
+-- a line without its ending is that line
+pub without-none : (line : List ℕ) → NoEnding line → without_ending line ≡ line
+without-none [] h = refl
+without-none (b ∷ line) h =
+    take_while-cons (λ (b : ℕ). not (is_ending b)) b line
+    ∙ ap (λ (x : Bool). cond (not x) (b ∷ without_ending line) []) h.0
+    ∙ ap (λ (l : List ℕ). b ∷ l) (without-none line h.1)
+
+pub without-one : (line : List ℕ) (ending : Ending) → NoEnding line →
+    without_ending (line ++ ending_bytes ending) ≡ line
+without-one [] LineFeed h = refl
+without-one [] Return h = refl
+without-one [] Both h = refl
+without-one (b ∷ line) ending h =
+    take_while-cons (λ (b : ℕ). not (is_ending b)) b (line ++ ending_bytes ending)
+    ∙ ap (λ (x : Bool). cond (not x) (b ∷ without_ending (line ++ ending_bytes ending)) []) h.0
+    ∙ ap (λ (l : List ℕ). b ∷ l) (without-one line ending h.1)
+
+-- a line is one line, without its ending and with it
+pub one-last : (line : List ℕ) → 0 < length line → NoEnding line → (ends : Bool) → ends ≡ true →
+    is_one_line (split_lines line) ends ≡ true
+one-last [] some h ends e = absurd (omega arith)
+one-last (b ∷ bs) some h ends e = ap (λ (lines : List (List ℕ)). is_one_line lines ends) (split-line (b ∷ bs) h) ∙ e
+
+pub one-next : (line : List ℕ) (ending : Ending) → NoEnding line → (ends : Bool) →
+    is_one_line (split_lines (line ++ ending_bytes ending)) ends ≡ true
+one-next line ending h ends =
+    ap (λ (l : List ℕ). is_one_line (split_lines l) ends) (sym (append-nil (line ++ ending_bytes ending)))
+    ∙ ap (λ (lines : List (List ℕ)). is_one_line lines ends) (split-next line ending [] h (before ending))
+    ∙ go line
+  where
+    before : (ending : Ending) → EndsBefore ending []
+    before LineFeed = tt
+    before Return = refl
+    before Both = tt
+
+    go : (line : List ℕ) → is_one_line (line ∷ [] ∷ []) ends ≡ true
+    go [] = refl
+    go (b ∷ line) = refl
+
+-- a piece of a text, and what stands behind it
+pub piece : (bytes : List ℕ) (i j : ℕ) → i ≤ j → drop i bytes ≡ slice_range bytes i j ++ drop j bytes
+piece bytes i j le =
+    sym (take-append-drop (j - i) (drop i bytes))
+    ∙ ap (λ (l : List ℕ). slice_range bytes i j ++ l) (drop-drop (j - i) i bytes ∙ ap (λ (k : ℕ). drop k bytes) (omega arith))
+
+-- a line stands there, and what follows behind it
+pub line-stands : (bytes : List ℕ) (r : Rest) (line : List ℕ) (p q : Point) → LineAt bytes r line p q →
+    drop p.index bytes ≡ line ++ drop q.index bytes
+line-stands bytes r line p q is =
+    piece bytes p.index q.index (omega (arith, is.size))
+    ∙ ap (λ (l : List ℕ). l ++ drop q.index bytes) is.text
+
+-- behind some bytes no tab is cut
+pub past-whole : (line : List ℕ) (p : Point) → 0 < length line → (past_text line p).vs ≡ 0
+past-whole [] p h = absurd (omega arith)
+past-whole (b ∷ bs) p h = past_text-whole bs (past_byte b p) refl

@@ -1,0 +1,63 @@
+-- What is known of the events that stand in front of the content of a container on a line, from the point where they begin to the one
+-- where its content does: the frame needs no more of a container.
+use Rattle.std.proofs.Common.{◌≡◌, ◌≢◌, ℕ, true, List, [], ◌∷◌}
+use Rattle.md_engine.specs.declared.event.Event.{Event}
+use Rattle.md_engine.specs.declared.event.Point.{Point}
+use Rattle.md_seam.specs.Standard.State.{Container}
+use Rattle.md_seam.specs.Events.Grammar.{Expression, behind_block, blocks}
+use Rattle.md_seam.specs.Events.Nested.{enter}
+use Rattle.md_seam.specs.Events.Spelled.{Holds}
+use Rattle.md_seam.proofs.SpelledLemmas.{QuietOrPrefix, Roles}
+use Rattle.md_seam.proofs.EndingsLemmas.{AreOthers}
+use Rattle.md_seam.proofs.GrammarLemmas as grammar
+use Rattle.md_outline.specs.Between.{is_between}
+use Rattle.md_outline.specs.Outlined.{is_plain}
+use Rattle.markdown_blocks.specs.ContainerKinds.{container_name, shape_of}
+use Rattle.markdown_blocks.proofs.BetweenFacts.{AreBetween}
+use Rattle.markdown_blocks.proofs.PartsStand.{Inside}
+use Rattle.markdown_blocks.proofs.PiecesLemmas.{Tiled}
+use Rattle.markdown_blocks.proofs.PrefixNames.{AreFront, ArePrefixes, TakesPrefixes}
+use Rattle.markdown_blocks.proofs.SpanLemmas.{Nested_in}
+use Rattle.markdown_blocks.proofs.PieceFacts.{Stood}
+use Rattle.markdown_blocks.proofs.PartedFacts.{clear, PartsText}
+
+-- where it goes on, and where it opens
+pub record PrefixFacts (bytes : List ℕ) (p q : Point) (es : List Event) : Type 0 where
+  -- they nest, go forward, and stay on one line
+  pub nested : Nested_in p q es
+  pub line : q.line ≡ p.line
+  -- they cover what stands there
+  pub tiled : Tiled p q es
+  -- their pieces are over what their names say
+  pub stood : Stood bytes es
+  -- no ending stands in them, and no begin or end of a leaf
+  pub others : AreOthers es
+  -- they begin where no tab of a character is cut
+  pub clear : clear bytes p ≡ true
+  -- they stand between characters, if they begin so
+  pub between : is_between bytes p.index ≡ true → AreBetween bytes es × (is_between bytes q.index ≡ true)
+
+-- where it goes on
+pub record Continues (bytes : List ℕ) (p q : Point) (es : List Event) : Type 0 where
+  pub common : PrefixFacts bytes p q es
+  -- they have names of prefixes
+  pub names : ArePrefixes es
+  -- they keep the grammar, in front of blocks and of a further line of a leaf
+  pub stays : (text x : Expression) → TakesPrefixes x → grammar.Leads text (x ∷ []) (x ∷ []) es
+  -- a text goes on behind them
+  pub parted : PartsText bytes p q es
+  -- they may stand in a text part
+  pub inside : Inside bytes [] es
+
+-- where it opens, behind its begin
+pub record Opens (bytes : List ℕ) (c : Container) (p q : Point) (es : List Event) : Type 0 where
+  pub common : PrefixFacts bytes p q es
+  pub names : AreFront es
+  -- the tree shows none of them
+  pub roles : Roles QuietOrPrefix es
+  -- with the begin of the container, they keep the grammar
+  pub leads : (text : Expression) → grammar.Leads text (blocks ∷ []) (blocks ∷ behind_block ∷ []) (enter (container_name c) p ∷ es)
+  -- an outline shows the container
+  pub shown : is_plain (Holds (shape_of c)) ≡ true
+  -- there are some
+  pub some : es ≢ []

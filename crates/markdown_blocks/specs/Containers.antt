@@ -1,0 +1,2 @@
+-- The containers, each with what the frame asks of it.
+pub mod BlockQuote
