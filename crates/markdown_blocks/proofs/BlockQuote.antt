@@ -3,3 +3,4 @@ pub mod Pieces
 pub mod Parted
 pub mod Grammar
 pub mod Facts
+pub mod Registers

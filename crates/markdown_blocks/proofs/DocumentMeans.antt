@@ -5,6 +5,8 @@ use Rattle.md_engine.specs.declared.configuration.ParseOptions.{ParseOptions}
 use Rattle.md_engine.specs.declared.event.Event.{Event}
 use Rattle.md_engine.specs.declared.state.Name.{Name as StateName}
 use Rattle.md_engine.specs.declared.state.Name.TheVariants as n
+use Rattle.md_engine.specs.declared.state.document.State.{State as DocumentState}
+use Rattle.md_engine.specs.declared.state.document.State.TheVariants as document
 use Rattle.md_engine.specs.declared.state.State.TheVariants.{Next}
 use Rattle.md_engine.specs.declared.tokenizer.Frame.{Frame}
 use Rattle.md_engine.specs.Meaning.{Accepts, Fails, Feed, Outcome, Refuses, Steps, here, resume}
@@ -14,19 +16,20 @@ use Rattle.md_engine.specs.Standing.{MeansAt, StandsOn}
 use Rattle.md_engine.specs.World.{World}
 use Rattle.md_engine.proofs.StepOf.{Sees, begins_only, passes, sees, steps-as}
 use Rattle.md_leaves.specs.BomRule.{HasBom, bom_at}
-use Rattle.md_leaves.proofs.BomSteps.{bom_inside_steps, bom_start_steps}
+use Rattle.md_leaves.proofs.BomSteps.{bom_steps}
 use Rattle.md_seam.proofs.SpacesGoods.{does-stands}
-use Rattle.markdown_blocks.specs.Document.{DocumentStep, document_table_scheme, document_transition, start_transition}
+use Rattle.markdown_blocks.specs.Document.{DocumentStep, document_own_transition, document_table_scheme, document_transition, start_transition}
 use Rattle.markdown_blocks.specs.DocumentRule.{document_behaves}
 use Rattle.markdown_blocks.specs.FlowRule.{tried}
 use Rattle.markdown_blocks.proofs.DocumentStates.{document_does}
 
 has_bom : HasBom document_behaves
-has_bom = record { start = λ _ _. refl; inside = λ _ _. refl }
+has_bom = record { each = λ _ _ _. refl }
 
 -- an attempt at the mark that was begun here
 abbrev frame_here : World → Frame
-frame_here w = record { ok = Next n.DocumentBeforeFrontmatter; nok = Next n.DocumentBeforeFrontmatter; is_check = false; events_len = length w.events; point = w.point }
+frame_here w =
+    record { ok = Next (n.Document document.BeforeFrontmatter); nok = Next (n.Document document.BeforeFrontmatter); is_check = false; events_len = length w.events; point = w.point }
 
 -- what it comes to
 resumed : (feed : Feed) (w : World) (o : Outcome) → tried o (λ rest k. Accepts k rest) (λ s g. Accepts (record (here w) { scratch = s; flags = g }) (feed w.point)) ≡ resume document_behaves feed w.events (frame_here w) o
@@ -36,14 +39,20 @@ resumed feed w (Refuses s g) =
     sym (ap (λ (x : List Event). Accepts (record { events = x; point = w.point; scratch = s; flags = g }) (feed w.point)) back)
 resumed feed w Fails = refl
 
-start_steps : (feed : Feed) (w : World) → Steps document_behaves feed (Next n.DocumentStart) w (start_transition w).to (start_transition w).world
+start_steps : (feed : Feed) (w : World) →
+    Steps document_behaves feed (Next (n.Document document.Start)) w (start_transition w).to (start_transition w).world
 start_steps feed w = begins_only document_behaves feed _ _ w (start_transition w).world (frame_here w) refl refl (resumed feed w (bom_at (feed w.point) (here w)))
 
+front_steps : (feed : Feed) (state : DocumentState) (w : World) →
+    stands document_table_scheme w (Next (n.Document state)) →
+    Steps document_behaves feed (Next (n.Document state)) w (document_own_transition state w).to (document_own_transition state w).world
+front_steps feed document.Start w at = start_steps feed w
+front_steps feed document.BeforeFrontmatter w at = passes document_behaves feed _ _ w w refl refl refl
+front_steps feed state w at = absurd at
+
 document_steps : (feed : Feed) (name : StateName) (w : World) → Sees feed w → stands document_table_scheme w (Next name) → Steps document_behaves feed (Next name) w (document_transition name w).to (document_transition name w).world
-document_steps feed n.BomStart w s at = bom_start_steps document_behaves feed w _ has_bom s at.0 refl
-document_steps feed n.BomInside w s at = bom_inside_steps document_behaves feed w _ _ has_bom s at.0.size refl refl
-document_steps feed n.DocumentStart w s at = start_steps feed w
-document_steps feed n.DocumentBeforeFrontmatter w s at = passes document_behaves feed _ _ w w refl refl refl
+document_steps feed (n.Bom state) w s at = bom_steps document_behaves feed state w _ has_bom s at
+document_steps feed (n.Document state) w s at = front_steps feed state w at
 document_steps feed name w s at = absurd at
 
 -- each state of the document takes one step of what the document means

@@ -1,5 +1,5 @@
 -- What the table of the document has read of a text: its mark.
-use Rattle.std.proofs.Common.{◌≡◌, ◌+◌, ◌^◌, ◌<◌, ◌≤◌, ℕ, suc, Bool, true, false, cond, nat_eq, nat_lt, ◌&&◌, ◌||◌, List, [], ◌∷◌, ◌++◌, length, take, drop, refl, sym, ◌∙◌, ap, subst, arith}
+use Rattle.std.proofs.Common.{◌≡◌, ◌+◌, ◌^◌, ◌<◌, ◌≤◌, ℕ, suc, Bool, true, false, cond, nat_eq, nat_lt, ◌&&◌, ◌||◌, List, [], ◌∷◌, ◌++◌, length, take, drop, Option, Some, None, refl, sym, ◌∙◌, ap, subst, arith}
 use Rattle.std.specs.Prelude.{◌==◌, slice_index}
 use Rattle.std.specs.List.{list_all}
 use Rattle.std.specs.Cmp.Lexicographic.{pointwise}
@@ -11,8 +11,11 @@ use Rattle.md_engine.specs.declared.event.Name.TheVariants.{ByteOrderMark}
 use Rattle.md_engine.specs.declared.event.Point.{Point}
 use Rattle.md_engine.specs.declared.state.Name.{Name as StateName}
 use Rattle.md_engine.specs.declared.state.Name.TheVariants as s
+use Rattle.md_engine.specs.declared.state.bom.State.TheVariants as bom_state
+use Rattle.md_engine.specs.declared.state.document.State.TheVariants as document
 use Rattle.md_engine.specs.declared.state.State.{State}
 use Rattle.md_engine.specs.declared.state.State.TheVariants.{Error, Ok, Nok, Next, Retry}
+use Rattle.md_engine.specs.declared.tokenizer.Container.{Container}
 use Rattle.md_engine.specs.declared.tokenizer.Frame.{Frame}
 use Rattle.md_engine.specs.Found.{Found}
 use Rattle.md_engine.specs.Meaning.{Accepts, Cell, Follows, Here, Outcome, Refuses, comes_to, goes, here}
@@ -21,7 +24,7 @@ use Rattle.md_engine.specs.Run.{Flushes, IsEnd, Resolution, Runs, goes_back, lef
 use Rattle.md_engine.specs.Run.Runs.{Stays, ThenCalls, ThenLeaves}
 use Rattle.md_engine.specs.Scheme.{stands}
 use Rattle.md_engine.specs.TextFeed.{text_feed}
-use Rattle.md_engine.specs.World.{Setting, World, after, fresh, reads_to}
+use Rattle.md_engine.specs.World.{Setting, World, after, closed, fresh, reads_to}
 use Rattle.md_engine.proofs.Keeps.{runs-setting}
 use Rattle.md_engine.proofs.Standing.{runs-mean}
 use Rattle.md_engine.proofs.TextFeed.{flush-means, text-follows}
@@ -34,8 +37,10 @@ use Rattle.md_seam.specs.Standard.Preamble.{has_mark}
 use Rattle.md_seam.specs.Spaces.{is_current}
 use Rattle.markdown_blocks.specs.Document.{DocumentStep, ReadsMark, body_point, document_table_scheme, document_transition, mark_end, mark_events}
 use Rattle.markdown_blocks.specs.DocumentRule.{document_at, document_behaves}
+use Rattle.markdown_blocks.specs.Flow.{existing_before_code, flow_end_code}
 use Rattle.markdown_blocks.specs.FlowReads.{text_cells, text_setting}
 use Rattle.markdown_blocks.specs.FlowRule.{tried}
+use Rattle.markdown_blocks.specs.LineFlags.{next_container, stays}
 use Rattle.markdown_blocks.proofs.DocumentMeans.{document_means, document_stands}
 use Rattle.md_seam.proofs.FeedLines.{feed-next, feed-none, line-feed, past-next}
 use Rattle.md_seam.proofs.PlacesLemmas.{at-next}
@@ -166,11 +171,24 @@ bom-inside w true true = refl
 bom-inside w true false = refl
 bom-inside w false b = refl
 
+existing-resolvers : (w : World) (o : Option Container) → (existing_before_code w o).world.resolvers ≡ w.resolvers
+existing-resolvers w None = refl
+existing-resolvers w (Some c) = refl
+
+end-resolvers : (w : World) (o : Option ℕ) → (flow_end_code w o).world.resolvers ≡ w.resolvers
+end-resolvers w None = refl
+end-resolvers w (Some b) = go (b == 10) refl
+  where
+    go : (x : Bool) → (b == 10) ≡ x → (flow_end_code w (Some b)).world.resolvers ≡ w.resolvers
+    go true e = rw e refl
+    go false e = rw e refl
+
 went-resolvers : (name : StateName) (w : World) → (document_transition name w).world.resolvers ≡ w.resolvers
-went-resolvers s.BomStart w = bom-start w (is_current 239 w.current)
-went-resolvers s.BomInside w = bom-inside w (is_current (mark_at w.scratch.size) w.current) (nat_lt w.scratch.size 2)
-went-resolvers s.DocumentStart w = refl
-went-resolvers s.DocumentBeforeFrontmatter w = refl
+went-resolvers (s.Bom bom_state.Start) w = bom-start w (is_current 239 w.current)
+went-resolvers (s.Bom bom_state.Inside) w =
+    bom-inside w (is_current (mark_at w.scratch.size) w.current) (nat_lt w.scratch.size 2)
+went-resolvers (s.Document document.ContainerExistingBefore) w = existing-resolvers w (next_container w.flags)
+went-resolvers (s.Document document.FlowEnd) w = end-resolvers (closed w (stays w.flags) w.flags.line_end) w.current
 went-resolvers _ w = refl
 
 left-resolvers : (w : World) (outer : List Frame) (f : Frame) (b : Bool) → (left w outer f b).resolvers ≡ w.resolvers
@@ -195,7 +213,8 @@ accepted (Next name) h k rest cells t is = absurd t
 accepted (Retry name) h k rest cells t is = absurd t
 
 document-reads : (R : Resolution) (bytes : List ℕ) (options : ParseOptions) (end : State) (at : World) (found : Found) (new : World) → length bytes < 2 ^ 61 →
-    Runs DocumentStep false (Next s.DocumentStart) (reads_to (fresh bytes options first_point) (length bytes)) end at → Flushes DocumentStep R end at true found new → ReadsMark bytes new
+    Runs DocumentStep false (Next (s.Document document.Start)) (reads_to (fresh bytes options first_point) (length bytes)) end at →
+    Flushes DocumentStep R end at true found new → ReadsMark bytes new
 document-reads R bytes options end at found new small run f =
     record {
       events = ap (λ (w : World). w.events) same ∙ sym (ap (λ (h : Here). h.events) ended);
@@ -209,16 +228,16 @@ document-reads R bytes options end at found new small run f =
     w0 : World
     w0 = reads_to (fresh bytes options first_point) (length bytes)
 
-    stood : stands document_table_scheme w0 (Next s.DocumentStart)
+    stood : stands document_table_scheme w0 (Next (s.Document document.Start))
     stood = (refl, record { ok = λ s q t is up way. tt; nok = λ s q t is up. tt })
 
-    pushed : (comes_to document_behaves (text_feed x) (Next s.DocumentStart) w0 ≡ comes_to document_behaves (text_feed x) end at) × stands document_table_scheme at (plain end)
+    pushed : (comes_to document_behaves (text_feed x) (Next (s.Document document.Start)) w0 ≡ comes_to document_behaves (text_feed x) end at) × stands document_table_scheme at (plain end)
     pushed =
-        runs-mean DocumentStep document_table_scheme options document_behaves false (text_feed x) (Next s.DocumentStart) w0 (document_means options false) document_stands
+        runs-mean DocumentStep document_table_scheme options document_behaves false (text_feed x) (Next (s.Document document.Start)) w0 (document_means options false) document_stands
         (text-follows x (length bytes) false small (omega arith) (λ e. cc)) refl stood end at run
 
     kept : at.setting ≡ x
-    kept = runs-setting DocumentStep false (Next s.DocumentStart) w0 end at run
+    kept = runs-setting DocumentStep false (Next (s.Document document.Start)) w0 end at run
 
     flushed : comes_to document_behaves (text_feed x) end at ≡ goes document_behaves f.end (text_feed x f.at.point) (here f.at)
     flushed =
@@ -233,15 +252,16 @@ document-reads R bytes options end at found new small run f =
         accepted f.end _ (here f.at) front.0 (text_feed x f.at.point) f.ends (sym front.1 ∙ pushed.0 ∙ flushed)
 
     none : f.at.resolvers ≡ []
-    none = runs-resolvers true end at f.end f.at f.runs ∙ runs-resolvers false (Next s.DocumentStart) w0 end at run
+    none = runs-resolvers true end at f.end f.at f.runs ∙ runs-resolvers false (Next (s.Document document.Start)) w0 end at run
 
     same : new ≡ record f.at { resolvers = [] }
     same = (resolved-none R (record f.at { resolvers = [] }) f.at.resolvers found new f.resolved none).1
 
 -- the same for a tokenizer that is known to be fresh
 pub document-reads-from : (R : Resolution) (bytes : List ℕ) (options : ParseOptions) (start : World) (to : ℕ) (end : State) (at : World) (found : Found) (new : World) → start ≡ fresh bytes options first_point → to ≡ length bytes → length bytes < 2 ^ 61 →
-    Runs DocumentStep false (Next s.DocumentStart) (reads_to start to) end at → Flushes DocumentStep R end at true found new → ReadsMark bytes new
+    Runs DocumentStep false (Next (s.Document document.Start)) (reads_to start to) end at →
+    Flushes DocumentStep R end at true found new → ReadsMark bytes new
 document-reads-from R bytes options start to end at found new same all small run f =
-    let P : World → Type 0 = λ w. Runs DocumentStep false (Next s.DocumentStart) (reads_to w (length bytes)) end at in
-    let Q : ℕ → Type 0 = λ n. Runs DocumentStep false (Next s.DocumentStart) (reads_to start n) end at in
+    let P : World → Type 0 = λ w. Runs DocumentStep false (Next (s.Document document.Start)) (reads_to w (length bytes)) end at in
+    let Q : ℕ → Type 0 = λ n. Runs DocumentStep false (Next (s.Document document.Start)) (reads_to start n) end at in
     document-reads R bytes options end at found new small (subst P same (subst Q all run)) f

@@ -1,29 +1,33 @@
 -- Each state of the document keeps what its table needs.
-use Rattle.std.proofs.Common.{◌≡◌, false, length, refl, ap, sym, arith}
+use Rattle.std.proofs.Common.{◌≡◌, false, length, refl, arith}
 use Rattle.md_engine.specs.declared.state.Name.{Name as StateName}
 use Rattle.md_engine.specs.declared.state.Name.TheVariants as n
+use Rattle.md_engine.specs.declared.state.bom.State.TheVariants as bom
+use Rattle.md_engine.specs.declared.state.document.State.{State as DocumentState}
+use Rattle.md_engine.specs.declared.state.document.State.TheVariants as document
 use Rattle.md_engine.specs.declared.state.State.TheVariants.{Next}
 use Rattle.md_engine.specs.Scheme.{after_all, spot, stands}
 use Rattle.md_engine.specs.World.{World, looks}
 use Rattle.md_engine.proofs.Falls.{later_at}
 use Rattle.md_engine.proofs.Local.{accepts, begins_try, fits}
 use Rattle.md_engine.proofs.Points.{stays}
-use Rattle.md_leaves.specs.Bom.{bom_scheme, mark_at}
-use Rattle.md_leaves.proofs.HeadingGoods.{BomFits, good_bom_inside, good_bom_start}
-use Rattle.md_seam.specs.Spaces.{IsRest, is_current, rest_ready}
+use Rattle.md_leaves.specs.Bom.{bom_scheme}
+use Rattle.md_leaves.proofs.BomGoods.{BomFits, bom_does}
+use Rattle.md_seam.specs.Spaces.{IsRest, rest_ready}
 use Rattle.md_seam.proofs.SpacesGoods.{Does}
-use Rattle.markdown_blocks.specs.Document.{document_owner, document_scheme, document_table_scheme, document_transition, start_transition}
+use Rattle.markdown_blocks.specs.Document.{document_own_transition, document_owner, document_scheme, document_table_scheme, document_transition, start_transition}
 
 bom_fits : BomFits document_table_scheme
-bom_fits = record { start = fits document_owner n.BomStart; inside = fits document_owner n.BomInside }
+bom_fits = record { each = λ state. fits document_owner (n.Bom state) }
 
 -- the mark is tried, and what follows is at rest whether it was there or not
-good_start : (w : World) → rest_ready (spot w) (after_all document_table_scheme w.frames) → Does document_table_scheme n.DocumentStart w (start_transition w)
+good_start : (w : World) → rest_ready (spot w) (after_all document_table_scheme w.frames) →
+    Does document_table_scheme (n.Document document.Start) w (start_transition w)
 good_start w r =
-    let behind = fits document_owner n.DocumentBeforeFrontmatter in (
-      begins_try document_table_scheme document_scheme bom_scheme n.DocumentStart n.BomStart w IsRest IsRest w.events w.scratch
-          (record { ok = Next n.DocumentBeforeFrontmatter; nok = Next n.DocumentBeforeFrontmatter; is_check = false; events_len = length w.events; point = w.point })
-          (fits document_owner n.DocumentStart) (fits document_owner n.BomStart) behind behind refl
+    let behind = fits document_owner (n.Document document.BeforeFrontmatter) in (
+      begins_try document_table_scheme document_scheme bom_scheme (n.Document document.Start) (n.Bom bom.Start) w IsRest IsRest w.events w.scratch
+          (record { ok = Next (n.Document document.BeforeFrontmatter); nok = Next (n.Document document.BeforeFrontmatter); is_check = false; events_len = length w.events; point = w.point })
+          (fits document_owner (n.Document document.Start)) (fits document_owner (n.Bom bom.Start)) behind behind refl
           (record {
             ok = λ s q t is up way. (is, later_at _ _ (spot w) (after_all document_table_scheme w.frames) q t s up way r.1);
             ok_level = omega arith;
@@ -35,9 +39,15 @@ good_start w r =
       refl,
     )
 
+-- the states in front of the lines
+front_does : (state : DocumentState) (w : World) → stands document_table_scheme w (Next (n.Document state)) →
+    Does document_table_scheme (n.Document state) w (document_own_transition state w)
+front_does document.Start w r = good_start w r
+front_does document.BeforeFrontmatter w r =
+    (accepts document_table_scheme (n.Document document.BeforeFrontmatter) w _ _ w.events w.scratch r.1 r.0, refl)
+front_does state w r = absurd r
+
 pub document_does : (name : StateName) (w : World) → w.current ≡ looks w → stands document_table_scheme w (Next name) → Does document_table_scheme name w (document_transition name w)
-document_does n.BomStart w c r = good_bom_start document_table_scheme w _ bom_fits r
-document_does n.BomInside w c r = good_bom_inside document_table_scheme w _ _ bom_fits r (ap (is_current (mark_at w.scratch.size)) (sym c)) refl
-document_does n.DocumentStart w c r = good_start w r
-document_does n.DocumentBeforeFrontmatter w c r = (accepts document_table_scheme n.DocumentBeforeFrontmatter w _ _ w.events w.scratch r.1 r.0, refl)
+document_does (n.Bom state) w c r = bom_does document_table_scheme state w bom_fits c r
+document_does (n.Document state) w c r = front_does state w r
 document_does name w c r = absurd r

@@ -7,6 +7,15 @@ use Rattle.md_engine.specs.declared.resolve.Name.{Name as ResolveName}
 use Rattle.md_engine.specs.declared.resolve.Name.TheVariants as r
 use Rattle.md_engine.specs.declared.state.Name.{Name as StateName}
 use Rattle.md_engine.specs.declared.state.Name.TheVariants as n
+use Rattle.md_engine.specs.declared.state.document.State.{State as DocumentState}
+use Rattle.md_engine.specs.declared.state.document.State.TheVariants as document
+use Rattle.md_engine.specs.declared.state.flow.State.{State as FlowState}
+use Rattle.md_engine.specs.declared.state.flow.State.TheVariants as flow
+use Rattle.md_engine.specs.declared.state.blank_line.State.TheVariants as blank_line
+use Rattle.md_engine.specs.declared.state.block_quote.State.TheVariants as block_quote
+use Rattle.md_engine.specs.declared.state.content.State.TheVariants as content
+use Rattle.md_engine.specs.declared.state.heading_atx.State.TheVariants as heading_atx
+use Rattle.md_engine.specs.declared.state.thematic_break.State.TheVariants as thematic_break
 use Rattle.md_engine.specs.declared.state.State.{State}
 use Rattle.md_engine.specs.declared.state.State.TheVariants.{Nok, Next}
 use Rattle.md_engine.specs.declared.tokenizer.Container.{Container}
@@ -21,22 +30,23 @@ use Rattle.md_engine.specs.Standing.{MeansAt, StandsOn}
 use Rattle.md_engine.specs.World.{Flags, World, after, closed}
 use Rattle.md_engine.proofs.StepOf.{Sees, ahead, begins_only, changes, outermost-frames, passes, sees, steps-as}
 use Rattle.md_containers.specs.QuoteRule.{quote_at}
-use Rattle.md_containers.proofs.QuoteSteps.{quote_cont_after_steps, quote_cont_before_steps, quote_cont_start_steps, quote_start_steps}
+use Rattle.md_containers.proofs.QuoteSteps.{quote_steps}
 use Rattle.md_content.specs.ChunkRule.{chunk_at}
-use Rattle.md_content.proofs.ContentSteps.{chunk_inside_steps, chunk_start_steps}
+use Rattle.md_content.proofs.ContentSteps.{chunk_steps}
 use Rattle.md_leaves.specs.BlankRule.{blank_at}
 use Rattle.md_leaves.specs.BreakRule.{break_at}
 use Rattle.md_leaves.specs.HeadingRule.{heading_at}
-use Rattle.md_leaves.proofs.BlankSteps.{blank_after_steps, blank_start_steps}
-use Rattle.md_leaves.proofs.BreakSteps as break
-use Rattle.md_leaves.proofs.HeadingSteps as heading
+use Rattle.md_leaves.proofs.BlankSteps.{blank_steps}
+use Rattle.md_leaves.proofs.BreakSteps.{break_steps}
+use Rattle.md_leaves.proofs.HeadingSteps.{heading_steps}
 use Rattle.md_seam.specs.Ahead.{HasWhite}
 use Rattle.md_seam.specs.Events.Nested.{enter, exit, pair}
 use Rattle.md_seam.specs.Transition.{Transition, entered, exited, taken}
 use Rattle.md_seam.proofs.SpacesGoods.{does-stands}
-use Rattle.md_seam.proofs.WhiteSteps.{white_after_steps, white_inside_steps, white_start_steps}
+use Rattle.md_seam.proofs.WhiteSteps.{white_steps}
+use Rattle.markdown_blocks.specs.Document.{document_own_transition}
 use Rattle.markdown_blocks.specs.Fed.{feeds}
-use Rattle.markdown_blocks.specs.Flow.{after_transition, before_content_transition, before_heading_atx_transition, before_thematic_break_transition, blank_line_after_transition, blank_line_before_transition, containers_after_transition, existing_after_transition, existing_before_code, flow_end_code, flow_end_transition, goes_on_with, new_after_transition, new_before_transition, start_transition}
+use Rattle.markdown_blocks.specs.Flow.{after_transition, before_content_transition, before_heading_atx_transition, before_thematic_break_transition, blank_line_after_transition, blank_line_before_transition, containers_after_transition, existing_after_transition, existing_before_code, flow_end_code, flow_end_transition, flow_own_transition, goes_on_with, new_after_transition, new_before_transition, start_transition}
 use Rattle.markdown_blocks.specs.FlowRule.{HasFlow, Rule, behind_containers, blank_ended, continues_at, ended, ended_to, existing_by, flow_at, flow_behaves, flow_behaves_by, line_ended, line_then, new_of, quote_opened, tried}
 use Rattle.markdown_blocks.specs.LineFlags as flags
 use Rattle.markdown_blocks.specs.LineFlags.{ending_name, next_container, next_line, went_on}
@@ -62,93 +72,116 @@ resumed B feed w ok nok Fails y z a b = refl
 
 -- a container is asked by its own prefix
 asked : (B : Behaviour) (options : ParseOptions) (next : Rule) → HasFlow B options next → (k : ContainerKind) (cells : List Cell) (h : Here) → continues_at options k cells h ≡ B (goes_on_with k) cells h
-asked B options next has kind.BlockQuote cells h = sym (has.quote.cont_start cells h)
+asked B options next has kind.BlockQuote cells h = sym (has.quote.each block_quote.ContStart cells h)
 
 existing_before_steps : (B : Behaviour) (feed : Feed) (w : World) (options : ParseOptions) (next : Rule) (o : Option Container) → HasFlow B options next → next_container w.flags ≡ o →
-    Steps B feed (Next n.DocumentContainerExistingBefore) w (existing_before_code w o).to (existing_before_code w o).world
+    Steps B feed (Next (n.Document document.ContainerExistingBefore)) w (existing_before_code w o).to (existing_before_code w o).world
 existing_before_steps B feed w options next None has e =
     passes B feed _ _ w w refl refl
-    (has.existing_before _ _ ∙ line_by_container options next (feed w.point) (here w)
-    ∙ ap (λ (o : Option Container). existing_by options next (line_then options next) o (feed w.point) (here w)) e ∙ sym (has.new_before _ _))
+    (has.containers document.ContainerExistingBefore _ _ ∙ line_by_container options next (feed w.point) (here w)
+    ∙ ap (λ (o : Option Container). existing_by options next (line_then options next) o (feed w.point) (here w)) e ∙ sym (has.containers document.ContainerNewBefore _ _))
 existing_before_steps B feed w options next (Some c) has e =
-    let f : Frame = frame_here (Next n.DocumentContainerExistingAfter) (Next n.DocumentContainerNewBefore) w in
+    let f : Frame = frame_here (Next (n.Document document.ContainerExistingAfter)) (Next (n.Document document.ContainerNewBefore)) w in
     begins_only B feed _ _ w (existing_before_code w (Some c)).world f refl refl
-    (has.existing_before _ _ ∙ line_by_container options next (feed w.point) (here w)
+    (has.containers document.ContainerExistingBefore _ _ ∙ line_by_container options next (feed w.point) (here w)
     ∙ ap (λ (o : Option Container). existing_by options next (line_then options next) o (feed w.point) (here w)) e
-    ∙ resumed B feed w (Next n.DocumentContainerExistingAfter) (Next n.DocumentContainerNewBefore) (continues_at options c.kind (feed w.point) (here w))
-    (λ rest k. line_then options next rest (record k { flags = went_on k.flags })) (λ s g. new_of options next (feed w.point) (record (here w) { scratch = s; flags = g })) has.existing_after (λ s g. has.new_before _ _)
+    ∙ resumed B feed w (Next (n.Document document.ContainerExistingAfter)) (Next (n.Document document.ContainerNewBefore)) (continues_at options c.kind (feed w.point) (here w))
+    (λ rest k. line_then options next rest (record k { flags = went_on k.flags })) (λ s g. new_of options next (feed w.point) (record (here w) { scratch = s; flags = g })) (has.containers document.ContainerExistingAfter) (λ s g. has.containers document.ContainerNewBefore _ _)
     ∙ ap (resume B feed w.events f) (asked B options next has c.kind _ _))
 
-existing_after_steps : (B : Behaviour) (feed : Feed) (w : World) (options : ParseOptions) (next : Rule) → HasFlow B options next → Steps B feed (Next n.DocumentContainerExistingAfter) w (existing_after_transition w).to (existing_after_transition w).world
-existing_after_steps B feed w options next has = passes B feed _ _ w (existing_after_transition w).world refl refl (has.existing_after _ _ ∙ sym (has.existing_before _ _))
+existing_after_steps : (B : Behaviour) (feed : Feed) (w : World) (options : ParseOptions) (next : Rule) →
+    HasFlow B options next →
+    Steps B feed (Next (n.Document document.ContainerExistingAfter)) w (existing_after_transition w).to (existing_after_transition w).world
+existing_after_steps B feed w options next has =
+    passes B feed _ _ w (existing_after_transition w).world refl refl (has.containers document.ContainerExistingAfter _ _ ∙ sym (has.containers document.ContainerExistingBefore _ _))
 
-new_before_steps : (B : Behaviour) (feed : Feed) (w : World) (options : ParseOptions) (next : Rule) → HasFlow B options next → Steps B feed (Next n.DocumentContainerNewBefore) w (new_before_transition w).to (new_before_transition w).world
+new_before_steps : (B : Behaviour) (feed : Feed) (w : World) (options : ParseOptions) (next : Rule) →
+    HasFlow B options next →
+    Steps B feed (Next (n.Document document.ContainerNewBefore)) w (new_before_transition w).to (new_before_transition w).world
 new_before_steps B feed w options next has =
-    let f : Frame = frame_here (Next n.DocumentContainerNewAfter) (Next n.DocumentContainersAfter) w in
+    let f : Frame = frame_here (Next (n.Document document.ContainerNewAfter)) (Next (n.Document document.ContainersAfter)) w in
     begins_only B feed _ _ w (new_before_transition w).world f refl refl
-    (has.new_before _ _ ∙ new_by_container options next (feed w.point) (here w)
-    ∙ resumed B feed w (Next n.DocumentContainerNewAfter) (Next n.DocumentContainersAfter) (quote_at options (feed w.point) (here w))
-    (λ rest k. new_of options next rest (quote_opened k)) (λ s g. behind_containers options next (feed w.point) (record (here w) { scratch = s; flags = g })) has.new_after (λ s g. has.containers_after _ _)
-    ∙ ap (resume B feed w.events f) (sym (has.quote.start _ _)))
+    (has.containers document.ContainerNewBefore _ _ ∙ new_by_container options next (feed w.point) (here w)
+    ∙ resumed B feed w (Next (n.Document document.ContainerNewAfter)) (Next (n.Document document.ContainersAfter)) (quote_at options (feed w.point) (here w))
+    (λ rest k. new_of options next rest (quote_opened k)) (λ s g. behind_containers options next (feed w.point) (record (here w) { scratch = s; flags = g })) (has.containers document.ContainerNewAfter) (λ s g. has.containers document.ContainersAfter _ _)
+    ∙ ap (resume B feed w.events f) (sym (has.quote.each block_quote.Start _ _)))
 
 -- where containers end no attempt is around, so none goes back to events before these ends
-new_after_steps : (B : Behaviour) (feed : Feed) (w : World) (options : ParseOptions) (next : Rule) → HasFlow B options next → w.frames ≡ [] → Steps B feed (Next n.DocumentContainerNewAfter) w (new_after_transition w).to (new_after_transition w).world
-new_after_steps B feed w options next has none = changes B feed _ _ w (new_after_transition w).world none none (has.new_after _ _ ∙ sym (has.new_before _ _))
+new_after_steps : (B : Behaviour) (feed : Feed) (w : World) (options : ParseOptions) (next : Rule) →
+    HasFlow B options next → w.frames ≡ [] →
+    Steps B feed (Next (n.Document document.ContainerNewAfter)) w (new_after_transition w).to (new_after_transition w).world
+new_after_steps B feed w options next has none =
+    changes B feed _ _ w (new_after_transition w).world none none (has.containers document.ContainerNewAfter _ _ ∙ sym (has.containers document.ContainerNewBefore _ _))
 
-containers_after_steps : (B : Behaviour) (feed : Feed) (w : World) (options : ParseOptions) (next : Rule) → HasFlow B options next → Steps B feed (Next n.DocumentContainersAfter) w (containers_after_transition w).to (containers_after_transition w).world
-containers_after_steps B feed w options next has = passes B feed _ _ w (containers_after_transition w).world refl refl (has.containers_after _ _ ∙ sym (has.start _ _))
+containers_after_steps : (B : Behaviour) (feed : Feed) (w : World) (options : ParseOptions) (next : Rule) →
+    HasFlow B options next →
+    Steps B feed (Next (n.Document document.ContainersAfter)) w (containers_after_transition w).to (containers_after_transition w).world
+containers_after_steps B feed w options next has =
+    passes B feed _ _ w (containers_after_transition w).world refl refl (has.containers document.ContainersAfter _ _ ∙ sym (has.leaves flow.Start _ _))
 
 -- The leaf of a line.
 
-start_steps : (B : Behaviour) (feed : Feed) (w : World) (options : ParseOptions) (next : Rule) → HasFlow B options next → Steps B feed (Next n.FlowStart) w (start_transition w).to (start_transition w).world
-start_steps B feed w options next has = passes B feed _ _ w w refl refl (has.start _ _ ∙ sym (has.blank_line_before _ _))
+start_steps : (B : Behaviour) (feed : Feed) (w : World) (options : ParseOptions) (next : Rule) →
+    HasFlow B options next →
+    Steps B feed (Next (n.Flow flow.Start)) w (start_transition w).to (start_transition w).world
+start_steps B feed w options next has =
+    passes B feed _ _ w w refl refl (has.leaves flow.Start _ _ ∙ sym (has.leaves flow.BlankLineBefore _ _))
 
 blank_line_before_steps : (B : Behaviour) (feed : Feed) (w : World) (options : ParseOptions) (next : Rule) → HasFlow B options next →
-    Steps B feed (Next n.FlowBlankLineBefore) w (blank_line_before_transition w).to (blank_line_before_transition w).world
+    Steps B feed (Next (n.Flow flow.BlankLineBefore)) w (blank_line_before_transition w).to (blank_line_before_transition w).world
 blank_line_before_steps B feed w options next has =
-    let f : Frame = frame_here (Next n.FlowBlankLineAfter) (Next n.FlowBeforeHeadingAtx) w in
+    let f : Frame = frame_here (Next (n.Flow flow.BlankLineAfter)) (Next (n.Flow flow.BeforeHeadingAtx)) w in
     begins_only B feed _ _ w (blank_line_before_transition w).world f refl refl
-    (has.blank_line_before _ _
-    ∙ resumed B feed w (Next n.FlowBlankLineAfter) (Next n.FlowBeforeHeadingAtx) (blank_at (feed w.point) (here w)) (blank_ended next) _ has.blank_line_after (λ s g. has.before_heading_atx _ _)
-    ∙ ap (resume B feed w.events f) (sym (has.blank.start _ _)))
+    (has.leaves flow.BlankLineBefore _ _
+    ∙ resumed B feed w (Next (n.Flow flow.BlankLineAfter)) (Next (n.Flow flow.BeforeHeadingAtx)) (blank_at (feed w.point) (here w)) (blank_ended next) _ (has.leaves flow.BlankLineAfter) (λ s g. has.leaves flow.BeforeHeadingAtx _ _)
+    ∙ ap (resume B feed w.events f) (sym (has.blank.each blank_line.Start _ _)))
 
 before_heading_atx_steps : (B : Behaviour) (feed : Feed) (w : World) (options : ParseOptions) (next : Rule) → HasFlow B options next →
-    Steps B feed (Next n.FlowBeforeHeadingAtx) w (before_heading_atx_transition w).to (before_heading_atx_transition w).world
+    Steps B feed (Next (n.Flow flow.BeforeHeadingAtx)) w (before_heading_atx_transition w).to (before_heading_atx_transition w).world
 before_heading_atx_steps B feed w options next has =
-    let f : Frame = frame_here (Next n.FlowAfter) (Next n.FlowBeforeThematicBreak) w in
+    let f : Frame = frame_here (Next (n.Flow flow.After)) (Next (n.Flow flow.BeforeThematicBreak)) w in
     begins_only B feed _ _ w (before_heading_atx_transition w).world f refl refl
-    (has.before_heading_atx _ _
-    ∙ resumed B feed w (Next n.FlowAfter) (Next n.FlowBeforeThematicBreak) (heading_at options (feed w.point) (here w)) (line_ended next) _ has.behind (λ s g. has.before_thematic_break _ _)
-    ∙ ap (resume B feed w.events f) (sym (has.heading.start _ _)))
+    (has.leaves flow.BeforeHeadingAtx _ _
+    ∙ resumed B feed w (Next (n.Flow flow.After)) (Next (n.Flow flow.BeforeThematicBreak)) (heading_at options (feed w.point) (here w)) (line_ended next) _ (has.leaves flow.After) (λ s g. has.leaves flow.BeforeThematicBreak _ _)
+    ∙ ap (resume B feed w.events f) (sym (has.heading.each heading_atx.Start _ _)))
 
 before_thematic_break_steps : (B : Behaviour) (feed : Feed) (w : World) (options : ParseOptions) (next : Rule) → HasFlow B options next →
-    Steps B feed (Next n.FlowBeforeThematicBreak) w (before_thematic_break_transition w).to (before_thematic_break_transition w).world
+    Steps B feed (Next (n.Flow flow.BeforeThematicBreak)) w (before_thematic_break_transition w).to (before_thematic_break_transition w).world
 before_thematic_break_steps B feed w options next has =
-    let f : Frame = frame_here (Next n.FlowAfter) (Next n.FlowBeforeContent) w in
+    let f : Frame = frame_here (Next (n.Flow flow.After)) (Next (n.Flow flow.BeforeContent)) w in
     begins_only B feed _ _ w (before_thematic_break_transition w).world f refl refl
-    (has.before_thematic_break _ _
-    ∙ resumed B feed w (Next n.FlowAfter) (Next n.FlowBeforeContent) (break_at options (feed w.point) (here w)) (line_ended next) _ has.behind (λ s g. has.before_content _ _)
-    ∙ ap (resume B feed w.events f) (sym (has.break.start _ _)))
+    (has.leaves flow.BeforeThematicBreak _ _
+    ∙ resumed B feed w (Next (n.Flow flow.After)) (Next (n.Flow flow.BeforeContent)) (break_at options (feed w.point) (here w)) (line_ended next) _ (has.leaves flow.After) (λ s g. has.leaves flow.BeforeContent _ _)
+    ∙ ap (resume B feed w.events f) (sym (has.break.each thematic_break.Start _ _)))
 
-before_content_steps : (B : Behaviour) (feed : Feed) (w : World) (options : ParseOptions) (next : Rule) → HasFlow B options next → Steps B feed (Next n.FlowBeforeContent) w (before_content_transition w).to (before_content_transition w).world
+before_content_steps : (B : Behaviour) (feed : Feed) (w : World) (options : ParseOptions) (next : Rule) →
+    HasFlow B options next →
+    Steps B feed (Next (n.Flow flow.BeforeContent)) w (before_content_transition w).to (before_content_transition w).world
 before_content_steps B feed w options next has =
-    let f : Frame = frame_here (Next n.FlowAfter) Nok w in
+    let f : Frame = frame_here (Next (n.Flow flow.After)) Nok w in
     begins_only B feed _ _ w (before_content_transition w).world f refl refl
-    (has.before_content _ _
-    ∙ resumed B feed w (Next n.FlowAfter) Nok (chunk_at (feed w.point) (here w)) (line_ended next) Refuses has.behind (λ s g. refl)
-    ∙ ap (resume B feed w.events f) (sym (has.chunk.start _ _)))
+    (has.leaves flow.BeforeContent _ _
+    ∙ resumed B feed w (Next (n.Flow flow.After)) Nok (chunk_at (feed w.point) (here w)) (line_ended next) Refuses (has.leaves flow.After) (λ s g. refl)
+    ∙ ap (resume B feed w.events f) (sym (has.chunk.each content.ChunkStart _ _)))
 
-blank_line_after_steps : (B : Behaviour) (feed : Feed) (w : World) (options : ParseOptions) (next : Rule) → HasFlow B options next → Steps B feed (Next n.FlowBlankLineAfter) w (blank_line_after_transition w).to (blank_line_after_transition w).world
-blank_line_after_steps B feed w options next has = passes B feed _ _ w (blank_line_after_transition w).world refl refl (has.blank_line_after _ _ ∙ sym (has.flow_end _ _))
+blank_line_after_steps : (B : Behaviour) (feed : Feed) (w : World) (options : ParseOptions) (next : Rule) →
+    HasFlow B options next →
+    Steps B feed (Next (n.Flow flow.BlankLineAfter)) w (blank_line_after_transition w).to (blank_line_after_transition w).world
+blank_line_after_steps B feed w options next has =
+    passes B feed _ _ w (blank_line_after_transition w).world refl refl (has.leaves flow.BlankLineAfter _ _ ∙ sym (has.containers document.FlowEnd _ _))
 
-after_steps : (B : Behaviour) (feed : Feed) (w : World) (options : ParseOptions) (next : Rule) → HasFlow B options next → Steps B feed (Next n.FlowAfter) w (after_transition w).to (after_transition w).world
-after_steps B feed w options next has = passes B feed _ _ w w refl refl (has.behind _ _ ∙ sym (has.flow_end _ _))
+after_steps : (B : Behaviour) (feed : Feed) (w : World) (options : ParseOptions) (next : Rule) →
+    HasFlow B options next →
+    Steps B feed (Next (n.Flow flow.After)) w (after_transition w).to (after_transition w).world
+after_steps B feed w options next has =
+    passes B feed _ _ w w refl refl (has.leaves flow.After _ _ ∙ sym (has.containers document.FlowEnd _ _))
 
 -- The end of a line.
 
 -- either no ending is taken, or the state behind it means what the rule does
 abbrev GoesOn : Behaviour → Rule → ℕ → Type 0
-GoesOn B next size = (size ≡ 0) ⊎ ((cells : List Cell) (h : Here) → next cells h ≡ B n.DocumentContainerExistingBefore cells h)
+GoesOn B next size =
+    (size ≡ 0) ⊎ ((cells : List Cell) (h : Here) → next cells h ≡ B (n.Document document.ContainerExistingBefore) cells h)
 
 -- behind an ending that is taken here
 abbrev behind_ending : World → World
@@ -163,48 +196,71 @@ ending_left feed v next b e =
     rw e (ap (λ (x : List Event). next (feed q) (record { events = x; point = q; scratch = v.scratch; flags = next_line (length v.events) v.flags })) (sym split))
 
 -- where containers ended that did not go on
-flow_end_code_steps : (B : Behaviour) (feed : Feed) (w v : World) (options : ParseOptions) (next : Rule) (o : Option ℕ) → HasFlow B options next → w.frames ≡ [] → v.frames ≡ [] → feed v.point ≡ ahead feed v o → GoesOn B next (feeds n.DocumentFlowEnd o) →
-    goes B (Next n.DocumentFlowEnd) (feed w.point) (here w) ≡ ended next (ahead feed v o) (here v) →
-    Steps B feed (Next n.DocumentFlowEnd) w (flow_end_code v o).to (flow_end_code v o).world
+flow_end_code_steps : (B : Behaviour) (feed : Feed) (w v : World) (options : ParseOptions) (next : Rule) (o : Option ℕ) →
+    HasFlow B options next → w.frames ≡ [] → v.frames ≡ [] → feed v.point ≡ ahead feed v o →
+    GoesOn B next (feeds (n.Document document.FlowEnd) o) →
+    goes B (Next (n.Document document.FlowEnd)) (feed w.point) (here w) ≡ ended next (ahead feed v o) (here v) →
+    Steps B feed (Next (n.Document document.FlowEnd)) w (flow_end_code v o).to (flow_end_code v o).world
 flow_end_code_steps B feed w v options next None has none also sees on is =
     changes B feed _ _ w (flow_end_code v None).world none also (is ∙ ap (Accepts (ended_to 0 (length v.events) (here v))) (sym sees))
 flow_end_code_steps B feed w v options next (Some b) has none also sees on is = go (nat_eq b 10) refl on
   where
-    go : (x : Bool) → nat_eq b 10 ≡ x → GoesOn B next (cond x 1 0) → Steps B feed (Next n.DocumentFlowEnd) w (flow_end_code v (Some b)).to (flow_end_code v (Some b)).world
+    go : (x : Bool) → nat_eq b 10 ≡ x → GoesOn B next (cond x 1 0) → Steps B feed (Next (n.Document document.FlowEnd)) w (flow_end_code v (Some b)).to (flow_end_code v (Some b)).world
     go true e (inl none_fed) = absurd (omega (arith, none_fed))
     go true e (inr meets) =
-        rw e (changes B feed _ (Next n.DocumentContainerExistingBefore) w (behind_ending v) none also (is ∙ ending_left feed v next b e ∙ meets _ _))
+        rw e (changes B feed _ (Next (n.Document document.ContainerExistingBefore)) w (behind_ending v) none also (is ∙ ending_left feed v next b e ∙ meets _ _))
     go false e on = rw e (changes B feed _ Nok w v none also (is ∙ rw e refl))
 
-flow_end_steps : (B : Behaviour) (feed : Feed) (w : World) (options : ParseOptions) (next : Rule) → HasFlow B options next → Sees feed w → w.frames ≡ [] → GoesOn B next (feeds n.DocumentFlowEnd w.current) →
-    Steps B feed (Next n.DocumentFlowEnd) w (flow_end_transition w).to (flow_end_transition w).world
+flow_end_steps : (B : Behaviour) (feed : Feed) (w : World) (options : ParseOptions) (next : Rule) →
+    HasFlow B options next → Sees feed w → w.frames ≡ [] →
+    GoesOn B next (feeds (n.Document document.FlowEnd) w.current) →
+    Steps B feed (Next (n.Document document.FlowEnd)) w (flow_end_transition w).to (flow_end_transition w).world
 flow_end_steps B feed w options next has s none on =
-    flow_end_code_steps B feed w (closed w (flags.stays w.flags) w.flags.line_end) options next w.current has none none s.next on (has.flow_end _ _ ∙ ap (λ (x : List Cell). line_ended next x (here w)) s.next)
+    flow_end_code_steps B feed w (closed w (flags.stays w.flags) w.flags.line_end) options next w.current has none none s.next on (has.containers document.FlowEnd _ _ ∙ ap (λ (x : List Cell). line_ended next x (here w)) s.next)
 
 flow_has : (options : ParseOptions) (next : Rule) → HasFlow (flow_behaves_by options next) options next
 flow_has options next = record {
-  blank = record { white = white; start = λ _ _. refl; behind = λ _ _. refl };
-  heading = record { white = white; start = λ _ _. refl; before = λ _ _. refl; sequence_open = λ _ _. refl; at_break = λ _ _. refl; sequence_further = λ _ _. refl; text = λ _ _. refl };
-  break = record { white = white; start = λ _ _. refl; before = λ _ _. refl; at_break = λ _ _. refl; sequence = λ _ _. refl };
-  chunk = record { start = λ _ _. refl; inside = λ _ _. refl };
-  quote = record { white = white; start = λ _ _. refl; cont_start = λ _ _. refl; cont_before = λ _ _. refl; cont_after = λ _ _. refl };
-  existing_before = λ _ _. refl;
-  existing_after = λ _ _. refl;
-  new_before = λ _ _. refl;
-  new_after = λ _ _. refl;
-  containers_after = λ _ _. refl;
-  start = λ _ _. refl;
-  blank_line_before = λ _ _. refl;
-  blank_line_after = λ _ _. refl;
-  before_heading_atx = λ _ _. refl;
-  before_thematic_break = λ _ _. refl;
-  before_content = λ _ _. refl;
-  behind = λ _ _. refl;
-  flow_end = λ _ _. refl;
+  blank = record { white = white; each = λ _ _ _. refl };
+  heading = record { white = white; each = λ _ _ _. refl };
+  break = record { white = white; each = λ _ _ _. refl };
+  chunk = record { each = λ _ _ _. refl };
+  quote = record { white = white; each = λ _ _ _. refl };
+  containers = λ _ _ _. refl;
+  leaves = λ _ _ _. refl;
 }
   where
     white : HasWhite (flow_behaves_by options next)
-    white = record { start = λ _ _. refl; inside = λ _ _. refl; behind = λ _ _. refl }
+    white = record { each = λ _ _ _. refl }
+
+-- the states between the containers of a line
+containers_steps : (B : Behaviour) (feed : Feed) (next : Rule) (state : DocumentState) (w : World) →
+    HasFlow B w.setting.options next → Sees feed w →
+    stands flow_table_scheme w (Next (n.Document state)) → GoesOn B next (feeds (n.Document state) w.current) →
+    Steps B feed (Next (n.Document state)) w (document_own_transition state w).to (document_own_transition state w).world
+containers_steps B feed next document.ContainerExistingBefore w has s at on =
+    existing_before_steps B feed w _ _ _ has refl
+containers_steps B feed next document.ContainerExistingAfter w has s at on = existing_after_steps B feed w _ _ has
+containers_steps B feed next document.ContainerNewBefore w has s at on = new_before_steps B feed w _ _ has
+containers_steps B feed next document.ContainerNewAfter w has s at on =
+    new_after_steps B feed w _ _ has (outermost-frames flow_table_scheme w.frames at.1)
+containers_steps B feed next document.ContainersAfter w has s at on = containers_after_steps B feed w _ _ has
+containers_steps B feed next document.FlowEnd w has s at on =
+    flow_end_steps B feed w _ _ has s (outermost-frames flow_table_scheme w.frames at.1) on
+containers_steps B feed next state w has s at on = absurd at
+
+-- the states in front of a leaf, and behind it
+leaves_steps : (B : Behaviour) (feed : Feed) (next : Rule) (state : FlowState) (w : World) →
+    HasFlow B w.setting.options next →
+    stands flow_table_scheme w (Next (n.Flow state)) →
+    Steps B feed (Next (n.Flow state)) w (flow_own_transition state w).to (flow_own_transition state w).world
+leaves_steps B feed next flow.Start w has at = start_steps B feed w _ _ has
+leaves_steps B feed next flow.BlankLineBefore w has at = blank_line_before_steps B feed w _ _ has
+leaves_steps B feed next flow.BeforeHeadingAtx w has at = before_heading_atx_steps B feed w _ _ has
+leaves_steps B feed next flow.BeforeThematicBreak w has at = before_thematic_break_steps B feed w _ _ has
+leaves_steps B feed next flow.BeforeContent w has at = before_content_steps B feed w _ _ has
+leaves_steps B feed next flow.BlankLineAfter w has at = blank_line_after_steps B feed w _ _ has
+leaves_steps B feed next flow.After w has at = after_steps B feed w _ _ has
+leaves_steps B feed next state w has at = absurd at
 
 -- each state takes one step of what it means
 each_steps : (is_name : ResolveName → ResolveName → Bool) (feed : Feed) (next : Rule) (name : StateName) (w : World) → Sees feed w → stands flow_table_scheme w (Next name) →
@@ -219,40 +275,14 @@ each_steps is_name feed next name w s at on = go name at on
     has = flow_has w.setting.options next
 
     go : (name : StateName) → stands flow_table_scheme w (Next name) → GoesOn B next (feeds name w.current) → Steps B feed (Next name) w (flow_transition is_name name w).to (flow_transition is_name name w).world
-    go n.BlankLineStart at on = blank_start_steps B feed w _ has.blank s at.0 refl
-    go n.BlankLineAfter at on = blank_after_steps B feed w _ has.blank s refl
-    go n.BlockQuoteStart at on = quote_start_steps B feed w _ has.quote refl
-    go n.BlockQuoteContStart at on = quote_cont_start_steps B feed w _ has.quote s refl
-    go n.BlockQuoteContBefore at on = quote_cont_before_steps B _ feed w _ has.quote s refl
-    go n.BlockQuoteContAfter at on = quote_cont_after_steps B _ feed w _ has.quote s refl
-    go n.ContentChunkStart at on = chunk_start_steps B feed w has.chunk
-    go n.ContentChunkInside at on = chunk_inside_steps B feed (is_name r.Content) w _ has.chunk s refl
-    go n.DocumentContainerExistingBefore at on = existing_before_steps B feed w _ _ _ has refl
-    go n.DocumentContainerExistingAfter at on = existing_after_steps B feed w _ _ has
-    go n.DocumentContainerNewBefore at on = new_before_steps B feed w _ _ has
-    go n.DocumentContainerNewAfter at on = new_after_steps B feed w _ _ has (outermost-frames flow_table_scheme w.frames at.1)
-    go n.DocumentContainersAfter at on = containers_after_steps B feed w _ _ has
-    go n.DocumentFlowEnd at on = flow_end_steps B feed w _ _ has s (outermost-frames flow_table_scheme w.frames at.1) on
-    go n.FlowStart at on = start_steps B feed w _ _ has
-    go n.FlowBlankLineBefore at on = blank_line_before_steps B feed w _ _ has
-    go n.FlowBeforeHeadingAtx at on = before_heading_atx_steps B feed w _ _ has
-    go n.FlowBeforeThematicBreak at on = before_thematic_break_steps B feed w _ _ has
-    go n.FlowBeforeContent at on = before_content_steps B feed w _ _ has
-    go n.FlowBlankLineAfter at on = blank_line_after_steps B feed w _ _ has
-    go n.FlowAfter at on = after_steps B feed w _ _ has
-    go n.HeadingAtxStart at on = heading.heading_start_steps B feed w _ _ has.heading s refl refl
-    go n.HeadingAtxBefore at on = heading.heading_before_steps B _ feed w _ has.heading s at.0 refl
-    go n.HeadingAtxSequenceOpen at on = heading.sequence_open_steps B _ feed w _ _ _ has.heading s at.0.rest at.0.size refl refl refl
-    go n.HeadingAtxAtBreak at on = heading.heading_at_break_steps B _ feed (is_name r.HeadingAtx) w _ _ _ has.heading s refl refl refl
-    go n.HeadingAtxSequenceFurther at on = heading.sequence_further_steps B _ feed w _ _ has.heading s at.0 refl refl
-    go n.HeadingAtxData at on = heading.data_steps B _ feed w _ _ has.heading s at.0 refl refl
-    go n.SpaceOrTabStart at on = white_start_steps B feed w _ has.blank.white s refl
-    go n.SpaceOrTabInside at on = white_inside_steps B feed w _ _ has.blank.white s refl refl
-    go n.SpaceOrTabAfter at on = white_after_steps B feed w _ has.blank.white refl
-    go n.ThematicBreakStart at on = break.start_steps B feed w _ _ has.break s refl refl
-    go n.ThematicBreakBefore at on = break.before_steps B _ feed w has.break s at.0
-    go n.ThematicBreakAtBreak at on = break.at_break_steps B _ feed w _ _ has.break s at.0.marker refl refl
-    go n.ThematicBreakSequence at on = break.sequence_steps B _ feed w _ _ has.break s at.0.rest at.0.marker refl refl
+    go (n.BlankLine state) at on = blank_steps B feed state w has.blank s at.0
+    go (n.BlockQuote state) at on = quote_steps B feed state w has.quote s
+    go (n.Content state) at on = chunk_steps B feed (is_name r.Content) state w has.chunk s
+    go (n.Document state) at on = containers_steps B feed next state w has s at on
+    go (n.Flow state) at on = leaves_steps B feed next state w has at
+    go (n.HeadingAtx state) at on = heading_steps B feed (is_name r.HeadingAtx) state w _ has.heading s at
+    go (n.SpaceOrTab state) at on = white_steps B feed state w has.blank.white s
+    go (n.ThematicBreak state) at on = break_steps B feed state w _ has.break s at
     go name at on = absurd at
 
 -- whatever follows behind the line, a call that takes no ending is one step of what flow means
@@ -263,12 +293,13 @@ flow-steps-by is_name feed next name w s at none = each_steps is_name feed next 
 -- an ending is taken with no attempt around, and then the rule goes on
 pub record Takes (next : Rule) (feed : Feed) (w : World) (to : State) (new : World) : Type 0 where
   pub frames : w.frames ≡ []
-  pub to_is : to ≡ Next n.DocumentContainerExistingBefore
+  pub to_is : to ≡ Next (n.Document document.ContainerExistingBefore)
   pub still : new.frames ≡ []
-  pub goes_on : goes (flow_behaves_by w.setting.options next) (Next n.DocumentFlowEnd) (feed w.point) (here w) ≡ next (feed new.point) (here new)
+  pub goes_on : goes (flow_behaves_by w.setting.options next) (Next (n.Document document.FlowEnd)) (feed w.point) (here w) ≡ next (feed new.point) (here new)
 
-pub ending-taken : (is_name : ResolveName → ResolveName → Bool) (feed : Feed) (next : Rule) (w : World) → Sees feed w → stands flow_table_scheme w (Next n.DocumentFlowEnd) → w.current ≡ Some 10 →
-    Takes next feed w (flow_transition is_name n.DocumentFlowEnd w).to (flow_transition is_name n.DocumentFlowEnd w).world
+pub ending-taken : (is_name : ResolveName → ResolveName → Bool) (feed : Feed) (next : Rule) (w : World) → Sees feed w →
+    stands flow_table_scheme w (Next (n.Document document.FlowEnd)) → w.current ≡ Some 10 →
+    Takes next feed w (flow_transition is_name (n.Document document.FlowEnd) w).to (flow_transition is_name (n.Document document.FlowEnd) w).world
 ending-taken is_name feed next w s at is = subst P (sym (ap (flow_end_code v) is)) taken_here
   where
     v : World
@@ -280,7 +311,7 @@ ending-taken is_name feed next w s at is = subst P (sym (ap (flow_end_code v) is
     none : w.frames ≡ []
     none = outermost-frames flow_table_scheme w.frames at.1
 
-    taken_here : Takes next feed w (Next n.DocumentContainerExistingBefore) (behind_ending v)
+    taken_here : Takes next feed w (Next (n.Document document.ContainerExistingBefore)) (behind_ending v)
     taken_here = record {
       frames = none;
       to_is = refl;

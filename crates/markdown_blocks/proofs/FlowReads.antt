@@ -8,6 +8,7 @@ use Rattle.md_engine.specs.declared.event.Point.{Point}
 use Rattle.md_engine.specs.declared.resolve.Name.{Name as ResolveName}
 use Rattle.md_engine.specs.declared.resolve.Name.TheVariants as r
 use Rattle.md_engine.specs.declared.state.Name.TheVariants as s
+use Rattle.md_engine.specs.declared.state.document.State.TheVariants as document
 use Rattle.md_engine.specs.declared.state.State.{State}
 use Rattle.md_engine.specs.declared.state.State.TheVariants.{Error, Ok, Nok, Next, Retry}
 use Rattle.md_engine.specs.declared.tokenizer.Frame.{Frame}
@@ -189,23 +190,23 @@ own-step false at was found new outside h = (h.0, h.1 ∙ ap (λ (l : List Event
 
 -- what flow has read of a text from a point on, once all of it was pushed and flushed
 pub flow-reads : (bytes : List ℕ) (options : ParseOptions) (p : Point) (end : State) (at : World) (found : Found) (new : World) → length bytes < 2 ^ 61 →
-    Runs (FlowStep same_name) false (Next s.DocumentContainerExistingBefore) (reads_to (fresh bytes options p) (length bytes)) end at →
+    Runs (FlowStep same_name) false (Next (s.Document document.ContainerExistingBefore)) (reads_to (fresh bytes options p) (length bytes)) end at →
     Flushes (FlowStep same_name) resolved_as end at true found new →
     FlowReads bytes options p found new
 flow-reads bytes options p end at found new small run f =
-    go (runs-register true end at (runs-register false (Next s.DocumentContainerExistingBefore) (reads_to w0 (length bytes)) none-yet end at run) f.end f.at f.runs)
+    go (runs-register true end at (runs-register false (Next (s.Document document.ContainerExistingBefore)) (reads_to w0 (length bytes)) none-yet end at run) f.end f.at f.runs)
   where
     w0 : World
     w0 = fresh bytes options p
 
-    begun : stands flow_table_scheme (reads_to (fresh bytes options p) (length bytes)) (Next s.DocumentContainerExistingBefore)
+    begun : stands flow_table_scheme (reads_to (fresh bytes options p) (length bytes)) (Next (s.Document document.ContainerExistingBefore))
     begun = ((refl, record { ok = λ s q t is up way. tt; nok = λ s q t is up. tt }), tt)
 
-    pushed : (comes_to (flow_behaves options) (text_feed (text_setting bytes options p)) (Next s.DocumentContainerExistingBefore) (fresh bytes options p) ≡ comes_to (flow_behaves options) (text_feed (text_setting bytes options p)) end at) × stands flow_table_scheme at (plain end)
-    pushed = flow_push same_name (Next s.DocumentContainerExistingBefore) end (fresh bytes options p) at (length bytes) (length bytes) small (omega arith) begun run
+    pushed : (comes_to (flow_behaves options) (text_feed (text_setting bytes options p)) (Next (s.Document document.ContainerExistingBefore)) (fresh bytes options p) ≡ comes_to (flow_behaves options) (text_feed (text_setting bytes options p)) end at) × stands flow_table_scheme at (plain end)
+    pushed = flow_push same_name (Next (s.Document document.ContainerExistingBefore)) end (fresh bytes options p) at (length bytes) (length bytes) small (omega arith) begun run
 
     kept : at.setting ≡ text_setting bytes options p
-    kept = runs-setting (FlowStep same_name) false (Next s.DocumentContainerExistingBefore) (reads_to (fresh bytes options p) (length bytes)) end at run
+    kept = runs-setting (FlowStep same_name) false (Next (s.Document document.ContainerExistingBefore)) (reads_to (fresh bytes options p) (length bytes)) end at run
 
     limit : at.setting.limit < 2 ^ 61
     limit = let P : Setting → Type 0 = λ y. y.limit < 2 ^ 61 in subst P (sym kept) small
@@ -235,7 +236,7 @@ flow-reads bytes options p end at found new small run f =
         let comes : goes (flow_behaves at.setting.options) f.end (text_feed at.setting f.at.point) (here f.at) ≡ Accepts (here f.at) [] =
         sym same ∙ flow_outcome same_name resolved_as end at true found new (text_cells bytes options p) (here (fresh bytes options p)) limit pushed.1 means f in
         let done = ends f.end f.ends comes in
-        flow-ran bytes options p f.end f.at small (runs-append (FlowStep same_name) true (Next s.DocumentContainerExistingBefore) (reads_to (fresh bytes options p) (length bytes)) end at f.end f.at (runs-at_end (FlowStep same_name) (Next s.DocumentContainerExistingBefore) (reads_to (fresh bytes options p) (length bytes)) end at run) f.runs)
+        flow-ran bytes options p f.end f.at small (runs-append (FlowStep same_name) true (Next (s.Document document.ContainerExistingBefore)) (reads_to (fresh bytes options p) (length bytes)) end at f.end f.at (runs-at_end (FlowStep same_name) (Next (s.Document document.ContainerExistingBefore)) (reads_to (fresh bytes options p) (length bytes)) end at run) f.runs)
         done.0 f.none_left (ap (λ (x : Setting). text_feed x f.at.point) (sym kept) ∙ done.1)
 
     events : f.at.events ≡ rows_events (text_rows options bytes p)
@@ -285,12 +286,12 @@ flow-reads bytes options p end at found new small run f =
 -- the same for a tokenizer that is known to be fresh, whose test of names is known to be that one
 pub flow-reads-from : (is_name : ResolveName → ResolveName → Bool) (bytes : List ℕ) (options : ParseOptions) (p : Point) (start : World) (to : ℕ) (end : State) (at : World) (found : Found) (new : World) →
     ((a b : ResolveName) → is_name a b ≡ same_name a b) → start ≡ fresh bytes options p → to ≡ length bytes → length bytes < 2 ^ 61 →
-    Runs (FlowStep is_name) false (Next s.DocumentContainerExistingBefore) (reads_to start to) end at → Flushes (FlowStep is_name) resolved_as end at true found new → FlowReads bytes options p found new
+    Runs (FlowStep is_name) false (Next (s.Document document.ContainerExistingBefore)) (reads_to start to) end at → Flushes (FlowStep is_name) resolved_as end at true found new → FlowReads bytes options p found new
 flow-reads-from is_name bytes options p start to end at found new names same all small run f =
     let named : is_name ≡ same_name = λ i a b. names a b i in
-    let P : World → Type 0 = λ w. Runs (FlowStep same_name) false (Next s.DocumentContainerExistingBefore) (reads_to w (length bytes)) end at in
-    let Q : ℕ → Type 0 = λ n. Runs (FlowStep same_name) false (Next s.DocumentContainerExistingBefore) (reads_to start n) end at in
-    let S : (ResolveName → ResolveName → Bool) → Type 0 = λ t. Runs (FlowStep t) false (Next s.DocumentContainerExistingBefore) (reads_to start to) end at in
+    let P : World → Type 0 = λ w. Runs (FlowStep same_name) false (Next (s.Document document.ContainerExistingBefore)) (reads_to w (length bytes)) end at in
+    let Q : ℕ → Type 0 = λ n. Runs (FlowStep same_name) false (Next (s.Document document.ContainerExistingBefore)) (reads_to start n) end at in
+    let S : (ResolveName → ResolveName → Bool) → Type 0 = λ t. Runs (FlowStep t) false (Next (s.Document document.ContainerExistingBefore)) (reads_to start to) end at in
     let F : (ResolveName → ResolveName → Bool) → Type 0 = λ t. Flushes (FlowStep t) resolved_as end at true found new in
     flow-reads bytes options p end at found new small (subst P same (subst Q all (subst S named run))) (subst F named f)
 

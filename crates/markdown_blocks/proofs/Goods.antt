@@ -1,7 +1,14 @@
 -- Flow stands and ends in any table that has it.
-use Rattle.std.proofs.Common.{◌≡◌, ℕ, ◌%◌, ◌<◌, Bool, true, false, nat_eq, Option, Some, None, length, refl, arith}
+use Rattle.std.proofs.Common.{◌≡◌, ℕ, ◌<◌, Bool, true, false, nat_eq, Option, Some, None, length, refl, arith}
 use Rattle.md_engine.specs.declared.state.Name.{Name as StateName}
 use Rattle.md_engine.specs.declared.state.Name.TheVariants as n
+use Rattle.md_engine.specs.declared.state.document.State.TheVariants as document
+use Rattle.md_engine.specs.declared.state.flow.State.TheVariants as flow
+use Rattle.md_engine.specs.declared.state.block_quote.State.TheVariants as block_quote
+use Rattle.md_engine.specs.declared.state.blank_line.State.TheVariants as blank_line
+use Rattle.md_engine.specs.declared.state.heading_atx.State.TheVariants as heading_atx
+use Rattle.md_engine.specs.declared.state.thematic_break.State.TheVariants as thematic_break
+use Rattle.md_engine.specs.declared.state.content.State.TheVariants as content
 use Rattle.md_engine.specs.declared.state.State.TheVariants.{Nok, Next, Retry}
 use Rattle.md_engine.specs.declared.tokenizer.Container.{Container}
 use Rattle.md_engine.specs.declared.tokenizer.ContainerKind.{ContainerKind}
@@ -23,24 +30,26 @@ use Rattle.markdown_blocks.specs.Flow.{after_transition, before_content_transiti
 use Rattle.markdown_blocks.specs.LineFlags as flags
 
 pub record FlowFits (T : Scheme) : Type 1 where
-  pub existing_before : Fits T flow_scheme n.DocumentContainerExistingBefore
-  pub existing_after : Fits T flow_scheme n.DocumentContainerExistingAfter
-  pub new_before : Fits T flow_scheme n.DocumentContainerNewBefore
-  pub new_after : Fits T flow_scheme n.DocumentContainerNewAfter
-  pub containers_after : Fits T flow_scheme n.DocumentContainersAfter
-  pub flow_end : Fits T flow_scheme n.DocumentFlowEnd
-  pub start : Fits T flow_scheme n.FlowStart
-  pub blank_line_before : Fits T flow_scheme n.FlowBlankLineBefore
-  pub before_heading_atx : Fits T flow_scheme n.FlowBeforeHeadingAtx
-  pub before_thematic_break : Fits T flow_scheme n.FlowBeforeThematicBreak
-  pub before_content : Fits T flow_scheme n.FlowBeforeContent
-  pub blank_line_after : Fits T flow_scheme n.FlowBlankLineAfter
-  pub behind : Fits T flow_scheme n.FlowAfter
+  pub existing_before : Fits T flow_scheme (n.Document document.ContainerExistingBefore)
+  pub existing_after : Fits T flow_scheme (n.Document document.ContainerExistingAfter)
+  pub new_before : Fits T flow_scheme (n.Document document.ContainerNewBefore)
+  pub new_after : Fits T flow_scheme (n.Document document.ContainerNewAfter)
+  pub containers_after : Fits T flow_scheme (n.Document document.ContainersAfter)
+  pub flow_end : Fits T flow_scheme (n.Document document.FlowEnd)
+  pub start : Fits T flow_scheme (n.Flow flow.Start)
+  pub blank_line_before : Fits T flow_scheme (n.Flow flow.BlankLineBefore)
+  pub before_heading_atx : Fits T flow_scheme (n.Flow flow.BeforeHeadingAtx)
+  pub before_thematic_break : Fits T flow_scheme (n.Flow flow.BeforeThematicBreak)
+  pub before_content : Fits T flow_scheme (n.Flow flow.BeforeContent)
+  pub blank_line_after : Fits T flow_scheme (n.Flow flow.BlankLineAfter)
+  pub behind : Fits T flow_scheme (n.Flow flow.After)
 
 -- Containers.
 
 -- what flow goes on with, after a prefix, which ends later
-prefix_tries : (ok nok : StateName) (w : World) (K : After) → flow_ready (spot w) K → flow_scheme.rank nok (spot w) % 64 < flow_scheme.tries nok % 64 → ((x : Spot) → flow_scheme.rank nok x ≡ flow_scheme.rank nok (spot w)) →
+prefix_tries : (ok nok : StateName) (w : World) (K : After) → flow_ready (spot w) K →
+    (flow_scheme.rank nok (spot w)).number < (flow_scheme.tries nok).number →
+    ((x : Spot) → flow_scheme.rank nok x ≡ flow_scheme.rank nok (spot w)) →
     TriesLater flow_scheme (record { ok = Next ok; nok = Next nok; is_check = false; events_len = length w.events; point = w.point }) IsRest IsRest (spot w) K
 prefix_tries ok nok w K r low_nok same_nok = record {
   moves_on = refl;
@@ -51,40 +60,50 @@ prefix_tries ok nok w K r low_nok same_nok = record {
   nok_rank = λ s t is up. rw (same_nok (spot_at t w.point s)) (omega (arith, low_nok));
 }
 
-pub good_existing_before : (T : Scheme) (w : World) (o : Option Container) → FlowFits T → Fits T quote_scheme n.BlockQuoteContStart → flow_ready (spot w) (after_all T w.frames) → Does T n.DocumentContainerExistingBefore w (existing_before_code w o)
+pub good_existing_before : (T : Scheme) (w : World) (o : Option Container) → FlowFits T →
+    Fits T quote_scheme (n.BlockQuote block_quote.ContStart) → flow_ready (spot w) (after_all T w.frames) →
+    Does T (n.Document document.ContainerExistingBefore) w (existing_before_code w o)
 good_existing_before T w None has inner r = (turns T flow_scheme _ _ w w.events w.scratch has.existing_before has.new_before r (omega arith) (omega arith), refl)
 good_existing_before T w (Some c) has inner r = go c.kind
   where
-    go : (k : ContainerKind) → Does T n.DocumentContainerExistingBefore w (record { to = Retry (goes_on_with k); world = tried w (Next n.DocumentContainerExistingAfter) (Next n.DocumentContainerNewBefore) })
+    go : (k : ContainerKind) → Does T (n.Document document.ContainerExistingBefore) w (record { to = Retry (goes_on_with k); world = tried w (Next (n.Document document.ContainerExistingAfter)) (Next (n.Document document.ContainerNewBefore)) })
     go kind.BlockQuote = (
-      begins_later T flow_scheme quote_scheme n.DocumentContainerExistingBefore n.BlockQuoteContStart w IsRest IsRest w.events w.scratch _ has.existing_before inner has.existing_after has.new_before refl
-          (prefix_tries n.DocumentContainerExistingAfter n.DocumentContainerNewBefore w (after_all T w.frames) r (omega arith) (λ x. refl)) (λ K e. (r.0.0, e)) (omega arith) (omega arith) (omega arith),
+      begins_later T flow_scheme quote_scheme (n.Document document.ContainerExistingBefore) (n.BlockQuote block_quote.ContStart) w IsRest IsRest w.events w.scratch _ has.existing_before inner has.existing_after has.new_before refl
+          (prefix_tries (n.Document document.ContainerExistingAfter) (n.Document document.ContainerNewBefore) w (after_all T w.frames) r (omega arith) (λ x. refl)) (λ K e. (r.0.0, e)) (omega arith) (omega arith) (omega arith),
       refl,
     )
 
-pub good_existing_after : (T : Scheme) (w : World) → FlowFits T → flow_ready (spot w) (after_all T w.frames) → Does T n.DocumentContainerExistingAfter w (existing_after_transition w)
+pub good_existing_after : (T : Scheme) (w : World) → FlowFits T → flow_ready (spot w) (after_all T w.frames) →
+    Does T (n.Document document.ContainerExistingAfter) w (existing_after_transition w)
 good_existing_after T w has r = (turns T flow_scheme _ _ w w.events w.scratch has.existing_after has.existing_before r (omega arith) (omega arith), refl)
 
-pub good_new_before : (T : Scheme) (w : World) → FlowFits T → Fits T quote_scheme n.BlockQuoteStart → flow_ready (spot w) (after_all T w.frames) → Does T n.DocumentContainerNewBefore w (new_before_transition w)
+pub good_new_before : (T : Scheme) (w : World) → FlowFits T → Fits T quote_scheme (n.BlockQuote block_quote.Start) →
+    flow_ready (spot w) (after_all T w.frames) →
+    Does T (n.Document document.ContainerNewBefore) w (new_before_transition w)
 good_new_before T w has inner r = (
-  begins_later T flow_scheme quote_scheme n.DocumentContainerNewBefore n.BlockQuoteStart w IsRest IsRest w.events w.scratch _ has.new_before inner has.new_after has.containers_after refl
-      (prefix_tries n.DocumentContainerNewAfter n.DocumentContainersAfter w (after_all T w.frames) r (omega arith) (λ x. refl)) (λ K e. (r.0.0, e)) (omega arith) (omega arith) (omega arith),
+  begins_later T flow_scheme quote_scheme (n.Document document.ContainerNewBefore) (n.BlockQuote block_quote.Start) w IsRest IsRest w.events w.scratch _ has.new_before inner has.new_after has.containers_after refl
+      (prefix_tries (n.Document document.ContainerNewAfter) (n.Document document.ContainersAfter) w (after_all T w.frames) r (omega arith) (λ x. refl)) (λ K e. (r.0.0, e)) (omega arith) (omega arith) (omega arith),
   refl,
 )
 
-pub good_new_after : (T : Scheme) (w : World) → FlowFits T → flow_ready (spot w) (after_all T w.frames) → Does T n.DocumentContainerNewAfter w (new_after_transition w)
+pub good_new_after : (T : Scheme) (w : World) → FlowFits T → flow_ready (spot w) (after_all T w.frames) →
+    Does T (n.Document document.ContainerNewAfter) w (new_after_transition w)
 good_new_after T w has r = (turns T flow_scheme _ _ w (closed w w.flags.continued w.flags.line_end).events w.scratch has.new_after has.new_before r (omega arith) (omega arith), refl)
 
-pub good_containers_after : (T : Scheme) (w : World) → FlowFits T → flow_ready (spot w) (after_all T w.frames) → Does T n.DocumentContainersAfter w (containers_after_transition w)
+pub good_containers_after : (T : Scheme) (w : World) → FlowFits T → flow_ready (spot w) (after_all T w.frames) →
+    Does T (n.Document document.ContainersAfter) w (containers_after_transition w)
 good_containers_after T w has r = (turns T flow_scheme _ _ w w.events w.scratch has.containers_after has.start r (omega arith) (omega arith), refl)
 
 -- The leaf of a line.
 
-pub good_start : (T : Scheme) (w : World) → FlowFits T → flow_ready (spot w) (after_all T w.frames) → Does T n.FlowStart w (start_transition w)
+pub good_start : (T : Scheme) (w : World) → FlowFits T → flow_ready (spot w) (after_all T w.frames) →
+    Does T (n.Flow flow.Start) w (start_transition w)
 good_start T w has r = (turns T flow_scheme _ _ w w.events w.scratch has.start has.blank_line_before r (omega arith) (omega arith), refl)
 
 -- what flow goes on with, after a construct that ends at rest
-flow_tries : (ok nok : StateName) (w : World) (K : After) → flow_ready (spot w) K → flow_scheme.rank ok (spot w) % 64 < flow_scheme.tries nok % 64 → flow_scheme.rank nok (spot w) % 64 < flow_scheme.tries nok % 64 →
+flow_tries : (ok nok : StateName) (w : World) (K : After) → flow_ready (spot w) K →
+    (flow_scheme.rank ok (spot w)).number < (flow_scheme.tries nok).number →
+    (flow_scheme.rank nok (spot w)).number < (flow_scheme.tries nok).number →
     ((x : Spot) → flow_scheme.rank ok x ≡ flow_scheme.rank ok (spot w)) → ((x : Spot) → flow_scheme.rank nok x ≡ flow_scheme.rank nok (spot w)) →
     Tries flow_scheme (record { ok = Next ok; nok = Next nok; is_check = false; events_len = length w.events; point = w.point }) IsRest IsRest (spot w) K
 flow_tries ok nok w K r low_ok low_nok same_ok same_nok = record {
@@ -96,30 +115,37 @@ flow_tries ok nok w K r low_ok low_nok same_ok same_nok = record {
   nok_rank = λ s t is up. rw (same_nok (spot_at t w.point s)) (omega (arith, low_nok));
 }
 
-pub good_blank_line_before : (T : Scheme) (w : World) → FlowFits T → Fits T blank_scheme n.BlankLineStart → flow_ready (spot w) (after_all T w.frames) → Does T n.FlowBlankLineBefore w (blank_line_before_transition w)
+pub good_blank_line_before : (T : Scheme) (w : World) → FlowFits T →
+    Fits T blank_scheme (n.BlankLine blank_line.Start) → flow_ready (spot w) (after_all T w.frames) →
+    Does T (n.Flow flow.BlankLineBefore) w (blank_line_before_transition w)
 good_blank_line_before T w has inner r = (
-  begins_try T flow_scheme blank_scheme n.FlowBlankLineBefore n.BlankLineStart w IsRest IsRest w.events w.scratch _ has.blank_line_before inner has.blank_line_after has.before_heading_atx refl
-      (flow_tries n.FlowBlankLineAfter n.FlowBeforeHeadingAtx w (after_all T w.frames) r (omega arith) (omega arith) (λ x. refl) (λ x. refl)) (λ K e. (r.0.0, e)) (omega arith) (omega arith) (omega arith),
+  begins_try T flow_scheme blank_scheme (n.Flow flow.BlankLineBefore) (n.BlankLine blank_line.Start) w IsRest IsRest w.events w.scratch _ has.blank_line_before inner has.blank_line_after has.before_heading_atx refl
+      (flow_tries (n.Flow flow.BlankLineAfter) (n.Flow flow.BeforeHeadingAtx) w (after_all T w.frames) r (omega arith) (omega arith) (λ x. refl) (λ x. refl)) (λ K e. (r.0.0, e)) (omega arith) (omega arith) (omega arith),
   refl,
 )
 
-pub good_before_heading_atx : (T : Scheme) (w : World) → FlowFits T → Fits T heading_scheme n.HeadingAtxStart → flow_ready (spot w) (after_all T w.frames) → Does T n.FlowBeforeHeadingAtx w (before_heading_atx_transition w)
+pub good_before_heading_atx : (T : Scheme) (w : World) → FlowFits T →
+    Fits T heading_scheme (n.HeadingAtx heading_atx.Start) → flow_ready (spot w) (after_all T w.frames) →
+    Does T (n.Flow flow.BeforeHeadingAtx) w (before_heading_atx_transition w)
 good_before_heading_atx T w has inner r = (
-  begins_try T flow_scheme heading_scheme n.FlowBeforeHeadingAtx n.HeadingAtxStart w IsRest IsRest w.events w.scratch _ has.before_heading_atx inner has.behind has.before_thematic_break refl
-      (flow_tries n.FlowAfter n.FlowBeforeThematicBreak w (after_all T w.frames) r (omega arith) (omega arith) (λ x. refl) (λ x. refl)) (λ K e. (r.0.0, e)) (omega arith) (omega arith) (omega arith),
+  begins_try T flow_scheme heading_scheme (n.Flow flow.BeforeHeadingAtx) (n.HeadingAtx heading_atx.Start) w IsRest IsRest w.events w.scratch _ has.before_heading_atx inner has.behind has.before_thematic_break refl
+      (flow_tries (n.Flow flow.After) (n.Flow flow.BeforeThematicBreak) w (after_all T w.frames) r (omega arith) (omega arith) (λ x. refl) (λ x. refl)) (λ K e. (r.0.0, e)) (omega arith) (omega arith) (omega arith),
   refl,
 )
 
-pub good_before_thematic_break : (T : Scheme) (w : World) → FlowFits T → Fits T break_scheme n.ThematicBreakStart → flow_ready (spot w) (after_all T w.frames) → Does T n.FlowBeforeThematicBreak w (before_thematic_break_transition w)
+pub good_before_thematic_break : (T : Scheme) (w : World) → FlowFits T →
+    Fits T break_scheme (n.ThematicBreak thematic_break.Start) → flow_ready (spot w) (after_all T w.frames) →
+    Does T (n.Flow flow.BeforeThematicBreak) w (before_thematic_break_transition w)
 good_before_thematic_break T w has inner r = (
-  begins_try T flow_scheme break_scheme n.FlowBeforeThematicBreak n.ThematicBreakStart w IsRest IsRest w.events w.scratch _ has.before_thematic_break inner has.behind has.before_content refl
-      (flow_tries n.FlowAfter n.FlowBeforeContent w (after_all T w.frames) r (omega arith) (omega arith) (λ x. refl) (λ x. refl)) (λ K e. (r.0.0, e)) (omega arith) (omega arith) (omega arith),
+  begins_try T flow_scheme break_scheme (n.Flow flow.BeforeThematicBreak) (n.ThematicBreak thematic_break.Start) w IsRest IsRest w.events w.scratch _ has.before_thematic_break inner has.behind has.before_content refl
+      (flow_tries (n.Flow flow.After) (n.Flow flow.BeforeContent) w (after_all T w.frames) r (omega arith) (omega arith) (λ x. refl) (λ x. refl)) (λ K e. (r.0.0, e)) (omega arith) (omega arith) (omega arith),
   refl,
 )
 
-pub good_before_content : (T : Scheme) (w : World) → FlowFits T → Fits T chunk_scheme n.ContentChunkStart → flow_ready (spot w) (after_all T w.frames) → Does T n.FlowBeforeContent w (before_content_transition w)
+pub good_before_content : (T : Scheme) (w : World) → FlowFits T → Fits T chunk_scheme (n.Content content.ChunkStart) →
+    flow_ready (spot w) (after_all T w.frames) → Does T (n.Flow flow.BeforeContent) w (before_content_transition w)
 good_before_content T w has inner r = (
-  begins_try T flow_scheme chunk_scheme n.FlowBeforeContent n.ContentChunkStart w IsRest IsRest w.events w.scratch (record { ok = Next n.FlowAfter; nok = Nok; is_check = false; events_len = length w.events; point = w.point }) has.before_content inner has.behind tt refl
+  begins_try T flow_scheme chunk_scheme (n.Flow flow.BeforeContent) (n.Content content.ChunkStart) w IsRest IsRest w.events w.scratch (record { ok = Next (n.Flow flow.After); nok = Nok; is_check = false; events_len = length w.events; point = w.point }) has.before_content inner has.behind tt refl
       (record {
         ok = λ s q t is up way. ((is, later_at _ _ (spot w) (after_all T w.frames) q t s up way r.0.1), r.1);
         ok_level = omega arith;
@@ -131,22 +157,24 @@ good_before_content T w has inner r = (
   refl,
 )
 
-pub good_blank_line_after : (T : Scheme) (w : World) → FlowFits T → flow_ready (spot w) (after_all T w.frames) → Does T n.FlowBlankLineAfter w (blank_line_after_transition w)
+pub good_blank_line_after : (T : Scheme) (w : World) → FlowFits T → flow_ready (spot w) (after_all T w.frames) →
+    Does T (n.Flow flow.BlankLineAfter) w (blank_line_after_transition w)
 good_blank_line_after T w has r = (turns T flow_scheme _ _ w w.events w.scratch has.blank_line_after has.flow_end r (omega arith) (omega arith), refl)
 
-pub good_after : (T : Scheme) (w : World) → FlowFits T → flow_ready (spot w) (after_all T w.frames) → Does T n.FlowAfter w (after_transition w)
+pub good_after : (T : Scheme) (w : World) → FlowFits T → flow_ready (spot w) (after_all T w.frames) →
+    Does T (n.Flow flow.After) w (after_transition w)
 good_after T w has r = (turns T flow_scheme _ _ w w.events w.scratch has.behind has.flow_end r (omega arith) (omega arith), refl)
 
 -- The end of a line.
 
 pub good_flow_end : (T : Scheme) (w : World) (o : Option ℕ) → FlowFits T → flow_ready (spot w) (after_all T w.frames) → seen (spot w) ≡ o →
-    Does T n.DocumentFlowEnd w (flow_end_code (closed w (flags.stays w.flags) w.flags.line_end) o)
+    Does T (n.Document document.FlowEnd) w (flow_end_code (closed w (flags.stays w.flags) w.flags.line_end) o)
 good_flow_end T w None has r e = (accepts T _ w _ _ (flow_end_code (closed w (flags.stays w.flags) w.flags.line_end) None).world.events w.scratch r.0.1 r.0.0, refl)
 good_flow_end T w (Some b) has r e = go (nat_eq b 10) refl
   where
     inside : w.point.index < w.setting.limit
     inside = seen-some (spot w) b e
 
-    go : (x : Bool) → nat_eq b 10 ≡ x → Does T n.DocumentFlowEnd w (flow_end_code (closed w (flags.stays w.flags) w.flags.line_end) (Some b))
+    go : (x : Bool) → nat_eq b 10 ≡ x → Does T (n.Document document.FlowEnd) w (flow_end_code (closed w (flags.stays w.flags) w.flags.line_end) (Some b))
     go true k = rw k (consumes T flow_scheme _ _ w (flow_end_code (closed w (flags.stays w.flags) w.flags.line_end) (Some 10)).world.events w.scratch has.flow_end has.existing_before inside ((r.0.0, later _ _ (spot w) _ _ _ (takes w.setting w.point inside) r.0.1), r.1) (omega arith), refl)
-    go false k = rw k (refuses T n.DocumentFlowEnd w IsRest IsRest (closed w (flags.stays w.flags) w.flags.line_end).events w.scratch r.0.1 r.0.0, refl)
+    go false k = rw k (refuses T (n.Document document.FlowEnd) w IsRest IsRest (closed w (flags.stays w.flags) w.flags.line_end).events w.scratch r.0.1 r.0.0, refl)

@@ -10,6 +10,7 @@ use Rattle.md_engine.specs.declared.event.Point.{Point}
 use Rattle.md_engine.specs.declared.resolve.Name.{Name as ResolveName}
 use Rattle.md_engine.specs.declared.state.Name.{Name as StateName}
 use Rattle.md_engine.specs.declared.state.Name.TheVariants as s
+use Rattle.md_engine.specs.declared.state.document.State.TheVariants as document
 use Rattle.md_engine.specs.declared.state.State.{State}
 use Rattle.md_engine.specs.declared.state.State.TheVariants.{Next, Ok}
 use Rattle.md_engine.specs.declared.tokenizer.Frame.{Frame}
@@ -195,11 +196,12 @@ is-further options all n (suc m) cs going left p fits rows =
 -- Calls.
 
 -- a call feeds a line or none
-none-or-ending : (name : StateName) (o : Option ℕ) → (feeds name o ≡ 0) ⊎ ((name ≡ s.DocumentFlowEnd) × (o ≡ Some 10))
-none-or-ending s.DocumentFlowEnd None = inl refl
-none-or-ending s.DocumentFlowEnd (Some b) = go (nat_eq b 10) refl
+none-or-ending : (name : StateName) (o : Option ℕ) →
+    (feeds name o ≡ 0) ⊎ ((name ≡ s.Document document.FlowEnd) × (o ≡ Some 10))
+none-or-ending (s.Document document.FlowEnd) None = inl refl
+none-or-ending (s.Document document.FlowEnd) (Some b) = go (nat_eq b 10) refl
   where
-    go : (x : Bool) → nat_eq b 10 ≡ x → (let lines : ℕ = cond x 1 0 in lines ≡ 0) ⊎ ((s.DocumentFlowEnd ≡ s.DocumentFlowEnd) × (Some b ≡ Some 10))
+    go : (x : Bool) → nat_eq b 10 ≡ x → (let lines : ℕ = cond x 1 0 in lines ≡ 0) ⊎ ((s.Document document.FlowEnd ≡ s.Document document.FlowEnd) × (Some b ≡ Some 10))
     go true e = inr (refl, ap (λ (c : ℕ). Some c) (eqb-true b 10 e))
     go false e = inl refl
 none-or-ending name o = inl refl
@@ -214,7 +216,7 @@ record Within (options : ParseOptions) (feed : Feed) (from : Point) (all : List 
 
 -- a line was fed: no attempt is around, and the next begins
 record Behind (options : ParseOptions) (feed : Feed) (from : Point) (all : List Row) (n : ℕ) (t : State) (v : World) : Type 0 where
-  to : t ≡ Next s.DocumentContainerExistingBefore
+  to : t ≡ Next (s.Document document.ContainerExistingBefore)
   frames : v.frames ≡ []
   line : LineAt options from all n (feed v.point) (here v)
 
@@ -262,7 +264,9 @@ within-calls is_name options feed from all n t v t' v' f o w c none = record {
 
 -- the call that takes an ending
 behind-calls : (is_name : ResolveName → ResolveName → Bool) (options : ParseOptions) (feed : Feed) (from : Point) (all : List Row) (n : ℕ) (t : State) (v : World) (t' : State) (v' : World) → Follows feed v.setting true → v.setting.options ≡ options → Within options feed from all n t v →
-    Calls (FlowStep is_name) true t v t' v' → plain t ≡ Next s.DocumentFlowEnd → FlowStep is_name s.DocumentFlowEnd (reading v) t' v' → looks v ≡ Some 10 → Behind options feed from all (suc n) t' v'
+    Calls (FlowStep is_name) true t v t' v' → plain t ≡ Next (s.Document document.FlowEnd) →
+    FlowStep is_name (s.Document document.FlowEnd) (reading v) t' v' → looks v ≡ Some 10 →
+    Behind options feed from all (suc n) t' v'
 behind-calls is_name options feed from all n t v t' v' f o w c names step ten = record {
   to = step.to_is ∙ taken.to_is;
   frames = ap (λ (x : World). x.frames) step.new_is ∙ taken.still;
@@ -272,20 +276,21 @@ behind-calls is_name options feed from all n t v t' v' f o w c names step ten = 
     Q : State → Type 0
     Q x = stands flow_table_scheme v x
 
-    taken : Takes line_stop feed (reading v) (flow_transition is_name s.DocumentFlowEnd (reading v)).to (flow_transition is_name s.DocumentFlowEnd (reading v)).world
+    taken : Takes line_stop feed (reading v) (flow_transition is_name (s.Document document.FlowEnd) (reading v)).to (flow_transition is_name (s.Document document.FlowEnd) (reading v)).world
     taken = ending-taken is_name feed line_stop (reading v) (sees feed v true f c.may) (subst Q names w.at) ten
 
     ended : line_then options line_stop w.left w.begin ≡ line_stop (feed v'.point) (here v')
     ended =
-        sym (comes-called options feed from all n t v s.DocumentFlowEnd names w)
-        ∙ ap (λ (fs : List Frame). resume_all (flow_behaves_by options line_stop) feed v.events fs (goes (flow_behaves_by options line_stop) (Next s.DocumentFlowEnd) (feed v.point) (here v))) taken.frames
-        ∙ ap (λ (x : ParseOptions). goes (flow_behaves_by x line_stop) (Next s.DocumentFlowEnd) (feed v.point) (here v)) (sym o)
+        sym (comes-called options feed from all n t v (s.Document document.FlowEnd) names w)
+        ∙ ap (λ (fs : List Frame). resume_all (flow_behaves_by options line_stop) feed v.events fs (goes (flow_behaves_by options line_stop) (Next (s.Document document.FlowEnd)) (feed v.point) (here v))) taken.frames
+        ∙ ap (λ (x : ParseOptions). goes (flow_behaves_by x line_stop) (Next (s.Document document.FlowEnd)) (feed v.point) (here v)) (sym o)
         ∙ taken.goes_on
         ∙ ap (λ (x : World). line_stop (feed x.point) (here x)) (sym step.new_is)
 
 -- by the state that is called
 behind-feed : (is_name : ResolveName → ResolveName → Bool) (options : ParseOptions) (feed : Feed) (from : Point) (all : List Row) (n : ℕ) (t : State) (v : World) (t' : State) (v' : World) → Follows feed v.setting true → v.setting.options ≡ options → Within options feed from all n t v →
-    (c : Calls (FlowStep is_name) true t v t' v') → c.name ≡ s.DocumentFlowEnd → looks v ≡ Some 10 → Behind options feed from all (suc n) t' v'
+    (c : Calls (FlowStep is_name) true t v t' v') → c.name ≡ s.Document document.FlowEnd → looks v ≡ Some 10 →
+    Behind options feed from all (suc n) t' v'
 behind-feed is_name options feed from all n t v t' v' f o w c e ten =
     let P : StateName → Type 0 = λ x. FlowStep is_name x (reading v) t' v' in
     behind-calls is_name options feed from all n t v t' v' f o w c (c.names ∙ ap (λ (x : StateName). Next x) e) (subst P e c.step) ten
@@ -315,12 +320,12 @@ within-next is_name options feed from all n t v t' v' f o w c = go (none-or-endi
     at : stands flow_table_scheme v' (plain t')
     at = flow_stands is_name c.name v t' v' (subst Q c.names w.at) c.step
 
-    go : (feeds c.name (looks v) ≡ 0) ⊎ ((c.name ≡ s.DocumentFlowEnd) × (looks v ≡ Some 10)) → Within options feed from all (feeds c.name (looks v) + n) t' v'
+    go : (feeds c.name (looks v) ≡ 0) ⊎ ((c.name ≡ s.Document document.FlowEnd) × (looks v ≡ Some 10)) → Within options feed from all (feeds c.name (looks v) + n) t' v'
     go (inl none) =
         let same : n ≡ feeds c.name (looks v) + n = omega (arith, none) in
         subst P same (within-calls is_name options feed from all n t v t' v' f o w c none)
     go (inr one) =
-        let lines : feeds c.name (looks v) ≡ 1 = ap (λ (x : StateName). feeds x (looks v)) one.0 ∙ ap (λ (x : Option ℕ). feeds s.DocumentFlowEnd x) one.1 in
+        let lines : feeds c.name (looks v) ≡ 1 = ap (λ (x : StateName). feeds x (looks v)) one.0 ∙ ap (λ (x : Option ℕ). feeds (s.Document document.FlowEnd) x) one.1 in
         let same : suc n ≡ feeds c.name (looks v) + n = omega (arith, lines) in
         subst P same (behind-within options feed from all (suc n) t' v' at (behind-feed is_name options feed from all n t v t' v' f o w c one.0 one.1))
 
@@ -348,10 +353,11 @@ pub record LineFed (bytes : List ℕ) (options : ParseOptions) (p : Point) (n : 
   pub events : w.events ≡ rows_events (not_left (take n (text_rows options bytes p)))
 
 -- a call that feeds a line
-ending-fed : (name : StateName) (o : Option ℕ) → feeds name o ≡ 1 → (name ≡ s.DocumentFlowEnd) × (o ≡ Some 10)
+ending-fed : (name : StateName) (o : Option ℕ) → feeds name o ≡ 1 →
+    (name ≡ s.Document document.FlowEnd) × (o ≡ Some 10)
 ending-fed name o one = go (none-or-ending name o)
   where
-    go : (feeds name o ≡ 0) ⊎ ((name ≡ s.DocumentFlowEnd) × (o ≡ Some 10)) → (name ≡ s.DocumentFlowEnd) × (o ≡ Some 10)
+    go : (feeds name o ≡ 0) ⊎ ((name ≡ s.Document document.FlowEnd) × (o ≡ Some 10)) → (name ≡ s.Document document.FlowEnd) × (o ≡ Some 10)
     go (inl none) = absurd (omega (arith, none, one))
     go (inr is) = is
 
@@ -413,7 +419,7 @@ line-fed is_name bytes options p small t v t' v' run c one = record {
     kept : v.setting ≡ text_setting bytes options p
     kept = runs-setting (FlowStep is_name) true line_begins (flow_begins bytes options p) t v run
 
-    ending : (c.name ≡ s.DocumentFlowEnd) × (looks v ≡ Some 10)
+    ending : (c.name ≡ s.Document document.FlowEnd) × (looks v ≡ Some 10)
     ending = ending-fed c.name (looks v) one
 
     b : Behind options (feed_of bytes options p) p (text_rows options bytes p) (suc n) t' v'

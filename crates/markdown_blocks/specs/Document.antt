@@ -1,54 +1,74 @@
 -- The front of a document: a byte order mark, and then its lines.
-use Rattle.std.specs.Prelude.{◌≡◌, ℕ, if◌then◌else◌, List, []}
+use Rattle.std.specs.Prelude.{◌≡◌, refl, ℕ, if◌then◌else◌, List, []}
 use Rattle.md_engine.specs.declared.event.Event.{Event}
 use Rattle.md_engine.specs.declared.event.Name.TheVariants.{ByteOrderMark}
 use Rattle.md_engine.specs.declared.event.Point.{Point}
 use Rattle.md_engine.specs.declared.state.Name.{Name as StateName}
 use Rattle.md_engine.specs.declared.state.Name.TheVariants as s
+use Rattle.md_engine.specs.declared.state.bom.State.TheVariants as bom
+use Rattle.md_engine.specs.declared.state.document.State.{State as DocumentState}
+use Rattle.md_engine.specs.declared.state.document.State.TheVariants as document
 use Rattle.md_engine.specs.declared.state.State.{State}
 use Rattle.md_engine.specs.declared.state.State.TheVariants.{Ok, Nok, Next, Retry}
 use Rattle.md_engine.specs.Place.{first_point}
-use Rattle.md_engine.specs.Scheme.{Scheme, Spot, nowhere, of_owners}
+use Rattle.md_engine.specs.Scheme.{Rank, Scheme, Spot, nowhere, of_owners, ranked}
 use Rattle.md_engine.specs.World.{World}
-use Rattle.md_leaves.specs.Bom as bom
-use Rattle.md_leaves.specs.Bom.{bom_scheme}
+use Rattle.md_leaves.specs.Bom.{bom_scheme, bom_transition}
 use Rattle.md_seam.specs.Events.Nested.{pair}
 use Rattle.md_seam.specs.Standard.Preamble.{has_mark}
 use Rattle.md_seam.specs.Spaces.{rest_ready}
 use Rattle.md_seam.specs.Transition.{Transition, tried}
+use Rattle.markdown_blocks.specs.Flow.{containers_after_transition, existing_after_transition, existing_before_transition, flow_end_transition, new_after_transition, new_before_transition}
 
 -- States.
 
 abbrev pub start_transition : World → Transition
-start_transition w = record { to = Retry s.BomStart; world = tried w (Next s.DocumentBeforeFrontmatter) (Next s.DocumentBeforeFrontmatter) }
+start_transition w =
+    record { to = Retry (s.Bom bom.Start); world = tried w (Next (s.Document document.BeforeFrontmatter)) (Next (s.Document document.BeforeFrontmatter)) }
 
 abbrev pub before_frontmatter_transition : World → Transition
 before_frontmatter_transition w = record { to = Ok; world = w }
 
-abbrev pub document_rank : StateName → Spot → ℕ
-document_rank s.DocumentStart x = 2
-document_rank _ x = 0
+-- each state with what it does, where there is memory: in front of the lines, and between the containers of a line; those of blocks
+-- that are not built refuse
+abbrev pub document_own_transition : DocumentState → World → Transition
+document_own_transition document.Start w = start_transition w
+document_own_transition document.BeforeFrontmatter w = before_frontmatter_transition w
+document_own_transition document.ContainerExistingBefore w = existing_before_transition w
+document_own_transition document.ContainerExistingAfter w = existing_after_transition w
+document_own_transition document.ContainerNewBefore w = new_before_transition w
+document_own_transition document.ContainerNewAfter w = new_after_transition w
+document_own_transition document.ContainersAfter w = containers_after_transition w
+document_own_transition document.FlowEnd w = flow_end_transition w
+document_own_transition _ w = record { to = Nok; world = w }
+
+abbrev pub document_rank : StateName → Spot → Rank
+document_rank (s.Document document.Start) x = ranked 2 refl
+document_rank _ x = ranked 0 refl
 
 abbrev pub document_scheme : Scheme
-document_scheme = record { ready = λ n x K. rest_ready x K; level = λ n. 3; rank = document_rank; tries = λ n. 1 }
+document_scheme =
+    record { ready = λ n x K. rest_ready x K; level = λ n. 3; rank = document_rank; tries = λ n. ranked 1 refl }
 
 -- The table: which construct has each state, and what each does.
 
+-- the states of its lines stand in the table of flow
+abbrev pub front_owner : DocumentState → Scheme
+front_owner document.Start = document_scheme
+front_owner document.BeforeFrontmatter = document_scheme
+front_owner _ = nowhere
+
 abbrev pub document_owner : StateName → Scheme
-document_owner s.BomStart = bom_scheme
-document_owner s.BomInside = bom_scheme
-document_owner s.DocumentStart = document_scheme
-document_owner s.DocumentBeforeFrontmatter = document_scheme
+document_owner (s.Bom state) = bom_scheme
+document_owner (s.Document state) = front_owner state
 document_owner _ = nowhere
 
 abbrev pub document_table_scheme : Scheme
 document_table_scheme = of_owners document_owner
 
 abbrev pub document_transition : StateName → World → Transition
-document_transition s.BomStart w = bom.start_transition w
-document_transition s.BomInside w = bom.inside_transition w
-document_transition s.DocumentStart w = start_transition w
-document_transition s.DocumentBeforeFrontmatter w = before_frontmatter_transition w
+document_transition (s.Bom state) w = bom_transition state w
+document_transition (s.Document state) w = document_own_transition state w
 document_transition _ w = record { to = Nok; world = w }
 
 -- what a call of a state does, where there is memory

@@ -5,6 +5,7 @@ use Rattle.md_engine.specs.declared.configuration.ParseOptions.{ParseOptions}
 use Rattle.md_engine.specs.declared.event.Point.{Point}
 use Rattle.md_engine.specs.declared.state.Name.{Name as StateName}
 use Rattle.md_engine.specs.declared.state.Name.TheVariants as s
+use Rattle.md_engine.specs.declared.state.document.State.TheVariants as document
 use Rattle.md_engine.specs.declared.state.State.{State}
 use Rattle.md_engine.specs.declared.state.State.TheVariants.{Next}
 use Rattle.md_engine.specs.Resolvers.{same_name}
@@ -27,7 +28,7 @@ use Rattle.markdown_blocks.specs.TextRows.{text_rows}
 
 -- how many lines a call of a state feeds: one where it takes the ending of a line
 abbrev pub feeds : StateName → Option ℕ → ℕ
-feeds s.DocumentFlowEnd (Some b) = if b == 10 then 1 else 0
+feeds (s.Document document.FlowEnd) (Some b) = if b == 10 then 1 else 0
 feeds name current = 0
 
 -- how many lines a run has fed
@@ -88,7 +89,7 @@ flow_begins bytes options p = reads_to (fresh bytes options p) (length bytes)
 
 -- at the begin of a line
 abbrev pub line_begins : State
-line_begins = Next s.DocumentContainerExistingBefore
+line_begins = Next (s.Document document.ContainerExistingBefore)
 
 -- Flow has read a text, from a point on, and has come to this.
 pub record FlowRan (bytes : List ℕ) (options : ParseOptions) (p : Point) (end : State) (at : World) : Type 0 where

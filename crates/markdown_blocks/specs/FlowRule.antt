@@ -3,19 +3,22 @@
 use Rattle.std.specs.Prelude.{◌≡◌, ℕ, zero, suc, ◌==◌, Option, Some, None, if◌then◌else◌, List, [], ◌∷◌, ◌++◌, length}
 use Rattle.md_engine.specs.declared.configuration.ParseOptions.{ParseOptions}
 use Rattle.md_engine.specs.declared.state.Name.TheVariants as s
+use Rattle.md_engine.specs.declared.state.document.State.{State as DocumentState}
+use Rattle.md_engine.specs.declared.state.document.State.TheVariants as document
+use Rattle.md_engine.specs.declared.state.flow.State.{State as FlowState}
+use Rattle.md_engine.specs.declared.state.flow.State.TheVariants as flow
 use Rattle.md_engine.specs.declared.tokenizer.Container.{Container}
 use Rattle.md_engine.specs.declared.tokenizer.ContainerKind.{ContainerKind}
 use Rattle.md_engine.specs.declared.tokenizer.ContainerKind.TheVariants as kind
 use Rattle.md_engine.specs.declared.tokenizer.Scratch.{Scratch}
 use Rattle.md_engine.specs.Meaning.{Accepts, Behaviour, Cell, Fails, Here, Outcome, Refuses}
 use Rattle.md_engine.specs.World.{Flags, closed_events, kept}
-use Rattle.md_containers.specs.QuoteRule.{HasQuote, at_marker, behind_marker, prefix_at, quote_at}
-use Rattle.md_content.specs.ChunkRule.{HasChunk, chunk_at, inside_chunk}
-use Rattle.md_leaves.specs.BlankRule.{HasBlank, after_blank, blank_at}
-use Rattle.md_leaves.specs.BreakRule.{HasBreak, Marks, at_break, before_marker, break_at, in_break}
-use Rattle.md_leaves.specs.HeadingRule as heading
-use Rattle.md_leaves.specs.HeadingRule.{HasHeading, Hashes, Text, before_opening, heading_at, in_heading, in_opening}
-use Rattle.md_seam.specs.Ahead.{after_white, inside_white, white_at}
+use Rattle.md_containers.specs.QuoteRule.{HasQuote, prefix_at, quote_at, quote_behaves}
+use Rattle.md_content.specs.ChunkRule.{HasChunk, chunk_at, chunk_behaves}
+use Rattle.md_leaves.specs.BlankRule.{HasBlank, blank_at, blank_behaves}
+use Rattle.md_leaves.specs.BreakRule.{HasBreak, break_at, break_behaves}
+use Rattle.md_leaves.specs.HeadingRule.{HasHeading, heading_at, heading_behaves}
+use Rattle.md_seam.specs.Ahead.{white_behaves}
 use Rattle.md_seam.specs.Events.Nested.{pair}
 use Rattle.markdown_blocks.specs.Registry.{LeafName, leaf, trials}
 use Rattle.markdown_blocks.specs.LineFlags.{begun_line, blanked, ending_name, next_container, next_line, stays, went_on, with_quote}
@@ -117,63 +120,47 @@ flow_lines options (suc n) cells h = line_then options (flow_lines options n) ce
 unfoldable pub flow_at : ParseOptions → Rule
 flow_at options cells h = flow_lines options (suc (length cells)) cells h
 
--- what is left at each state of flow, by a rule for what follows behind the line
+-- what is left by a rule for what follows behind the line: at each state between the containers of a line,
+abbrev pub containers_behave : ParseOptions → Rule → DocumentState → Rule
+containers_behave options next document.ContainerExistingBefore cells h = line_then options next cells h
+containers_behave options next document.ContainerExistingAfter cells h =
+    line_then options next cells (record h { flags = went_on h.flags })
+containers_behave options next document.ContainerNewBefore cells h = new_of options next cells h
+containers_behave options next document.ContainerNewAfter cells h = new_of options next cells (quote_opened h)
+containers_behave options next document.ContainersAfter cells h = behind_containers options next cells h
+containers_behave options next document.FlowEnd cells h = line_ended next cells h
+containers_behave options next _ cells h = Refuses h.scratch h.flags
+
+-- at each state in front of a leaf, or behind it,
+abbrev pub leaves_behave : ParseOptions → Rule → FlowState → Rule
+leaves_behave options next flow.Start cells h = leaf_of options next cells h
+leaves_behave options next flow.BlankLineBefore cells h = leaf_of options next cells h
+leaves_behave options next flow.BeforeHeadingAtx cells h = nonblank_of options next cells h
+leaves_behave options next flow.BeforeThematicBreak cells h = break_of options next cells h
+leaves_behave options next flow.BeforeContent cells h = content_of next cells h
+leaves_behave options next flow.BlankLineAfter cells h = blank_ended next cells h
+leaves_behave options next flow.After cells h = line_ended next cells h
+leaves_behave options next _ cells h = Refuses h.scratch h.flags
+
 pub record HasFlow (B : Behaviour) (options : ParseOptions) (next : Rule) : Type 0 where
   pub blank : HasBlank B
   pub heading : HasHeading B options
   pub break : HasBreak B options
   pub chunk : HasChunk B
   pub quote : HasQuote B options
-  pub existing_before : (cells : List Cell) (h : Here) → B s.DocumentContainerExistingBefore cells h ≡ line_then options next cells h
-  pub existing_after : (cells : List Cell) (h : Here) → B s.DocumentContainerExistingAfter cells h ≡ line_then options next cells (record h { flags = went_on h.flags })
-  pub new_before : (cells : List Cell) (h : Here) → B s.DocumentContainerNewBefore cells h ≡ new_of options next cells h
-  pub new_after : (cells : List Cell) (h : Here) → B s.DocumentContainerNewAfter cells h ≡ new_of options next cells (quote_opened h)
-  pub containers_after : (cells : List Cell) (h : Here) → B s.DocumentContainersAfter cells h ≡ behind_containers options next cells h
-  pub start : (cells : List Cell) (h : Here) → B s.FlowStart cells h ≡ leaf_of options next cells h
-  pub blank_line_before : (cells : List Cell) (h : Here) → B s.FlowBlankLineBefore cells h ≡ leaf_of options next cells h
-  pub blank_line_after : (cells : List Cell) (h : Here) → B s.FlowBlankLineAfter cells h ≡ blank_ended next cells h
-  pub before_heading_atx : (cells : List Cell) (h : Here) → B s.FlowBeforeHeadingAtx cells h ≡ nonblank_of options next cells h
-  pub before_thematic_break : (cells : List Cell) (h : Here) → B s.FlowBeforeThematicBreak cells h ≡ break_of options next cells h
-  pub before_content : (cells : List Cell) (h : Here) → B s.FlowBeforeContent cells h ≡ content_of next cells h
-  pub behind : (cells : List Cell) (h : Here) → B s.FlowAfter cells h ≡ line_ended next cells h
-  pub flow_end : (cells : List Cell) (h : Here) → B s.DocumentFlowEnd cells h ≡ line_ended next cells h
+  pub containers : (state : DocumentState) (cells : List Cell) (h : Here) → B (s.Document state) cells h ≡ containers_behave options next state cells h
+  pub leaves : (state : FlowState) (cells : List Cell) (h : Here) → B (s.Flow state) cells h ≡ leaves_behave options next state cells h
 
--- the same as a function
+-- and at each state of the table
 abbrev pub flow_behaves_by : ParseOptions → Rule → Behaviour
-flow_behaves_by options next s.BlankLineStart cells h = blank_at cells h
-flow_behaves_by options next s.BlankLineAfter cells h = after_blank cells h
-flow_behaves_by options next s.ContentChunkStart cells h = chunk_at cells h
-flow_behaves_by options next s.ContentChunkInside cells h = inside_chunk cells h
-flow_behaves_by options next s.BlockQuoteStart cells h = quote_at options cells h
-flow_behaves_by options next s.BlockQuoteContStart cells h = prefix_at options cells h
-flow_behaves_by options next s.BlockQuoteContBefore cells h = at_marker cells h
-flow_behaves_by options next s.BlockQuoteContAfter cells h = behind_marker cells h
-flow_behaves_by options next s.DocumentContainerExistingBefore cells h = line_then options next cells h
-flow_behaves_by options next s.DocumentContainerExistingAfter cells h = line_then options next cells (record h { flags = went_on h.flags })
-flow_behaves_by options next s.DocumentContainerNewBefore cells h = new_of options next cells h
-flow_behaves_by options next s.DocumentContainerNewAfter cells h = new_of options next cells (quote_opened h)
-flow_behaves_by options next s.DocumentContainersAfter cells h = behind_containers options next cells h
-flow_behaves_by options next s.DocumentFlowEnd cells h = line_ended next cells h
-flow_behaves_by options next s.FlowStart cells h = leaf_of options next cells h
-flow_behaves_by options next s.FlowBlankLineBefore cells h = leaf_of options next cells h
-flow_behaves_by options next s.FlowBeforeHeadingAtx cells h = nonblank_of options next cells h
-flow_behaves_by options next s.FlowBeforeThematicBreak cells h = break_of options next cells h
-flow_behaves_by options next s.FlowBeforeContent cells h = content_of next cells h
-flow_behaves_by options next s.FlowBlankLineAfter cells h = blank_ended next cells h
-flow_behaves_by options next s.FlowAfter cells h = line_ended next cells h
-flow_behaves_by options next s.HeadingAtxStart cells h = heading_at options cells h
-flow_behaves_by options next s.HeadingAtxBefore cells h = before_opening cells h
-flow_behaves_by options next s.HeadingAtxSequenceOpen cells h = in_opening cells h
-flow_behaves_by options next s.HeadingAtxAtBreak cells h = heading.at_break cells h
-flow_behaves_by options next s.HeadingAtxSequenceFurther cells h = in_heading Hashes cells h
-flow_behaves_by options next s.HeadingAtxData cells h = in_heading Text cells h
-flow_behaves_by options next s.SpaceOrTabStart cells h = white_at cells h
-flow_behaves_by options next s.SpaceOrTabInside cells h = inside_white cells h
-flow_behaves_by options next s.SpaceOrTabAfter cells h = after_white cells h
-flow_behaves_by options next s.ThematicBreakStart cells h = break_at options cells h
-flow_behaves_by options next s.ThematicBreakBefore cells h = before_marker cells h
-flow_behaves_by options next s.ThematicBreakAtBreak cells h = at_break cells h
-flow_behaves_by options next s.ThematicBreakSequence cells h = in_break Marks cells h
+flow_behaves_by options next (s.BlankLine state) cells h = blank_behaves state cells h
+flow_behaves_by options next (s.BlockQuote state) cells h = quote_behaves options state cells h
+flow_behaves_by options next (s.Content state) cells h = chunk_behaves state cells h
+flow_behaves_by options next (s.Document state) cells h = containers_behave options next state cells h
+flow_behaves_by options next (s.Flow state) cells h = leaves_behave options next state cells h
+flow_behaves_by options next (s.HeadingAtx state) cells h = heading_behaves options state cells h
+flow_behaves_by options next (s.SpaceOrTab state) cells h = white_behaves state cells h
+flow_behaves_by options next (s.ThematicBreak state) cells h = break_behaves options state cells h
 flow_behaves_by options next _ cells h = Refuses h.scratch h.flags
 
 -- where all further lines follow behind it

@@ -15,6 +15,7 @@ use md_engine::configuration::ParseOptions;
 use md_engine::event::{Content, Event, Point};
 use md_engine::message::Message;
 pub use md_engine::parse_state::ParseState;
+use md_engine::state::document::State as DocumentState;
 use md_engine::state::{Name as StateName, State};
 use md_engine::subtokenize::Subresult;
 use md_engine::table::{flush, push};
@@ -83,7 +84,7 @@ fn read_mark<'a>(
     ensures { IfOk result (λ tokenizer. ReadsMark bytes.now (world tokenizer)) }
 {
     let mut tokenizer = Tokenizer::new(alloc, FIRST_POINT, bytes, options);
-    let start = State::Next(StateName::DocumentStart);
+    let start = State::Next(StateName::Document(DocumentState::Start));
     let end = match push::<DocumentTable>(&mut tokenizer, bytes.len(), start) {
         State::Error => return Err(Message),
         end => end,
@@ -106,7 +107,7 @@ fn read_flow<'a>(
     ensures { IfOk result (λ read. FlowReads bytes.now options.now start (found_in read.1) (world read.0)) }
 {
     let mut tokenizer = Tokenizer::new(alloc, start, bytes, options);
-    let start = State::Next(StateName::DocumentContainerExistingBefore);
+    let start = State::Next(StateName::Document(DocumentState::ContainerExistingBefore));
     let end = match push::<FlowTable>(&mut tokenizer, bytes.len(), start) {
         State::Error => return Err(Message),
         end => end,

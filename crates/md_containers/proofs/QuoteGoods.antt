@@ -1,47 +1,59 @@
 -- The prefix of a quote stands and ends in any table that has it.
-use Rattle.std.proofs.Common.{◌≡◌, Bool, true, false, refl, arith}
+use Rattle.std.proofs.Common.{◌≡◌, Bool, true, false, refl, arith, ap, sym}
 use Rattle.md_engine.specs.declared.event.Name.TheVariants as parts
 use Rattle.md_engine.specs.declared.state.Name.TheVariants as n
+use Rattle.md_engine.specs.declared.state.block_quote.State.{State as QuoteState}
+use Rattle.md_engine.specs.declared.state.block_quote.State.TheVariants as its
 use Rattle.md_engine.specs.Scheme.{Fits, Scheme, after_all, seen, spot}
-use Rattle.md_engine.specs.World.{World}
+use Rattle.md_engine.specs.World.{World, looks}
 use Rattle.md_engine.proofs.Falls.{passed, passing_at}
 use Rattle.md_engine.proofs.Local.{accepts, consumes, refuses_later, turns}
 use Rattle.md_engine.proofs.Points.{takes_past}
-use Rattle.md_containers.specs.Quote.{cont_after_code, cont_before_code, cont_start_code, quote_scheme, start_code}
+use Rattle.md_containers.specs.Quote.{cont_after_code, cont_before_code, cont_start_code, quote_ready, quote_scheme, quote_transition, start_code}
 use Rattle.md_seam.specs.Spaces.{IsRest, is_current, later_ready, rest_ready, sees_white, small_indent}
 use Rattle.md_seam.specs.Transition.{entered, exited}
 use Rattle.md_seam.proofs.SpacesGoods.{Does, WhiteFits, accepts-behind, rest-calm, rest-none, seen-in, white_try_later}
 
 pub record QuoteFits (T : Scheme) : Type 1 where
   pub white : WhiteFits T
-  pub start : Fits T quote_scheme n.BlockQuoteStart
-  pub cont_start : Fits T quote_scheme n.BlockQuoteContStart
-  pub cont_before : Fits T quote_scheme n.BlockQuoteContBefore
-  pub cont_after : Fits T quote_scheme n.BlockQuoteContAfter
+  pub each : (state : QuoteState) → Fits T quote_scheme (n.BlockQuote state)
 
-pub good_quote_start : (T : Scheme) (w : World) (x : Bool) → QuoteFits T → later_ready (spot w) (after_all T w.frames) → Does T n.BlockQuoteStart w (start_code w x)
+good_quote_start : (T : Scheme) (w : World) (x : Bool) → QuoteFits T → later_ready (spot w) (after_all T w.frames) →
+    Does T (n.BlockQuote its.Start) w (start_code w x)
 good_quote_start T w true has r =
-    (turns T quote_scheme _ _ w (entered w parts.BlockQuote).events w.scratch has.start has.cont_start r (omega arith) (omega arith), refl)
+    (turns T quote_scheme _ _ w (entered w parts.BlockQuote).events w.scratch (has.each its.Start) (has.each its.ContStart) r (omega arith) (omega arith), refl)
 good_quote_start T w false has r =
     (refuses_later T _ w _ _ w.events w.scratch r.1 r.0, refl)
 
-pub good_cont_start : (T : Scheme) (w : World) (x : Bool) → QuoteFits T → later_ready (spot w) (after_all T w.frames) → Does T n.BlockQuoteContStart w (cont_start_code w x)
+good_cont_start : (T : Scheme) (w : World) (x : Bool) → QuoteFits T → later_ready (spot w) (after_all T w.frames) →
+    Does T (n.BlockQuote its.ContStart) w (cont_start_code w x)
 good_cont_start T w true has r =
-    white_try_later T quote_scheme _ n.BlockQuoteContBefore w w.events w.scratch 1 (small_indent w.setting.options) IsRest IsRest has.white has.cont_start has.cont_before (rest-none w.scratch r.0) (λ some. rest-calm w.scratch r.0) r.1
+    white_try_later T quote_scheme _ (n.BlockQuote its.ContBefore) w w.events w.scratch 1 (small_indent w.setting.options) IsRest IsRest has.white (has.each its.ContStart) (has.each its.ContBefore) (rest-none w.scratch r.0) (λ some. rest-calm w.scratch r.0) r.1
     (λ q t up way. (rest-calm w.scratch r.0, passing_at _ _ (spot w) _ q t _ up way r.1)) (omega arith) (omega arith) (λ t up. omega arith) (omega arith)
 good_cont_start T w false has r =
-    (turns T quote_scheme _ _ w w.events w.scratch has.cont_start has.cont_before r (omega arith) (omega arith), refl)
+    (turns T quote_scheme _ _ w w.events w.scratch (has.each its.ContStart) (has.each its.ContBefore) r (omega arith) (omega arith), refl)
 
-pub good_cont_before : (T : Scheme) (w : World) (x : Bool) → QuoteFits T → later_ready (spot w) (after_all T w.frames) → is_current 62 (seen (spot w)) ≡ x → Does T n.BlockQuoteContBefore w (cont_before_code w x)
+good_cont_before : (T : Scheme) (w : World) (x : Bool) → QuoteFits T → later_ready (spot w) (after_all T w.frames) →
+    is_current 62 (seen (spot w)) ≡ x → Does T (n.BlockQuote its.ContBefore) w (cont_before_code w x)
 good_cont_before T w true has r e =
     let inside = seen-in (spot w) (is_current 62) refl e in
-    (consumes T quote_scheme _ _ w (cont_before_code w true).world.events w.scratch has.cont_before has.cont_after inside (r.0, passed _ _ (spot w) _ _ _ (takes_past w.setting w.point inside) r.1) (omega arith), refl)
+    (consumes T quote_scheme _ _ w (cont_before_code w true).world.events w.scratch (has.each its.ContBefore) (has.each its.ContAfter) inside (r.0, passed _ _ (spot w) _ _ _ (takes_past w.setting w.point inside) r.1) (omega arith), refl)
 good_cont_before T w false has r e =
     (refuses_later T _ w _ _ w.events w.scratch r.1 r.0, refl)
 
-pub good_cont_after : (T : Scheme) (w : World) (x : Bool) → QuoteFits T → rest_ready (spot w) (after_all T w.frames) → sees_white (seen (spot w)) ≡ x → Does T n.BlockQuoteContAfter w (cont_after_code w x)
+good_cont_after : (T : Scheme) (w : World) (x : Bool) → QuoteFits T → rest_ready (spot w) (after_all T w.frames) →
+    sees_white (seen (spot w)) ≡ x → Does T (n.BlockQuote its.ContAfter) w (cont_after_code w x)
 good_cont_after T w true has r e =
     let inside = seen-in (spot w) sees_white refl e in
-    (accepts-behind T n.BlockQuoteContAfter w _ _ (cont_after_code w true).world.events w.scratch inside r.1 r.0, refl)
+    (accepts-behind T (n.BlockQuote its.ContAfter) w _ _ (cont_after_code w true).world.events w.scratch inside r.1 r.0, refl)
 good_cont_after T w false has r e =
     (accepts T _ w _ _ (exited w parts.BlockQuotePrefix).events w.scratch r.1 r.0, refl)
+
+-- each state of the prefix of a quote
+pub quote_does : (T : Scheme) (state : QuoteState) (w : World) → QuoteFits T → w.current ≡ looks w →
+    quote_ready (n.BlockQuote state) (spot w) (after_all T w.frames) →
+    Does T (n.BlockQuote state) w (quote_transition state w)
+quote_does T its.Start w has c r = good_quote_start T w _ has r
+quote_does T its.ContStart w has c r = good_cont_start T w _ has r
+quote_does T its.ContBefore w has c r = good_cont_before T w _ has r (ap (is_current 62) (sym c))
+quote_does T its.ContAfter w has c r = good_cont_after T w _ has r (ap sees_white (sym c))

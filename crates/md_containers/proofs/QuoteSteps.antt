@@ -4,12 +4,14 @@ use Rattle.md_engine.specs.declared.configuration.ParseOptions.{ParseOptions}
 use Rattle.md_engine.specs.declared.event.Event.{Event}
 use Rattle.md_engine.specs.declared.event.Name.TheVariants.{BlockQuote, BlockQuoteMarker, BlockQuotePrefix, SpaceOrTab}
 use Rattle.md_engine.specs.declared.state.Name.TheVariants as n
+use Rattle.md_engine.specs.declared.state.block_quote.State.{State as QuoteState}
+use Rattle.md_engine.specs.declared.state.block_quote.State.TheVariants as its
 use Rattle.md_engine.specs.declared.state.State.TheVariants.{Nok, Next}
 use Rattle.md_engine.specs.declared.tokenizer.Frame.{Frame}
 use Rattle.md_engine.specs.Meaning.{Accepts, Behaviour, Cell, Feed, Here, Refuses, Steps, here}
 use Rattle.md_engine.specs.World.{World, after}
 use Rattle.md_engine.proofs.StepOf.{Sees, ahead, begins_only, moves, passes}
-use Rattle.md_containers.specs.Quote.{cont_after_code, cont_before_code, cont_start_code, start_code}
+use Rattle.md_containers.specs.Quote.{cont_after_code, cont_before_code, cont_start_code, quote_transition, start_code}
 use Rattle.md_containers.specs.QuoteRule.{HasQuote, at_marker, behind_marker, prefix_at, quote_at}
 use Rattle.md_seam.specs.Ahead.{begins_white, white_rest}
 use Rattle.md_seam.specs.Events.Nested.{enter, exit}
@@ -27,12 +29,13 @@ pub quote-off : (options : ParseOptions) (cells : List Cell) (h : Here) → opti
 unfolding quote_at
 quote-off options cells h off = rw off refl
 
-pub quote_start_steps : (B : Behaviour) (feed : Feed) (w : World) (x : Bool) → HasQuote B w.setting.options → w.setting.options.constructs.block_quote ≡ x →
-    Steps B feed (Next n.BlockQuoteStart) w (start_code w x).to (start_code w x).world
+quote_start_steps : (B : Behaviour) (feed : Feed) (w : World) (x : Bool) → HasQuote B w.setting.options →
+    w.setting.options.constructs.block_quote ≡ x →
+    Steps B feed (Next (n.BlockQuote its.Start)) w (start_code w x).to (start_code w x).world
 quote_start_steps B feed w true has e =
-    moves B feed _ _ w (start_code w true).world (enter BlockQuote w.point ∷ []) refl refl (has.start _ _ ∙ quote-on _ (feed w.point) (here w) e ∙ sym (has.cont_start _ _))
+    moves B feed _ _ w (start_code w true).world (enter BlockQuote w.point ∷ []) refl refl (has.each its.Start _ _ ∙ quote-on _ (feed w.point) (here w) e ∙ sym (has.each its.ContStart _ _))
 quote_start_steps B feed w false has e =
-    passes B feed _ _ w w refl refl (has.start _ _ ∙ quote-off _ (feed w.point) (here w) e)
+    passes B feed _ _ w w refl refl (has.each its.Start _ _ ∙ quote-off _ (feed w.point) (here w) e)
 
 -- The indent.
 
@@ -45,16 +48,17 @@ prefix-none : (options : ParseOptions) (cells : List Cell) (h : Here) → begins
 unfolding prefix_at
 prefix-none options cells h s = rw s refl
 
-pub quote_cont_start_steps : (B : Behaviour) (feed : Feed) (w : World) (x : Bool) → HasQuote B w.setting.options → Sees feed w → sees_white w.current ≡ x →
-    Steps B feed (Next n.BlockQuoteContStart) w (cont_start_code w x).to (cont_start_code w x).world
+quote_cont_start_steps : (B : Behaviour) (feed : Feed) (w : World) (x : Bool) → HasQuote B w.setting.options →
+    Sees feed w → sees_white w.current ≡ x →
+    Steps B feed (Next (n.BlockQuote its.ContStart)) w (cont_start_code w x).to (cont_start_code w x).world
 quote_cont_start_steps B feed w true has s e =
-    let f : Frame = record { ok = Next n.BlockQuoteContBefore; nok = Nok; is_check = false; events_len = length w.events; point = w.point } in
+    let f : Frame = record { ok = Next (n.BlockQuote its.ContBefore); nok = Nok; is_check = false; events_len = length w.events; point = w.point } in
     let white : begins_white (feed w.point) ≡ true = begins-seen feed w s ∙ e in
     begins_only B feed _ _ w (cont_start_code w true).world f refl refl
-    (has.cont_start _ _ ∙ prefix-white _ (feed w.point) (here w) white ∙ sym (has.cont_before _ _)
+    (has.each its.ContStart _ _ ∙ prefix-white _ (feed w.point) (here w) white ∙ sym (has.each its.ContBefore _ _)
     ∙ white-tried B feed f w.events (feed w.point) (here w) 1 (small_indent w.setting.options) has.white white (small-some w.setting.options) (omega arith) refl)
 quote_cont_start_steps B feed w false has s e =
-    passes B feed _ _ w w refl refl (has.cont_start _ _ ∙ prefix-none _ (feed w.point) (here w) (begins-seen feed w s ∙ e) ∙ sym (has.cont_before _ _))
+    passes B feed _ _ w w refl refl (has.each its.ContStart _ _ ∙ prefix-none _ (feed w.point) (here w) (begins-seen feed w s ∙ e) ∙ sym (has.each its.ContBefore _ _))
 
 -- The marker.
 
@@ -74,18 +78,19 @@ marker-none feed w h (Some b) e = rw e refl
 three : (events : List Event) (a b c : Event) → ((events ++ a ∷ []) ++ b ∷ []) ++ c ∷ [] ≡ events ++ a ∷ b ∷ c ∷ []
 three events a b c = simp append_assoc
 
-pub quote_cont_before_steps : (B : Behaviour) (options : ParseOptions) (feed : Feed) (w : World) (x : Bool) → HasQuote B options → Sees feed w → is_current 62 w.current ≡ x →
-    Steps B feed (Next n.BlockQuoteContBefore) w (cont_before_code w x).to (cont_before_code w x).world
+quote_cont_before_steps : (B : Behaviour) (options : ParseOptions) (feed : Feed) (w : World) (x : Bool) →
+    HasQuote B options → Sees feed w → is_current 62 w.current ≡ x →
+    Steps B feed (Next (n.BlockQuote its.ContBefore)) w (cont_before_code w x).to (cont_before_code w x).world
 quote_cont_before_steps B options feed w true has s e =
     let q = after w.setting w.point in
     let a = enter BlockQuotePrefix w.point in
     let b = enter BlockQuoteMarker w.point in
     let c = exit BlockQuoteMarker q in
     moves B feed _ _ w (cont_before_code w true).world (a ∷ b ∷ c ∷ []) refl (three w.events a b c)
-    (has.cont_before _ _ ∙ ap (λ (x : List Cell). at_marker x (here w)) s.next ∙ marker-taken feed w (here w) w.current e
-    ∙ ap (λ (es : List Event). behind_marker (feed q) (record (here w) { events = es; point = q })) (sym (three w.events a b c)) ∙ sym (has.cont_after _ _))
+    (has.each its.ContBefore _ _ ∙ ap (λ (x : List Cell). at_marker x (here w)) s.next ∙ marker-taken feed w (here w) w.current e
+    ∙ ap (λ (es : List Event). behind_marker (feed q) (record (here w) { events = es; point = q })) (sym (three w.events a b c)) ∙ sym (has.each its.ContAfter _ _))
 quote_cont_before_steps B options feed w false has s e =
-    passes B feed _ _ w w refl refl (has.cont_before _ _ ∙ ap (λ (x : List Cell). at_marker x (here w)) s.next ∙ marker-none feed w (here w) w.current e)
+    passes B feed _ _ w w refl refl (has.each its.ContBefore _ _ ∙ ap (λ (x : List Cell). at_marker x (here w)) s.next ∙ marker-none feed w (here w) w.current e)
 
 -- Behind the marker.
 
@@ -100,16 +105,26 @@ unfolding behind_marker
 behind-none feed w h None e = refl
 behind-none feed w h (Some b) e = rw e refl
 
-pub quote_cont_after_steps : (B : Behaviour) (options : ParseOptions) (feed : Feed) (w : World) (x : Bool) → HasQuote B options → Sees feed w → sees_white w.current ≡ x →
-    Steps B feed (Next n.BlockQuoteContAfter) w (cont_after_code w x).to (cont_after_code w x).world
+quote_cont_after_steps : (B : Behaviour) (options : ParseOptions) (feed : Feed) (w : World) (x : Bool) →
+    HasQuote B options → Sees feed w → sees_white w.current ≡ x →
+    Steps B feed (Next (n.BlockQuote its.ContAfter)) w (cont_after_code w x).to (cont_after_code w x).world
 quote_cont_after_steps B options feed w true has s e =
     let q = after w.setting w.point in
     let a = enter SpaceOrTab w.point in
     let b = exit SpaceOrTab q in
     let c = exit BlockQuotePrefix q in
     moves B feed _ _ w (cont_after_code w true).world (a ∷ b ∷ c ∷ []) refl (three w.events a b c)
-    (has.cont_after _ _ ∙ ap (λ (x : List Cell). behind_marker x (here w)) s.next ∙ behind-white feed w (here w) w.current e
+    (has.each its.ContAfter _ _ ∙ ap (λ (x : List Cell). behind_marker x (here w)) s.next ∙ behind-white feed w (here w) w.current e
     ∙ ap (λ (es : List Event). Accepts (record (here w) { events = es ++ c ∷ []; point = q }) (feed q)) (sym (append_assoc w.events (a ∷ []) (b ∷ []))))
 quote_cont_after_steps B options feed w false has s e =
     moves B feed _ _ w (cont_after_code w false).world (exit BlockQuotePrefix w.point ∷ []) refl refl
-    (has.cont_after _ _ ∙ ap (λ (x : List Cell). behind_marker x (here w)) s.next ∙ behind-none feed w (here w) w.current e ∙ ap (λ (x : List Cell). Accepts (record (here w) { events = w.events ++ exit BlockQuotePrefix w.point ∷ [] }) x) (sym s.next))
+    (has.each its.ContAfter _ _ ∙ ap (λ (x : List Cell). behind_marker x (here w)) s.next ∙ behind-none feed w (here w) w.current e ∙ ap (λ (x : List Cell). Accepts (record (here w) { events = w.events ++ exit BlockQuotePrefix w.point ∷ [] }) x) (sym s.next))
+
+-- each state of the prefix of a quote takes one step of what it means
+pub quote_steps : (B : Behaviour) (feed : Feed) (state : QuoteState) (w : World) → HasQuote B w.setting.options →
+    Sees feed w →
+    Steps B feed (Next (n.BlockQuote state)) w (quote_transition state w).to (quote_transition state w).world
+quote_steps B feed its.Start w has s = quote_start_steps B feed w _ has refl
+quote_steps B feed its.ContStart w has s = quote_cont_start_steps B feed w _ has s refl
+quote_steps B feed its.ContBefore w has s = quote_cont_before_steps B _ feed w _ has s refl
+quote_steps B feed its.ContAfter w has s = quote_cont_after_steps B _ feed w _ has s refl

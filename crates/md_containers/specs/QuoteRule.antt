@@ -4,7 +4,9 @@ use Rattle.md_engine.specs.declared.configuration.ParseOptions.{ParseOptions}
 use Rattle.md_engine.specs.declared.event.Event.{Event}
 use Rattle.md_engine.specs.declared.event.Name.TheVariants.{BlockQuote, BlockQuoteMarker, BlockQuotePrefix, SpaceOrTab}
 use Rattle.md_engine.specs.declared.event.Point.{Point}
-use Rattle.md_engine.specs.declared.state.Name.TheVariants.{BlockQuoteStart, BlockQuoteContStart, BlockQuoteContBefore, BlockQuoteContAfter}
+use Rattle.md_engine.specs.declared.state.Name.TheVariants as n
+use Rattle.md_engine.specs.declared.state.block_quote.State.{State as QuoteState}
+use Rattle.md_engine.specs.declared.state.block_quote.State.TheVariants as its
 use Rattle.md_engine.specs.Meaning.{Accepts, Behaviour, Cell, Here, Outcome, Refuses}
 use Rattle.md_seam.specs.Ahead.{HasWhite, begins_white, white_end, white_rest}
 use Rattle.md_seam.specs.Events.Nested.{enter, exit, pair}
@@ -100,9 +102,13 @@ prefix_rest options cells = marker_rest (white_rest (small_indent options) cells
 abbrev pub prefix_end : ParseOptions → List Cell → Point → Point
 prefix_end options cells p = marker_end (white_rest (small_indent options) cells) (white_end (small_indent options) cells p)
 
+-- what is left at each state
+abbrev pub quote_behaves : ParseOptions → QuoteState → List Cell → Here → Outcome
+quote_behaves options its.Start cells h = quote_at options cells h
+quote_behaves options its.ContStart cells h = prefix_at options cells h
+quote_behaves options its.ContBefore cells h = at_marker cells h
+quote_behaves options its.ContAfter cells h = behind_marker cells h
+
 pub record HasQuote (B : Behaviour) (options : ParseOptions) : Type 0 where
   pub white : HasWhite B
-  pub start : (cells : List Cell) (h : Here) → B BlockQuoteStart cells h ≡ quote_at options cells h
-  pub cont_start : (cells : List Cell) (h : Here) → B BlockQuoteContStart cells h ≡ prefix_at options cells h
-  pub cont_before : (cells : List Cell) (h : Here) → B BlockQuoteContBefore cells h ≡ at_marker cells h
-  pub cont_after : (cells : List Cell) (h : Here) → B BlockQuoteContAfter cells h ≡ behind_marker cells h
+  pub each : (state : QuoteState) (cells : List Cell) (h : Here) → B (n.BlockQuote state) cells h ≡ quote_behaves options state cells h

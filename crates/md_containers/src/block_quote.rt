@@ -10,11 +10,13 @@ ghost use Rattle.std.specs.Prelude.{◌≡◌, ◌≢◌};
 ghost use Rattle.md_engine.specs.World.{world};
 ghost use Rattle.md_engine.specs.declared.state.Name.{Name as StateName};
 ghost use Rattle.md_engine.specs.declared.state.State.{State};
-ghost use Rattle.md_containers.specs.Quote.{cont_after_transition, cont_before_transition, cont_start_transition, start_transition};
+ghost use Rattle.md_engine.specs.declared.state.block_quote.State.{State as QuoteState};
+ghost use Rattle.md_containers.specs.Quote.{cont_after_transition, cont_before_transition, cont_start_transition, quote_transition, start_transition};
 ghost use Rattle.md_seam.specs.Transition.{IsAt, NeedsNothing};
 
 use md_engine::event::Name;
 use md_engine::or_error;
+use md_engine::state::block_quote::State as QuoteState;
 use md_engine::state::{Name as StateName, State};
 use md_engine::tokenizer::Tokenizer;
 use md_seam::space_or_tab::{is_space_or_tab, small_indent, space_or_tab_min_max};
@@ -26,7 +28,7 @@ use md_seam::space_or_tab::{is_space_or_tab, small_indent, space_or_tab_min_max}
 ///     ^
 /// ```
 pub fn start(tokenizer: &mut Tokenizer) -> State
-    requires { IsAt NeedsNothing StateName.BlockQuoteStart (world tokenizer.old) }
+    requires { IsAt NeedsNothing (StateName.BlockQuote QuoteState.Start) (world tokenizer.old) }
     ensures to { result ≢ State.Error → result ≡ (start_transition (world tokenizer.old)).to }
     ensures world { result ≢ State.Error → world tokenizer.new ≡ (start_transition (world tokenizer.old)).world }
 {
@@ -34,7 +36,7 @@ pub fn start(tokenizer: &mut Tokenizer) -> State
         return State::Nok;
     }
     or_error!(tokenizer.enter(Name::BlockQuote));
-    State::Retry(StateName::BlockQuoteContStart)
+    State::Retry(StateName::BlockQuote(QuoteState::ContStart))
 }
 
 /// Before the prefix of a line.
@@ -45,7 +47,7 @@ pub fn start(tokenizer: &mut Tokenizer) -> State
 ///     ^
 /// ```
 pub fn cont_start(tokenizer: &mut Tokenizer) -> State
-    requires { IsAt NeedsNothing StateName.BlockQuoteContStart (world tokenizer.old) }
+    requires { IsAt NeedsNothing (StateName.BlockQuote QuoteState.ContStart) (world tokenizer.old) }
     ensures to { result ≢ State.Error → result ≡ (cont_start_transition (world tokenizer.old)).to }
     ensures world { result ≢ State.Error → world tokenizer.new ≡ (cont_start_transition (world tokenizer.old)).world }
 {
@@ -55,11 +57,11 @@ pub fn cont_start(tokenizer: &mut Tokenizer) -> State
             tokenizer,
             1,
             max,
-            State::Next(StateName::BlockQuoteContBefore),
+            State::Next(StateName::BlockQuote(QuoteState::ContBefore)),
             State::Nok,
         )
     } else {
-        State::Retry(StateName::BlockQuoteContBefore)
+        State::Retry(StateName::BlockQuote(QuoteState::ContBefore))
     }
 }
 
@@ -70,7 +72,7 @@ pub fn cont_start(tokenizer: &mut Tokenizer) -> State
 ///     ^
 /// ```
 pub fn cont_before(tokenizer: &mut Tokenizer) -> State
-    requires { IsAt NeedsNothing StateName.BlockQuoteContBefore (world tokenizer.old) }
+    requires { IsAt NeedsNothing (StateName.BlockQuote QuoteState.ContBefore) (world tokenizer.old) }
     ensures to { result ≢ State.Error → result ≡ (cont_before_transition (world tokenizer.old)).to }
     ensures world { result ≢ State.Error → world tokenizer.new ≡ (cont_before_transition (world tokenizer.old)).world }
 {
@@ -81,7 +83,7 @@ pub fn cont_before(tokenizer: &mut Tokenizer) -> State
     or_error!(tokenizer.enter(Name::BlockQuoteMarker));
     tokenizer.consume();
     or_error!(tokenizer.exit(Name::BlockQuoteMarker));
-    State::Next(StateName::BlockQuoteContAfter)
+    State::Next(StateName::BlockQuote(QuoteState::ContAfter))
 }
 
 /// Behind `>`: one column of whitespace belongs to the prefix, if it is there.
@@ -91,7 +93,7 @@ pub fn cont_before(tokenizer: &mut Tokenizer) -> State
 ///      ^
 /// ```
 pub fn cont_after(tokenizer: &mut Tokenizer) -> State
-    requires { IsAt NeedsNothing StateName.BlockQuoteContAfter (world tokenizer.old) }
+    requires { IsAt NeedsNothing (StateName.BlockQuote QuoteState.ContAfter) (world tokenizer.old) }
     ensures to { result ≢ State.Error → result ≡ (cont_after_transition (world tokenizer.old)).to }
     ensures world { result ≢ State.Error → world tokenizer.new ≡ (cont_after_transition (world tokenizer.old)).world }
 {
@@ -102,4 +104,18 @@ pub fn cont_after(tokenizer: &mut Tokenizer) -> State
     }
     or_error!(tokenizer.exit(Name::BlockQuotePrefix));
     State::Ok
+}
+
+/// Calls a state of a quote.
+pub fn call(tokenizer: &mut Tokenizer, state: QuoteState) -> State
+    requires { IsAt NeedsNothing (StateName.BlockQuote state) (world tokenizer.old) }
+    ensures to { result ≢ State.Error → result ≡ (quote_transition state (world tokenizer.old)).to }
+    ensures world { result ≢ State.Error → world tokenizer.new ≡ (quote_transition state (world tokenizer.old)).world }
+{
+    match state {
+        QuoteState::Start => start(tokenizer),
+        QuoteState::ContStart => cont_start(tokenizer),
+        QuoteState::ContBefore => cont_before(tokenizer),
+        QuoteState::ContAfter => cont_after(tokenizer),
+    }
 }

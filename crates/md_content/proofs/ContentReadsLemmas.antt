@@ -3,7 +3,8 @@ use Rattle.std.proofs.Common.{◌≡◌, ◌^◌, ◌+◌, ◌<◌, ◌≤◌, �
 use Rattle.std.proofs.lemmas.List.{drop_all}
 use Rattle.md_engine.specs.declared.configuration.ParseOptions.{ParseOptions}
 use Rattle.md_engine.specs.declared.resolve.Name.{Name as ResolveName}
-use Rattle.md_engine.specs.declared.state.Name.TheVariants.{ParagraphStart}
+use Rattle.md_engine.specs.declared.state.Name.TheVariants as n
+use Rattle.md_engine.specs.declared.state.paragraph.State.TheVariants as its
 use Rattle.md_engine.specs.declared.state.State.{State}
 use Rattle.md_engine.specs.declared.state.State.TheVariants.{Next}
 use Rattle.md_engine.specs.declared.tokenizer.Frame.{Frame}
@@ -62,9 +63,10 @@ over : List Cell → World → Here
 over cells w = record (here w) { events = paragraph_over cells w.point; point = point_after cells w.point }
 
 -- a paragraph is all that a part comes to
-part-comes-to : (feed : Feed) (w : World) → w.frames ≡ [] → w.events ≡ [] → comes_to content_behaves feed (Next ParagraphStart) w ≡ Accepts (over (feed w.point) w) []
+part-comes-to : (feed : Feed) (w : World) → w.frames ≡ [] → w.events ≡ [] →
+    comes_to content_behaves feed (Next (n.Paragraph its.Start)) w ≡ Accepts (over (feed w.point) w) []
 unfolding paragraph_at paragraph_line inside_paragraph over
-part-comes-to feed w f e = ap (λ (x : List Frame). resume_all content_behaves feed w.events x (goes content_behaves (Next ParagraphStart) (feed w.point) (here w))) f
+part-comes-to feed w f e = ap (λ (x : List Frame). resume_all content_behaves feed w.events x (goes content_behaves (Next (n.Paragraph its.Start)) (feed w.point) (here w))) f
     ∙ rw e refl
 
 resolved-same : (R : Resolution) (w : World) (names : List ResolveName) (found : Found) (v : World) → ((n : ResolveName) (old : World) (m : Option Found) (new : World) → R n old m new → new ≡ old) → Resolved R w names found v → v ≡ w
@@ -72,13 +74,14 @@ resolved-same R w names found v same NoneYet = refl
 resolved-same R w names found v same (More ns n f m v' v'' r step) = same n v' m v'' step ∙ resolved-same R w ns f v' same r
 
 -- a part stands where it begins
-part-stands : (w : World) → IsRest w.scratch → w.frames ≡ [] → stands content_scheme w (Next ParagraphStart)
+part-stands : (w : World) → IsRest w.scratch → w.frames ≡ [] → stands content_scheme w (Next (n.Paragraph its.Start))
 part-stands w rest none = (rest, rw none (record { ok = λ s q t is g r. tt; nok = λ s q t is g. tt }))
 
 -- what is read of a part
 pub part-read : (bytes : List ℕ) (options : ParseOptions) (chunks : List Chunk) (i : ℕ) (w w' : World) (end : ℕ) (s : State) (R : Resolution) (found : Found) (new : World) →
     length chunks ≤ i → skipping_all w (drop i chunks) ≡ skipping_all (fresh bytes options (first_of chunks)) chunks → end ≡ end_of chunks → end < 2 ^ 61 →
-    Runs ContentStep false (Next ParagraphStart) (reads_to w end) s w' → w'.setting ≡ (reads_to w end).setting →
+    Runs ContentStep false (Next (n.Paragraph its.Start)) (reads_to w end) s w' →
+    w'.setting ≡ (reads_to w end).setting →
     ((n : ResolveName) (old : World) (m : Option Found) (v : World) → R n old m v → v ≡ old) → Flushes ContentStep R s w' true found new →
     settled chunks new.events ≡ content_events bytes options chunks
 unfolding content_events over
@@ -89,7 +92,7 @@ part-read bytes options chunks i w w' end s R found new le skips last small run 
     let events : w.events ≡ [] = ap (λ (x : World). x.events) shape in
     let rest : IsRest w.scratch = ap (λ (x : World). x.scratch) shape in
     let feed = text_feed (reads_to w end).setting in
-    let pushed = content_push (Next ParagraphStart) s w w' end end small (omega arith) (part-stands (reads_to w end) rest frames) run in
+    let pushed = content_push (Next (n.Paragraph its.Start)) s w w' end end small (omega arith) (part-stands (reads_to w end) rest frames) run in
     let at_end : comes_to content_behaves (text_feed w'.setting) s w' ≡ Accepts (over (feed w.point) w) [] =
     ap (λ (x : Setting). comes_to content_behaves (text_feed x) s w') kept ∙ sym pushed.0 ∙ part-comes-to feed w frames events in
     let h : over (feed w.point) w ≡ here f.at = content_outcome R s w' true found new (over (feed w.point) w) (rw kept small) pushed.1 at_end f in

@@ -5,6 +5,10 @@ use Rattle.md_engine.specs.declared.event.Name.TheVariants as parts
 use Rattle.md_engine.specs.declared.resolve.Name.{Name as ResolveName}
 use Rattle.md_engine.specs.declared.state.Name.{Name as StateName}
 use Rattle.md_engine.specs.declared.state.Name.TheVariants as n
+use Rattle.md_engine.specs.declared.state.content.State.{State as ContentState}
+use Rattle.md_engine.specs.declared.state.content.State.TheVariants as content
+use Rattle.md_engine.specs.declared.state.paragraph.State.{State as ParagraphState}
+use Rattle.md_engine.specs.declared.state.paragraph.State.TheVariants as paragraph
 use Rattle.md_engine.specs.declared.state.State.TheVariants.{Next}
 use Rattle.md_engine.specs.Meaning.{Accepts, Behaviour, Cell, Feed, Here, Steps, here}
 use Rattle.md_engine.specs.Run.{reading}
@@ -13,8 +17,8 @@ use Rattle.md_engine.specs.Standing.{MeansAt, StandsOn}
 use Rattle.md_engine.specs.World.{World, after}
 use Rattle.md_engine.proofs.StepOf.{Sees, ahead, cell_here, moves, passes, sees, steps-as}
 use Rattle.md_content.specs.ChunkRule.{HasChunk, chunk_at, inside_chunk}
-use Rattle.md_content.specs.Chunks.{chunk_inside_code, chunk_start_transition, content_link}
-use Rattle.md_content.specs.Paragraph.{inside_code, line_start_transition, start_transition, text_link}
+use Rattle.md_content.specs.Chunks.{chunk_inside_code, chunk_start_transition, chunk_transition, content_link}
+use Rattle.md_content.specs.Paragraph.{inside_code, line_start_transition, paragraph_transition, start_transition, text_link}
 use Rattle.md_content.specs.ParagraphRule.{HasParagraph, content_behaves, inside_paragraph, paragraph_at, paragraph_line}
 use Rattle.md_content.specs.States.{ContentStep, content_scheme, content_transition}
 use Rattle.md_content.proofs.States.{content_does}
@@ -24,9 +28,11 @@ use Rattle.md_seam.proofs.SpacesGoods.{does-stands}
 
 -- A line of content.
 
-pub chunk_start_steps : (B : Behaviour) (feed : Feed) (w : World) → HasChunk B → Steps B feed (Next n.ContentChunkStart) w (chunk_start_transition w).to (chunk_start_transition w).world
+chunk_start_steps : (B : Behaviour) (feed : Feed) (w : World) → HasChunk B →
+    Steps B feed (Next (n.Content content.ChunkStart)) w (chunk_start_transition w).to (chunk_start_transition w).world
 unfolding chunk_at
-chunk_start_steps B feed w has = moves B feed _ _ w (chunk_start_transition w).world (enter_link parts.Content w.point content_link ∷ []) refl refl (has.start _ _ ∙ sym (has.inside _ _))
+chunk_start_steps B feed w has =
+    moves B feed _ _ w (chunk_start_transition w).world (enter_link parts.Content w.point content_link ∷ []) refl refl (has.each content.ChunkStart _ _ ∙ sym (has.each content.ChunkInside _ _))
 
 chunk-ends : (feed : Feed) (w : World) (h : Here) (o : Option ℕ) → ends_line o ≡ true →
     inside_chunk (ahead feed w o) h ≡ Accepts (record h { events = h.events ++ exit parts.Content h.point ∷ []; flags = record h.flags { interrupt = true } }) (ahead feed w o)
@@ -40,23 +46,36 @@ unfolding inside_chunk
 chunk-more feed w h None e = cc
 chunk-more feed w h (Some b) e = rw e refl
 
-pub chunk_inside_steps : (B : Behaviour) (feed : Feed) (is_name : ResolveName → Bool) (w : World) (x : Bool) → HasChunk B → Sees feed w → ends_line w.current ≡ x →
-    Steps B feed (Next n.ContentChunkInside) w (chunk_inside_code is_name w x).to (chunk_inside_code is_name w x).world
+chunk_inside_steps : (B : Behaviour) (feed : Feed) (is_name : ResolveName → Bool) (w : World) (x : Bool) → HasChunk B →
+    Sees feed w → ends_line w.current ≡ x →
+    Steps B feed (Next (n.Content content.ChunkInside)) w (chunk_inside_code is_name w x).to (chunk_inside_code is_name w x).world
 chunk_inside_steps B feed is_name w true has s e =
-    moves B feed _ _ w (chunk_inside_code is_name w true).world (exit parts.Content w.point ∷ []) refl refl (has.inside _ _ ∙ rw s.next (chunk-ends feed w (here w) w.current e))
+    moves B feed _ _ w (chunk_inside_code is_name w true).world (exit parts.Content w.point ∷ []) refl refl (has.each content.ChunkInside _ _ ∙ rw s.next (chunk-ends feed w (here w) w.current e))
 chunk_inside_steps B feed is_name w false has s e =
     passes B feed _ _ w (chunk_inside_code is_name w false).world refl refl
-    (has.inside _ _ ∙ ap (λ (x : List Cell). inside_chunk x (here w)) s.next ∙ chunk-more feed w (here w) w.current e ∙ sym (has.inside _ _))
+    (has.each content.ChunkInside _ _ ∙ ap (λ (x : List Cell). inside_chunk x (here w)) s.next ∙ chunk-more feed w (here w) w.current e ∙ sym (has.each content.ChunkInside _ _))
+
+-- each state of a line of content takes one step of what it means
+pub chunk_steps : (B : Behaviour) (feed : Feed) (is_name : ResolveName → Bool) (state : ContentState) (w : World) →
+    HasChunk B → Sees feed w →
+    Steps B feed (Next (n.Content state)) w (chunk_transition is_name state w).to (chunk_transition is_name state w).world
+chunk_steps B feed is_name content.ChunkStart w has s = chunk_start_steps B feed w has
+chunk_steps B feed is_name content.ChunkInside w has s = chunk_inside_steps B feed is_name w _ has s refl
+chunk_steps B feed is_name state w has s = passes B feed _ _ w w refl refl (has.each state _ _)
 
 -- The paragraph.
 
-pub paragraph_start_steps : (B : Behaviour) (feed : Feed) (w : World) → HasParagraph B → Steps B feed (Next n.ParagraphStart) w (start_transition w).to (start_transition w).world
+paragraph_start_steps : (B : Behaviour) (feed : Feed) (w : World) → HasParagraph B →
+    Steps B feed (Next (n.Paragraph paragraph.Start)) w (start_transition w).to (start_transition w).world
 unfolding paragraph_at
-paragraph_start_steps B feed w has = moves B feed _ _ w (start_transition w).world (enter parts.Paragraph w.point ∷ []) refl refl (has.start _ _ ∙ sym (has.line_start _ _))
+paragraph_start_steps B feed w has =
+    moves B feed _ _ w (start_transition w).world (enter parts.Paragraph w.point ∷ []) refl refl (has.each paragraph.Start _ _ ∙ sym (has.each paragraph.LineStart _ _))
 
-pub paragraph_line_steps : (B : Behaviour) (feed : Feed) (w : World) → HasParagraph B → Steps B feed (Next n.ParagraphLineStart) w (line_start_transition w).to (line_start_transition w).world
+paragraph_line_steps : (B : Behaviour) (feed : Feed) (w : World) → HasParagraph B →
+    Steps B feed (Next (n.Paragraph paragraph.LineStart)) w (line_start_transition w).to (line_start_transition w).world
 unfolding paragraph_line
-paragraph_line_steps B feed w has = moves B feed _ _ w (line_start_transition w).world (enter_link parts.Data w.point text_link ∷ []) refl refl (has.line_start _ _ ∙ sym (has.inside _ _))
+paragraph_line_steps B feed w has =
+    moves B feed _ _ w (line_start_transition w).world (enter_link parts.Data w.point text_link ∷ []) refl refl (has.each paragraph.LineStart _ _ ∙ sym (has.each paragraph.Inside _ _))
 
 text-none : (h : Here) → inside_paragraph [] h ≡ Accepts (record h { events = h.events ++ exit parts.Data h.point ∷ [] ++ exit parts.Paragraph h.point ∷ [] }) []
 unfolding inside_paragraph
@@ -70,13 +89,14 @@ text-more : (c : Cell) (cs : List Cell) (h : Here) → nat_eq c.byte 10 ≡ fals
 unfolding inside_paragraph
 text-more c cs h e = rw e refl
 
-pub paragraph_inside_steps : (B : Behaviour) (feed : Feed) (w : World) → HasParagraph B → Sees feed w → Steps B feed (Next n.ParagraphInside) w (inside_code w w.current).to (inside_code w w.current).world
+paragraph_inside_steps : (B : Behaviour) (feed : Feed) (w : World) → HasParagraph B → Sees feed w →
+    Steps B feed (Next (n.Paragraph paragraph.Inside)) w (inside_code w w.current).to (inside_code w w.current).world
 paragraph_inside_steps B feed w has s = go w.current s.next
   where
-    go : (o : Option ℕ) → feed w.point ≡ ahead feed w o → Steps B feed (Next n.ParagraphInside) w (inside_code w o).to (inside_code w o).world
+    go : (o : Option ℕ) → feed w.point ≡ ahead feed w o → Steps B feed (Next (n.Paragraph paragraph.Inside)) w (inside_code w o).to (inside_code w o).world
     go None e =
         moves B feed _ _ w (inside_code w None).world (exit parts.Data w.point ∷ exit parts.Paragraph w.point ∷ []) refl (append_assoc w.events (exit parts.Data w.point ∷ []) _)
-        (has.inside _ _ ∙ ap (λ (x : List Cell). inside_paragraph x (here w)) e ∙ text-none (here w) ∙ ap (Accepts (here (inside_code w None).world)) (sym e))
+        (has.each paragraph.Inside _ _ ∙ ap (λ (x : List Cell). inside_paragraph x (here w)) e ∙ text-none (here w) ∙ ap (Accepts (here (inside_code w None).world)) (sym e))
     go (Some b) e = by (nat_eq b 10) refl
       where
         c : Cell
@@ -85,19 +105,25 @@ paragraph_inside_steps B feed w has s = go w.current s.next
         cs : List Cell
         cs = feed (after w.setting w.point)
 
-        by : (x : Bool) → nat_eq b 10 ≡ x → Steps B feed (Next n.ParagraphInside) w (inside_code w (Some b)).to (inside_code w (Some b)).world
-        by true k = rw k (moves B feed _ (Next n.ParagraphLineStart) w _ (exit parts.Data (after w.setting w.point) ∷ []) refl refl
-            (has.inside _ _ ∙ ap (λ (x : List Cell). inside_paragraph x (here w)) e ∙ text-ending c cs (here w) k ∙ sym (has.line_start _ _)))
-        by false k = rw k (passes B feed _ (Next n.ParagraphInside) w _ refl refl
-            (has.inside _ _ ∙ ap (λ (x : List Cell). inside_paragraph x (here w)) e ∙ text-more c cs (here w) k ∙ sym (has.inside _ _)))
+        by : (x : Bool) → nat_eq b 10 ≡ x → Steps B feed (Next (n.Paragraph paragraph.Inside)) w (inside_code w (Some b)).to (inside_code w (Some b)).world
+        by true k = rw k (moves B feed _ (Next (n.Paragraph paragraph.LineStart)) w _ (exit parts.Data (after w.setting w.point) ∷ []) refl refl
+            (has.each paragraph.Inside _ _ ∙ ap (λ (x : List Cell). inside_paragraph x (here w)) e ∙ text-ending c cs (here w) k ∙ sym (has.each paragraph.LineStart _ _)))
+        by false k = rw k (passes B feed _ (Next (n.Paragraph paragraph.Inside)) w _ refl refl
+            (has.each paragraph.Inside _ _ ∙ ap (λ (x : List Cell). inside_paragraph x (here w)) e ∙ text-more c cs (here w) k ∙ sym (has.each paragraph.Inside _ _)))
+
+-- each state of a paragraph takes one step of what it means
+paragraph_steps : (B : Behaviour) (feed : Feed) (state : ParagraphState) (w : World) → HasParagraph B → Sees feed w →
+    Steps B feed (Next (n.Paragraph state)) w (paragraph_transition state w).to (paragraph_transition state w).world
+paragraph_steps B feed paragraph.Start w has s = paragraph_start_steps B feed w has
+paragraph_steps B feed paragraph.LineStart w has s = paragraph_line_steps B feed w has
+paragraph_steps B feed paragraph.Inside w has s = paragraph_inside_steps B feed w has s
 
 has_paragraph : HasParagraph content_behaves
-has_paragraph = record { start = λ _ _. refl; line_start = λ _ _. refl; inside = λ _ _. refl }
+has_paragraph = record { each = λ _ _ _. refl }
 
-content_steps : (feed : Feed) (name : StateName) (w : World) → Sees feed w → stands content_scheme w (Next name) → Steps content_behaves feed (Next name) w (content_transition name w).to (content_transition name w).world
-content_steps feed n.ParagraphStart w s at = paragraph_start_steps content_behaves feed w has_paragraph
-content_steps feed n.ParagraphLineStart w s at = paragraph_line_steps content_behaves feed w has_paragraph
-content_steps feed n.ParagraphInside w s at = paragraph_inside_steps content_behaves feed w has_paragraph s
+content_steps : (feed : Feed) (name : StateName) (w : World) → Sees feed w → stands content_scheme w (Next name) →
+    Steps content_behaves feed (Next name) w (content_transition name w).to (content_transition name w).world
+content_steps feed (n.Paragraph state) w s at = paragraph_steps content_behaves feed state w has_paragraph s
 content_steps feed name w s at = absurd at
 
 -- each state of content takes one step of what it means

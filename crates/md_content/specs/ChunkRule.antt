@@ -1,8 +1,10 @@
 -- What is left of a line of content at each state, before it is read.
 use Rattle.std.specs.Prelude.{◌≡◌, true, List, [], ◌∷◌, ◌++◌}
 use Rattle.md_engine.specs.declared.event.Name.TheVariants as parts
-use Rattle.md_engine.specs.declared.state.Name.TheVariants.{ContentChunkStart, ContentChunkInside}
-use Rattle.md_engine.specs.Meaning.{Accepts, Behaviour, Cell, Here, Outcome}
+use Rattle.md_engine.specs.declared.state.Name.TheVariants as n
+use Rattle.md_engine.specs.declared.state.content.State.{State as ContentState}
+use Rattle.md_engine.specs.declared.state.content.State.TheVariants as its
+use Rattle.md_engine.specs.Meaning.{Accepts, Behaviour, Cell, Here, Outcome, Refuses}
 use Rattle.md_content.specs.Chunks.{content_link}
 use Rattle.md_seam.specs.Ahead.{from_ending, line_end}
 use Rattle.md_seam.specs.Events.Nested.{enter_link, exit}
@@ -17,6 +19,11 @@ inside_chunk cells h =
 unfoldable pub chunk_at : List Cell → Here → Outcome
 chunk_at cells h = inside_chunk cells (record h { events = h.events ++ enter_link parts.Content h.point content_link ∷ [] })
 
+-- what is left at each state
+abbrev pub chunk_behaves : ContentState → List Cell → Here → Outcome
+chunk_behaves its.ChunkStart cells h = chunk_at cells h
+chunk_behaves its.ChunkInside cells h = inside_chunk cells h
+chunk_behaves _ cells h = Refuses h.scratch h.flags
+
 pub record HasChunk (B : Behaviour) : Type 0 where
-  pub start : (cells : List Cell) (h : Here) → B ContentChunkStart cells h ≡ chunk_at cells h
-  pub inside : (cells : List Cell) (h : Here) → B ContentChunkInside cells h ≡ inside_chunk cells h
+  pub each : (state : ContentState) (cells : List Cell) (h : Here) → B (n.Content state) cells h ≡ chunk_behaves state cells h

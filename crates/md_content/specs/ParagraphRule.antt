@@ -3,7 +3,9 @@ use Rattle.std.specs.Prelude.{◌≡◌, ◌==◌, if◌then◌else◌, List, []
 use Rattle.md_engine.specs.declared.event.Event.{Event}
 use Rattle.md_engine.specs.declared.event.Name.TheVariants as parts
 use Rattle.md_engine.specs.declared.event.Point.{Point}
-use Rattle.md_engine.specs.declared.state.Name.TheVariants.{ParagraphStart, ParagraphLineStart, ParagraphInside}
+use Rattle.md_engine.specs.declared.state.Name.TheVariants as n
+use Rattle.md_engine.specs.declared.state.paragraph.State.{State as ParagraphState}
+use Rattle.md_engine.specs.declared.state.paragraph.State.TheVariants as its
 use Rattle.md_engine.specs.Meaning.{Accepts, Behaviour, Cell, Here, Outcome, Refuses}
 use Rattle.md_content.specs.Paragraph.{text_link}
 use Rattle.md_seam.specs.Ahead.{point_after}
@@ -27,14 +29,16 @@ paragraph_line cells h = inside_paragraph cells (record h { events = h.events ++
 unfoldable pub paragraph_at : List Cell → Here → Outcome
 paragraph_at cells h = paragraph_line cells (record h { events = h.events ++ enter parts.Paragraph h.point ∷ [] })
 
+-- what is left at each state
+abbrev pub paragraph_behaves : ParagraphState → List Cell → Here → Outcome
+paragraph_behaves its.Start cells h = paragraph_at cells h
+paragraph_behaves its.LineStart cells h = paragraph_line cells h
+paragraph_behaves its.Inside cells h = inside_paragraph cells h
+
 pub record HasParagraph (B : Behaviour) : Type 0 where
-  pub start : (cells : List Cell) (h : Here) → B ParagraphStart cells h ≡ paragraph_at cells h
-  pub line_start : (cells : List Cell) (h : Here) → B ParagraphLineStart cells h ≡ paragraph_line cells h
-  pub inside : (cells : List Cell) (h : Here) → B ParagraphInside cells h ≡ inside_paragraph cells h
+  pub each : (state : ParagraphState) (cells : List Cell) (h : Here) → B (n.Paragraph state) cells h ≡ paragraph_behaves state cells h
 
 -- what is left at each state of content
 abbrev pub content_behaves : Behaviour
-content_behaves ParagraphStart cells h = paragraph_at cells h
-content_behaves ParagraphLineStart cells h = paragraph_line cells h
-content_behaves ParagraphInside cells h = inside_paragraph cells h
+content_behaves (n.Paragraph state) cells h = paragraph_behaves state cells h
 content_behaves _ cells h = Refuses h.scratch h.flags

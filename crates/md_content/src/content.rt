@@ -14,8 +14,9 @@ ghost use Rattle.md_engine.specs.Found.{found_in};
 ghost use Rattle.md_engine.specs.World.{looks, world};
 ghost use Rattle.md_engine.specs.declared.state.Name.{Name as StateName};
 ghost use Rattle.md_engine.specs.declared.state.State.{State};
+ghost use Rattle.md_engine.specs.declared.state.content.State.{State as ContentState};
 ghost use Rattle.md_content.specs.States.{content_transition};
-ghost use Rattle.md_content.specs.Chunks.{chunk_inside_code, chunk_start_transition};
+ghost use Rattle.md_content.specs.Chunks.{chunk_inside_code, chunk_start_transition, chunk_transition};
 ghost use Rattle.md_content.specs.ContentReads.{content_events, is_data_end, settled};
 ghost use Rattle.md_content.specs.Joined.{content_behind, goes_on, is_content, joined, joined_with};
 ghost use Rattle.md_content.specs.Resolves.{Resolves, is_all_read};
@@ -30,6 +31,8 @@ use md_engine::event::{Content, Event, Kind, Link, Name};
 use md_engine::message::Message;
 use md_engine::or_error;
 use md_engine::resolve::Name as ResolveName;
+use md_engine::state::content::State as ContentState;
+use md_engine::state::paragraph::State as ParagraphState;
 use md_engine::state::{Name as StateName, State};
 use md_engine::subtokenize::Subresult;
 use md_engine::table::{Table, flush, push};
@@ -45,7 +48,7 @@ use std::alloc::Global;
 ///     ^
 /// ```
 pub fn chunk_start(tokenizer: &mut Tokenizer) -> State
-    requires { IsAt NeedsNothing StateName.ContentChunkStart (world tokenizer.old) }
+    requires { IsAt NeedsNothing (StateName.Content ContentState.ChunkStart) (world tokenizer.old) }
     ensures to { result ≢ State.Error → result ≡ (chunk_start_transition (world tokenizer.old)).to }
     ensures world { result ≢ State.Error → world tokenizer.new ≡ (chunk_start_transition (world tokenizer.old)).world }
 {
@@ -55,7 +58,7 @@ pub fn chunk_start(tokenizer: &mut Tokenizer) -> State
         content: Content::Content,
     };
     or_error!(tokenizer.enter_link(Name::Content, link));
-    State::Retry(StateName::ContentChunkInside)
+    State::Retry(StateName::Content(ContentState::ChunkInside))
 }
 
 /// In a line.
@@ -65,7 +68,7 @@ pub fn chunk_start(tokenizer: &mut Tokenizer) -> State
 ///     ^^
 /// ```
 pub fn chunk_inside(tokenizer: &mut Tokenizer) -> State
-    requires { IsAt NeedsNothing StateName.ContentChunkInside (world tokenizer.old) }
+    requires { IsAt NeedsNothing (StateName.Content ContentState.ChunkInside) (world tokenizer.old) }
     ensures to { result ≢ State.Error → result ≡ (chunk_inside_code (λ name. ⟦<ResolveName as PartialEq>⟧.eq name ResolveName.Content) (world tokenizer.old) (ends_line tokenizer.old.current)).to }
     ensures world { result ≢ State.Error → world tokenizer.new ≡ (chunk_inside_code (λ name. ⟦<ResolveName as PartialEq>⟧.eq name ResolveName.Content) (world tokenizer.old) (ends_line tokenizer.old.current)).world }
 {
@@ -78,8 +81,21 @@ pub fn chunk_inside(tokenizer: &mut Tokenizer) -> State
         }
         _ => {
             tokenizer.consume();
-            State::Next(StateName::ContentChunkInside)
+            State::Next(StateName::Content(ContentState::ChunkInside))
         }
+    }
+}
+
+/// Calls a state of a line of content.
+pub fn call(tokenizer: &mut Tokenizer, state: ContentState) -> State
+    requires { IsAt NeedsNothing (StateName.Content state) (world tokenizer.old) }
+    ensures to { result ≢ State.Error → result ≡ (chunk_transition (λ name. ⟦<ResolveName as PartialEq>⟧.eq name ResolveName.Content) state (world tokenizer.old)).to }
+    ensures world { result ≢ State.Error → world tokenizer.new ≡ (chunk_transition (λ name. ⟦<ResolveName as PartialEq>⟧.eq name ResolveName.Content) state (world tokenizer.old)).world }
+{
+    match state {
+        ContentState::ChunkStart => chunk_start(tokenizer),
+        ContentState::ChunkInside => chunk_inside(tokenizer),
+        _ => State::Nok,
     }
 }
 
@@ -90,9 +106,7 @@ fn call_state(tokenizer: &mut Tokenizer, name: StateName) -> State
     ensures world { result ≢ State.Error → world tokenizer.new ≡ (content_transition name (world tokenizer.old)).world }
 {
     match name {
-        StateName::ParagraphStart => paragraph::start(tokenizer),
-        StateName::ParagraphLineStart => paragraph::line_start(tokenizer),
-        StateName::ParagraphInside => paragraph::inside(tokenizer),
+        StateName::Paragraph(state) => paragraph::call(tokenizer, state),
         _ => State::Nok,
     }
 }
@@ -164,7 +178,7 @@ impl ContentReader<'_> {
             tokenizer.define_skip(chunk.first)?;
         }
         let end = chunks[chunks.len() - 1].after.index;
-        let start = State::Next(StateName::ParagraphStart);
+        let start = State::Next(StateName::Paragraph(ParagraphState::Start));
         let state = match push::<ContentTable>(&mut tokenizer, end, start) {
             State::Error => return Err(Message),
             state => state,

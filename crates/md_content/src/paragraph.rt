@@ -8,11 +8,13 @@ ghost use Rattle.std.specs.Prelude.{◌≡◌, ◌≢◌};
 ghost use Rattle.md_engine.specs.World.{world};
 ghost use Rattle.md_engine.specs.declared.state.Name.{Name as StateName};
 ghost use Rattle.md_engine.specs.declared.state.State.{State};
-ghost use Rattle.md_content.specs.Paragraph.{inside_transition, line_start_transition, start_transition};
+ghost use Rattle.md_engine.specs.declared.state.paragraph.State.{State as ParagraphState};
+ghost use Rattle.md_content.specs.Paragraph.{inside_transition, line_start_transition, paragraph_transition, start_transition};
 ghost use Rattle.md_seam.specs.Transition.{IsAt, NeedsNothing};
 
 use md_engine::event::{Content, Link, Name};
 use md_engine::or_error;
+use md_engine::state::paragraph::State as ParagraphState;
 use md_engine::state::{Name as StateName, State};
 use md_engine::tokenizer::Tokenizer;
 
@@ -24,12 +26,12 @@ use md_engine::tokenizer::Tokenizer;
 ///   | b
 /// ```
 pub fn start(tokenizer: &mut Tokenizer) -> State
-    requires { IsAt NeedsNothing StateName.ParagraphStart (world tokenizer.old) }
+    requires { IsAt NeedsNothing (StateName.Paragraph ParagraphState.Start) (world tokenizer.old) }
     ensures to { result ≢ State.Error → result ≡ (start_transition (world tokenizer.old)).to }
     ensures world { result ≢ State.Error → world tokenizer.new ≡ (start_transition (world tokenizer.old)).world }
 {
     or_error!(tokenizer.enter(Name::Paragraph));
-    State::Retry(StateName::ParagraphLineStart)
+    State::Retry(StateName::Paragraph(ParagraphState::LineStart))
 }
 
 /// Before a line.
@@ -41,7 +43,7 @@ pub fn start(tokenizer: &mut Tokenizer) -> State
 ///     ^
 /// ```
 pub fn line_start(tokenizer: &mut Tokenizer) -> State
-    requires { IsAt NeedsNothing StateName.ParagraphLineStart (world tokenizer.old) }
+    requires { IsAt NeedsNothing (StateName.Paragraph ParagraphState.LineStart) (world tokenizer.old) }
     ensures to { result ≢ State.Error → result ≡ (line_start_transition (world tokenizer.old)).to }
     ensures world { result ≢ State.Error → world tokenizer.new ≡ (line_start_transition (world tokenizer.old)).world }
 {
@@ -51,7 +53,7 @@ pub fn line_start(tokenizer: &mut Tokenizer) -> State
         content: Content::Text,
     };
     or_error!(tokenizer.enter_link(Name::Data, link));
-    State::Retry(StateName::ParagraphInside)
+    State::Retry(StateName::Paragraph(ParagraphState::Inside))
 }
 
 /// In a line.
@@ -61,7 +63,7 @@ pub fn line_start(tokenizer: &mut Tokenizer) -> State
 ///     ^^
 /// ```
 pub fn inside(tokenizer: &mut Tokenizer) -> State
-    requires { IsAt NeedsNothing StateName.ParagraphInside (world tokenizer.old) }
+    requires { IsAt NeedsNothing (StateName.Paragraph ParagraphState.Inside) (world tokenizer.old) }
     ensures to { result ≢ State.Error → result ≡ (inside_transition (world tokenizer.old)).to }
     ensures world { result ≢ State.Error → world tokenizer.new ≡ (inside_transition (world tokenizer.old)).world }
 {
@@ -74,11 +76,24 @@ pub fn inside(tokenizer: &mut Tokenizer) -> State
         Some(b'\n') => {
             tokenizer.consume();
             or_error!(tokenizer.exit(Name::Data));
-            State::Next(StateName::ParagraphLineStart)
+            State::Next(StateName::Paragraph(ParagraphState::LineStart))
         }
         _ => {
             tokenizer.consume();
-            State::Next(StateName::ParagraphInside)
+            State::Next(StateName::Paragraph(ParagraphState::Inside))
         }
+    }
+}
+
+/// Calls a state of a paragraph.
+pub fn call(tokenizer: &mut Tokenizer, state: ParagraphState) -> State
+    requires { IsAt NeedsNothing (StateName.Paragraph state) (world tokenizer.old) }
+    ensures to { result ≢ State.Error → result ≡ (paragraph_transition state (world tokenizer.old)).to }
+    ensures world { result ≢ State.Error → world tokenizer.new ≡ (paragraph_transition state (world tokenizer.old)).world }
+{
+    match state {
+        ParagraphState::Start => start(tokenizer),
+        ParagraphState::LineStart => line_start(tokenizer),
+        ParagraphState::Inside => inside(tokenizer),
     }
 }

@@ -10,7 +10,7 @@ use Rattle.md_engine.specs.World.{Setting, World}
 use Rattle.md_engine.specs.Place.{seen_at}
 use Rattle.md_engine.specs.Run.{IsEnd, Leaves, goes_back, left, next_of, plain}
 use Rattle.md_engine.specs.Scheme.{After, Ends, EndsLater, Grown, Passes, Reaches, Resumes, Scheme, Spot, Tries, TriesLater, after_all, after_frame, cells_before, frame_level, frame_number, frame_rank, frames_work, holds, moved_to, seen, spot, spot_at, stands, state_level, state_number, state_rank, state_work, work}
-use Rattle.md_engine.proofs.Points.{grown-same, grown-then, passes-reaches, passes_then, stays, then_passes, then_reaches}
+use Rattle.md_engine.proofs.Points.{grown-same, grown-then, passes-reaches, passes_then, rank-low, stays, then_passes, then_reaches}
 use Rattle.md_engine.proofs.Powers.{weighs}
 
 -- what a construct owes where it ends, it owes from a later spot
@@ -62,9 +62,9 @@ resumes T f st x K p same r h l k = record { stands = h; level = l; falls = go s
     go Nok c k = omega arith
     go Error c k = omega arith
     go (Next n) (inl e) k = let less = k (sym e) in rw (same, e) (omega arith)
-    go (Next n) (inr lt) k = rw same (omega (arith, lt.0, lt.1))
+    go (Next n) (inr lt) k = let few = rank-low (T.rank n x) in rw same (omega (arith, lt.0, lt.1, few))
     go (Retry n) (inl e) k = let less = k (sym e) in rw (same, e) (omega arith)
-    go (Retry n) (inr lt) k = rw same (omega (arith, lt.0, lt.1))
+    go (Retry n) (inr lt) k = let few = rank-low (T.rank n x) in rw same (omega (arith, lt.0, lt.1, few))
 
 -- what is tried refuses as is owed
 refused : (T : Scheme) (f : Frame) (Q : Scratch → Type 0) (x : Spot) (K : After) → f.point ≡ x.point → ((s : Scratch) (t : Setting) → Q s → Grown x.setting t → holds T f.nok (spot_at t x.point s) K) →

@@ -1,5 +1,5 @@
 -- what a construct proves of each of its states, whatever table it stands in
-use Rattle.std.proofs.Common.{◌≡◌, ℕ, ◌+◌, ◌%◌, ◌<◌, ◌≤◌, List, ◌∷◌, refl, arith, ap}
+use Rattle.std.proofs.Common.{◌≡◌, ℕ, ◌+◌, ◌<◌, ◌≤◌, List, ◌∷◌, refl, arith, ap}
 use Rattle.md_engine.specs.declared.event.Event.{Event}
 use Rattle.md_engine.specs.declared.event.Point.{Point}
 use Rattle.md_engine.specs.declared.state.Name.{Name as StateName}
@@ -8,9 +8,9 @@ use Rattle.md_engine.specs.declared.state.State.TheVariants.{Error, Ok, Nok, Nex
 use Rattle.md_engine.specs.declared.tokenizer.Frame.{Frame}
 use Rattle.md_engine.specs.declared.tokenizer.Scratch.{Scratch}
 use Rattle.md_engine.specs.World.{World, after}
-use Rattle.md_engine.specs.Scheme.{Reaches, after_frame, Spot, spot, moved_to, After, Scheme, state_level, state_rank, state_number, keyed, frame_level, frame_rank, frame_number, base, frames_work, work, holds, after_all, Ends, EndsLater, Tries, TriesLater, Good, Fits, FitsState, of_owners}
+use Rattle.md_engine.specs.Scheme.{Reaches, after_frame, Spot, spot, moved_to, After, Rank, Scheme, state_level, state_rank, state_number, keyed, frame_level, frame_rank, frame_number, base, frames_work, work, holds, after_all, Ends, EndsLater, Tries, TriesLater, Good, Fits, FitsState, of_owners}
 use Rattle.md_engine.proofs.Falls.{later, tries, tries_later}
-use Rattle.md_engine.proofs.Points.{cells-fall, grown-same, stays}
+use Rattle.md_engine.proofs.Points.{cells-fall, grown-same, rank-low, stays}
 use Rattle.md_engine.proofs.Powers.{weighs, weighs_with}
 
 pub fits : (owner : StateName → Scheme) (n : StateName) → Fits (of_owners owner) (owner n) n
@@ -25,11 +25,12 @@ same-frames T w events p s n m le lt =
 
 -- to another state here
 pub turns : (T own : Scheme) (n m : StateName) (w : World) (events : List Event) (s : Scratch) → Fits T own n → Fits T own m →
-    own.ready m (moved_to (spot w) w.point s) (after_all T w.frames) → own.level m ≤ own.level n → own.rank m (moved_to (spot w) w.point s) % 64 < own.rank n (spot w) % 64 →
+    own.ready m (moved_to (spot w) w.point s) (after_all T w.frames) → own.level m ≤ own.level n →
+    (own.rank m (moved_to (spot w) w.point s)).number < (own.rank n (spot w)).number →
     Good T n w (Next m) (record w { events = events; scratch = s })
 turns T own n m w events s fn fm r le lt =
     let a = fm.level in let b = fn.level in let c = fm.rank (moved_to (spot w) w.point s) in let d = fn.rank (spot w) in
-    let low : T.rank m (moved_to (spot w) w.point s) % 64 < T.rank n (spot w) % 64 = rw (c, d) lt in
+    let low : (T.rank m (moved_to (spot w) w.point s)).number < (T.rank n (spot w)).number = rw (c, d) lt in
     (fm.ready _ _ r, same-frames T w events w.point s n m (rw (a, b) le) (omega (arith, low)))
 
 -- behind the cell that is here
@@ -39,7 +40,8 @@ pub consumes : (T own : Scheme) (n m : StateName) (w : World) (events : List Eve
 consumes T own n m w events s fn fm inside r le =
     let a = fm.level in let b = fn.level in
     let less = cells-fall w.setting w.point inside in
-    (fm.ready _ _ r, same-frames T w events (after w.setting w.point) s n m (rw (a, b) le) (omega (arith, less)))
+    let few = rank-low (T.rank m (moved_to (spot w) (after w.setting w.point) s)) in
+    (fm.ready _ _ r, same-frames T w events (after w.setting w.point) s n m (rw (a, b) le) (omega (arith, less, few)))
 
 ends-falls : (T : Scheme) (w : World) (n : StateName) → 0 + frames_work T w.setting.limit w.frames < work T w (Next n)
 ends-falls T w n =
@@ -76,8 +78,8 @@ rank_by : (T own : Scheme) (st : State) (x : Spot) → FitsState T own st → st
 rank_by T own Ok x f = refl
 rank_by T own Nok x f = refl
 rank_by T own Error x f = refl
-rank_by T own (Next n) x f = ap (λ (r : ℕ). r % 64 + 1) (f.rank x)
-rank_by T own (Retry n) x f = ap (λ (r : ℕ). r % 64 + 1) (f.rank x)
+rank_by T own (Next n) x f = ap (λ (r : Rank). r.number + 1) (f.rank x)
+rank_by T own (Retry n) x f = ap (λ (r : Rank). r.number + 1) (f.rank x)
 
 keyed_by : (T own : Scheme) (g : Scheme → StateName → ℕ) → (a b : State) → FitsState T own a → FitsState T own b →
     ((n : StateName) → Fits T own n → g T n ≡ g own n) → keyed (g T) a b ≡ keyed (g own) a b
@@ -99,10 +101,16 @@ keyed_by T own g Error Ok f k e = refl
 keyed_by T own g Error Nok f k e = refl
 keyed_by T own g Error Error f k e = refl
 
+-- how far an attempt is, by what it goes on with
+tries-by : (T own : Scheme) (a b : State) → FitsState T own a → FitsState T own b →
+    keyed (λ n. (T.tries n).number) a b ≡ keyed (λ n. (own.tries n).number) a b
+tries-by T own a b f k =
+    keyed_by T own (λ (S : Scheme) (n : StateName). (S.tries n).number) a b f k (λ n h. ap (λ (r : Rank). r.number) h.tries)
+
 tries_by : (T own : Scheme) (f : Frame) (P Q : Scratch → Type 0) (x : Spot) (K : After) → FitsState T own f.ok → FitsState T own f.nok → Tries own f P Q x K → Tries T f P Q x K
 tries_by T own f P Q x K a b t =
     let low = keyed_by T own (λ (S : Scheme). S.level) f.nok f.ok b a (λ n h. h.level) in
-    let r = keyed_by T own (λ (S : Scheme). S.tries) f.nok f.ok b a (λ n h. h.tries) in
+    let r = tries-by T own f.nok f.ok b a in
     record {
       ok = λ s q v is up way. holds_by T own f.ok _ K a (t.ok s q v is up way);
       ok_level = rw (low, level_by T own f.ok a) t.ok_level;
@@ -115,7 +123,7 @@ tries_by T own f P Q x K a b t =
 tries_later_by : (T own : Scheme) (f : Frame) (P Q : Scratch → Type 0) (x : Spot) (K : After) → FitsState T own f.ok → FitsState T own f.nok → TriesLater own f P Q x K → TriesLater T f P Q x K
 tries_later_by T own f P Q x K a b t =
     let low = keyed_by T own (λ (S : Scheme). S.level) f.nok f.ok b a (λ n h. h.level) in
-    let r = keyed_by T own (λ (S : Scheme). S.tries) f.nok f.ok b a (λ n h. h.tries) in
+    let r = tries-by T own f.nok f.ok b a in
     record {
       moves_on = t.moves_on;
       ok = λ s q v is up way. holds_by T own f.ok _ K a (t.ok s q v is up way);
@@ -129,18 +137,19 @@ tries_later_by T own f P Q x K a b t =
 begins_ready : (T own inner : Scheme) (n m : StateName) (w : World) (events : List Event) (q : Point) (s : Scratch) (f : Frame) →
     Fits T own n → Fits T inner m → FitsState T own f.ok → FitsState T own f.nok → f.point ≡ w.point →
     inner.ready m (moved_to (spot w) q s) (after_frame T f (after_all T w.frames)) →
-    inner.level m < own.level n → frame_level own f ≤ own.level n → frame_rank own f < own.rank n (spot w) % 64 →
+    inner.level m < own.level n → frame_level own f ≤ own.level n → frame_rank own f < (own.rank n (spot w)).number →
     Good T n w (Next m) (record w { events = events; frames = f ∷ w.frames; point = q; scratch = s })
 begins_ready T own inner n m w events q s f fn fm fo fk same r low le lt =
     let y : Spot = moved_to (spot w) q s in
     let a = fm.level in let b = fn.level in let d = fn.rank (spot w) in
     let l : frame_level T f ≡ frame_level own f = keyed_by T own (λ (S : Scheme). S.level) f.nok f.ok fk fo (λ n h. h.level) in
-    let k : frame_rank T f ≡ frame_rank own f = ap (λ (r : ℕ). r % 64) (keyed_by T own (λ (S : Scheme). S.tries) f.nok f.ok fk fo (λ n h. h.tries)) in
+    let k : frame_rank T f ≡ frame_rank own f = tries-by T own f.nok f.ok fk fo in
     let lower : T.level m < T.level n = rw (a, b) low in
     let under : frame_level T f ≤ T.level n = rw (l, b) le in
-    let less : frame_rank T f < T.rank n (spot w) % 64 = rw (k, d) lt in
+    let less : frame_rank T f < (T.rank n (spot w)).number = rw (k, d) lt in
     let number : frame_number T w.setting.limit f < state_number T (Next n) (spot w) = rw same (omega (arith, less)) in
-    let small : state_number T (Next m) y < base w.setting.limit = omega arith in
+    let few = rank-low (T.rank m y) in
+    let small : state_number T (Next m) y < base w.setting.limit = omega (arith, few) in
     let all = weighs_with w.setting.limit (state_number T (Next m) y) (frame_number T w.setting.limit f) (state_number T (Next n) (spot w)) (T.level m) (frame_level T f) (T.level n) number under small lower in
     (fm.ready y _ r, omega (arith, all))
 
@@ -149,7 +158,7 @@ pub begins_at : (T own inner : Scheme) (n m : StateName) (w : World) (P Q : Scra
     Fits T own n → Fits T inner m → FitsState T own f.ok → FitsState T own f.nok → f.point ≡ w.point →
     Tries own f P Q (moved_to (spot w) w.point s) (after_all T w.frames) →
     ((K : After) → Ends P Q (moved_to (spot w) q s) K → inner.ready m (moved_to (spot w) q s) K) →
-    inner.level m < own.level n → frame_level own f ≤ own.level n → frame_rank own f < own.rank n (spot w) % 64 →
+    inner.level m < own.level n → frame_level own f ≤ own.level n → frame_rank own f < (own.rank n (spot w)).number →
     Good T n w (Next m) (record w { events = events; frames = f ∷ w.frames; point = q; scratch = s })
 begins_at T own inner n m w P Q events q s f way fn fm fo fk same t r low le lt =
     let x : Spot = moved_to (spot w) w.point s in
@@ -161,7 +170,7 @@ pub begins_try : (T own inner : Scheme) (n m : StateName) (w : World) (P Q : Scr
     Fits T own n → Fits T inner m → FitsState T own f.ok → FitsState T own f.nok → f.point ≡ w.point →
     Tries own f P Q (moved_to (spot w) w.point s) (after_all T w.frames) →
     ((K : After) → Ends P Q (moved_to (spot w) w.point s) K → inner.ready m (moved_to (spot w) w.point s) K) →
-    inner.level m < own.level n → frame_level own f ≤ own.level n → frame_rank own f < own.rank n (spot w) % 64 →
+    inner.level m < own.level n → frame_level own f ≤ own.level n → frame_rank own f < (own.rank n (spot w)).number →
     Good T n w (Next m) (record w { events = events; frames = f ∷ w.frames; scratch = s })
 begins_try T own inner n m w P Q events s f = begins_at T own inner n m w P Q events w.point s f (stays w.setting.limit w.point)
 
@@ -170,7 +179,7 @@ pub begins_later : (T own inner : Scheme) (n m : StateName) (w : World) (P Q : S
     Fits T own n → Fits T inner m → FitsState T own f.ok → FitsState T own f.nok → f.point ≡ w.point →
     TriesLater own f P Q (moved_to (spot w) w.point s) (after_all T w.frames) →
     ((K : After) → EndsLater P Q (moved_to (spot w) w.point s) K → inner.ready m (moved_to (spot w) w.point s) K) →
-    inner.level m < own.level n → frame_level own f ≤ own.level n → frame_rank own f < own.rank n (spot w) % 64 →
+    inner.level m < own.level n → frame_level own f ≤ own.level n → frame_rank own f < (own.rank n (spot w)).number →
     Good T n w (Next m) (record w { events = events; frames = f ∷ w.frames; scratch = s })
 begins_later T own inner n m w P Q events s f fn fm fo fk same t r low le lt =
     let x : Spot = moved_to (spot w) w.point s in

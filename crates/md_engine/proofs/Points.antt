@@ -5,7 +5,7 @@ use Rattle.std.proofs.lemmas.Bool.{eqb-false}
 use Rattle.std.proofs.lemmas.Bool.Decides.{nat_tests}
 use Rattle.md_engine.specs.declared.event.Point.{Point}
 use Rattle.md_engine.specs.Place.{begun_at, is_ending, is_pair}
-use Rattle.md_engine.specs.Scheme.{Grown, Passes, Reaches, cells_before, cells_left}
+use Rattle.md_engine.specs.Scheme.{Grown, Passes, Rank, Reaches, cells_before, cells_left}
 use Rattle.md_engine.specs.World.{Setting, after, line_begun}
 
 -- a point that lies so much later
@@ -82,3 +82,7 @@ grown-same x = record { bytes = refl; options = refl; limit = omega arith }
 
 pub grown-then : (x y z : Setting) → Grown x y → Grown y z → Grown x z
 grown-then x y z a b = record { bytes = b.bytes ∙ a.bytes; options = b.options ∙ a.options; limit = omega (arith, a.limit, b.limit) }
+
+-- a rank is below 64
+pub rank-low : (r : Rank) → r.number < 64
+rank-low r = let e = r.low in grind (arith, nat_tests)

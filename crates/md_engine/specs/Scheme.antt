@@ -2,7 +2,7 @@
 --
 -- A construct says what each of its states needs, and how far it is from taking what stands here. What follows an attempt
 -- is told to it as an `After`: what is asked where it ends. So no construct looks at the attempts around it.
-use Rattle.std.specs.Prelude.{◌≡◌, ℕ, zero, suc, ◌+◌, ◌-◌, ◌*◌, ◌%◌, ◌<◌, ◌≤◌, ◌⊎◌, false, if◌then◌else◌, List, [], ◌∷◌, Option}
+use Rattle.std.specs.Prelude.{◌≡◌, refl, ℕ, zero, suc, ◌+◌, ◌-◌, ◌*◌, ◌%◌, ◌<◌, ◌≤◌, nat_lt, ◌⊎◌, true, false, if◌then◌else◌, List, [], ◌∷◌, Option}
 use Rattle.md_engine.specs.declared.event.Point.{Point}
 use Rattle.md_engine.specs.declared.state.Name.{Name as StateName}
 use Rattle.md_engine.specs.declared.state.State.{State}
@@ -44,13 +44,22 @@ pub record After : Type 1 where
   -- no attempt is around it
   pub outermost : Type 0
 
+-- how far a state is from the next byte: a number below 64, so that one byte fewer counts for more than all ranks
+pub record Rank : Type 0 where
+  pub number : ℕ
+  pub low : nat_lt number 64 ≡ true
+
+-- a rank that is written down; no number from 64 on can be
+abbrev pub ranked : (number : ℕ) → nat_lt number 64 ≡ true → Rank
+ranked number low = record { number = number; low = low }
+
 -- what the states of a table need, and how far each is from the next byte among the states of its level; a frame that goes
 -- on with a state counts as many as it has tries
 pub record Scheme : Type 1 where
   pub ready : StateName → Spot → After → Type 0
   pub level : StateName → ℕ
-  pub rank : StateName → Spot → ℕ
-  pub tries : StateName → ℕ
+  pub rank : StateName → Spot → Rank
+  pub tries : StateName → Rank
 
 -- at most so many bytes and columns are left, and one fewer behind each
 abbrev pub cells_left : ℕ → Point → ℕ
@@ -66,13 +75,13 @@ state_level T (Retry n) = T.level n
 state_level T _ = 0
 
 abbrev pub state_rank : Scheme → State → Spot → ℕ
-state_rank T (Next n) x = T.rank n x % 64 + 1
-state_rank T (Retry n) x = T.rank n x % 64 + 1
+state_rank T (Next n) x = (T.rank n x).number + 1
+state_rank T (Retry n) x = (T.rank n x).number + 1
 state_rank T _ x = 0
 
 abbrev pub state_number : Scheme → State → Spot → ℕ
-state_number T (Next n) x = 64 * cells_left x.setting.limit x.point + T.rank n x % 64 + 1
-state_number T (Retry n) x = 64 * cells_left x.setting.limit x.point + T.rank n x % 64 + 1
+state_number T (Next n) x = 64 * cells_left x.setting.limit x.point + (T.rank n x).number + 1
+state_number T (Retry n) x = 64 * cells_left x.setting.limit x.point + (T.rank n x).number + 1
 state_number T _ x = 0
 
 -- an attempt is known by what it goes on with
@@ -87,7 +96,7 @@ abbrev pub frame_level : Scheme → Frame → ℕ
 frame_level T f = keyed T.level f.nok f.ok
 
 abbrev pub frame_rank : Scheme → Frame → ℕ
-frame_rank T f = keyed T.tries f.nok f.ok % 64
+frame_rank T f = keyed (λ n. (T.tries n).number) f.nok f.ok
 
 abbrev pub frame_number : Scheme → ℕ → Frame → ℕ
 frame_number T limit f = 64 * cells_left limit f.point + frame_rank T f + 1
@@ -204,4 +213,4 @@ of_owners owner = record { ready = λ n x K. (owner n).ready n x K; level = λ n
 
 -- states that a table does not have
 abbrev pub nowhere : Scheme
-nowhere = record { ready = λ n x K. ⊥; level = λ n. 0; rank = λ n x. 0; tries = λ n. 0 }
+nowhere = record { ready = λ n x K. ⊥; level = λ n. 0; rank = λ n x. ranked 0 refl; tries = λ n. ranked 0 refl }

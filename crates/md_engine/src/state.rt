@@ -4,6 +4,31 @@
 // state comes next. The names stand here for all constructs, so that a tokenizer can hold one, in an attempt or while it
 // waits for more of the text.
 
+pub mod blank_line;
+pub mod block_quote;
+pub mod bom;
+pub mod code_indented;
+pub mod content;
+pub mod definition;
+pub mod destination;
+pub mod document;
+pub mod flow;
+pub mod frontmatter;
+pub mod gfm_footnote_definition;
+pub mod gfm_table;
+pub mod heading_atx;
+pub mod heading_setext;
+pub mod html_flow;
+pub mod label;
+pub mod list_item;
+pub mod non_lazy_continuation;
+pub mod paragraph;
+pub mod raw_flow;
+pub mod space_or_tab;
+pub mod space_or_tab_eol;
+pub mod thematic_break;
+pub mod title;
+
 /// What a state answers.
 #[derive(Clone, Copy, Debug, PartialEq, Eq)]
 pub enum State {
@@ -19,235 +44,55 @@ pub enum State {
     Retry(Name),
 }
 
-/// Names of states, by construct.
+/// Names of states, by construct: each construct has its own.
 #[derive(Clone, Copy, Debug, PartialEq, Eq)]
 pub enum Name {
-    // Blank line.
-    BlankLineStart,
-    BlankLineAfter,
-    // Block quote.
-    BlockQuoteStart,
-    BlockQuoteContStart,
-    BlockQuoteContBefore,
-    BlockQuoteContAfter,
-    // Code, indented.
-    CodeIndentedStart,
-    CodeIndentedAtBreak,
-    CodeIndentedInside,
-    CodeIndentedAfter,
-    CodeIndentedFurtherStart,
-    CodeIndentedFurtherBegin,
-    CodeIndentedFurtherAfter,
-    // Content.
-    ContentChunkStart,
-    ContentChunkInside,
-    ContentDefinitionBefore,
-    ContentDefinitionAfter,
-    // Definition.
-    DefinitionStart,
-    DefinitionBefore,
-    DefinitionLabelAfter,
-    DefinitionLabelNok,
-    DefinitionMarkerAfter,
-    DefinitionDestinationBefore,
-    DefinitionDestinationAfter,
-    DefinitionDestinationMissing,
-    DefinitionAfter,
-    DefinitionAfterWhitespace,
-    DefinitionTitleBefore,
-    DefinitionTitleBeforeMarker,
-    DefinitionTitleAfter,
-    DefinitionTitleAfterOptionalWhitespace,
-    // Document.
-    DocumentStart,
-    DocumentBeforeFrontmatter,
-    DocumentContainerExistingBefore,
-    DocumentContainerExistingAfter,
-    DocumentContainerNewBefore,
-    DocumentContainerNewBeforeNotBlockQuote,
-    DocumentContainerNewBeforeNotList,
-    DocumentContainerNewBeforeNotFootnoteDefinition,
-    DocumentContainerNewAfter,
-    DocumentContainersAfter,
-    DocumentFlowInside,
-    DocumentFlowEnd,
-    // Flow.
-    FlowStart,
-    FlowBlankLineBefore,
-    FlowBeforeCodeIndented,
-    FlowBeforeRaw,
-    FlowBeforeHtml,
-    FlowBeforeHeadingAtx,
-    FlowBeforeHeadingSetext,
-    FlowBeforeThematicBreak,
-    FlowBeforeGfmTable,
-    FlowBeforeContent,
-    FlowBlankLineAfter,
-    FlowAfter,
-    // Frontmatter.
-    FrontmatterStart,
-    FrontmatterOpenSequence,
-    FrontmatterOpenAfter,
-    FrontmatterCloseStart,
-    FrontmatterCloseSequence,
-    FrontmatterCloseAfter,
-    FrontmatterContentStart,
-    FrontmatterContentInside,
-    FrontmatterContentEnd,
-    FrontmatterAfter,
-    // Footnote definition.
-    GfmFootnoteDefinitionStart,
-    GfmFootnoteDefinitionLabelBefore,
-    GfmFootnoteDefinitionLabelAtMarker,
-    GfmFootnoteDefinitionLabelInside,
-    GfmFootnoteDefinitionLabelEscape,
-    GfmFootnoteDefinitionLabelAfter,
-    GfmFootnoteDefinitionWhitespaceAfter,
-    GfmFootnoteDefinitionContStart,
-    GfmFootnoteDefinitionContBlank,
-    GfmFootnoteDefinitionContFilled,
-    // Table.
-    GfmTableStart,
-    GfmTableHeadRowBefore,
-    GfmTableHeadRowStart,
-    GfmTableHeadRowBreak,
-    GfmTableHeadRowData,
-    GfmTableHeadRowEscape,
-    GfmTableHeadDelimiterStart,
-    GfmTableHeadDelimiterBefore,
-    GfmTableHeadDelimiterCellBefore,
-    GfmTableHeadDelimiterValueBefore,
-    GfmTableHeadDelimiterLeftAlignmentAfter,
-    GfmTableHeadDelimiterFiller,
-    GfmTableHeadDelimiterRightAlignmentAfter,
-    GfmTableHeadDelimiterCellAfter,
-    GfmTableHeadDelimiterNok,
-    GfmTableBodyRowStart,
-    GfmTableBodyRowBreak,
-    GfmTableBodyRowData,
-    GfmTableBodyRowEscape,
-    // Heading, ATX.
-    HeadingAtxStart,
-    HeadingAtxBefore,
-    HeadingAtxSequenceOpen,
-    HeadingAtxAtBreak,
-    HeadingAtxSequenceFurther,
-    HeadingAtxData,
-    // Heading, setext.
-    HeadingSetextStart,
-    HeadingSetextBefore,
-    HeadingSetextInside,
-    HeadingSetextAfter,
-    // HTML.
-    HtmlFlowStart,
-    HtmlFlowBefore,
-    HtmlFlowOpen,
-    HtmlFlowDeclarationOpen,
-    HtmlFlowCommentOpenInside,
-    HtmlFlowCdataOpenInside,
-    HtmlFlowTagCloseStart,
-    HtmlFlowTagName,
-    HtmlFlowBasicSelfClosing,
-    HtmlFlowCompleteClosingTagAfter,
-    HtmlFlowCompleteAttributeNameBefore,
-    HtmlFlowCompleteAttributeName,
-    HtmlFlowCompleteAttributeNameAfter,
-    HtmlFlowCompleteAttributeValueBefore,
-    HtmlFlowCompleteAttributeValueQuoted,
-    HtmlFlowCompleteAttributeValueUnquoted,
-    HtmlFlowCompleteAttributeValueQuotedAfter,
-    HtmlFlowCompleteEnd,
-    HtmlFlowCompleteAfter,
-    HtmlFlowContinuation,
-    HtmlFlowContinuationStart,
-    HtmlFlowContinuationStartNonLazy,
-    HtmlFlowContinuationBefore,
-    HtmlFlowContinuationCommentInside,
-    HtmlFlowContinuationRawTagOpen,
-    HtmlFlowContinuationRawEndTag,
-    HtmlFlowContinuationCdataInside,
-    HtmlFlowContinuationDeclarationInside,
-    HtmlFlowContinuationClose,
-    HtmlFlowContinuationAfter,
-    HtmlFlowBlankLineBefore,
-    // List item.
-    ListItemStart,
-    ListItemBefore,
-    ListItemBeforeUnordered,
-    ListItemBeforeOrdered,
-    ListItemValue,
-    ListItemMarker,
-    ListItemMarkerAfter,
-    ListItemMarkerAfterFilled,
-    ListItemWhitespace,
-    ListItemWhitespaceAfter,
-    ListItemPrefixOther,
-    ListItemAfter,
-    ListItemContStart,
-    ListItemContBlank,
-    ListItemContFilled,
-    // Paragraph.
-    ParagraphStart,
-    ParagraphLineStart,
-    ParagraphInside,
-    // Byte order mark.
-    BomStart,
-    BomInside,
-    // Check that a further line is not lazy.
-    NonLazyContinuationStart,
-    NonLazyContinuationAfter,
-    // Code, fenced, and math.
-    RawFlowStart,
-    RawFlowBeforeSequenceOpen,
-    RawFlowSequenceOpen,
-    RawFlowInfoBefore,
-    RawFlowInfo,
-    RawFlowMetaBefore,
-    RawFlowMeta,
-    RawFlowAtNonLazyBreak,
-    RawFlowCloseStart,
-    RawFlowBeforeSequenceClose,
-    RawFlowSequenceClose,
-    RawFlowSequenceCloseAfter,
-    RawFlowContentBefore,
-    RawFlowContentStart,
-    RawFlowBeforeContentChunk,
-    RawFlowContentChunk,
-    RawFlowAfter,
-    // Thematic break.
-    ThematicBreakStart,
-    ThematicBreakBefore,
-    ThematicBreakAtBreak,
-    ThematicBreakSequence,
-    // Whitespace.
-    SpaceOrTabStart,
-    SpaceOrTabInside,
-    SpaceOrTabAfter,
-    SpaceOrTabEolStart,
-    SpaceOrTabEolAfterFirst,
-    SpaceOrTabEolAfterEol,
-    SpaceOrTabEolAtEol,
-    SpaceOrTabEolAfterMore,
-    // Destination.
-    DestinationStart,
-    DestinationEnclosedBefore,
-    DestinationEnclosed,
-    DestinationEnclosedEscape,
-    DestinationRaw,
-    DestinationRawEscape,
-    // Label.
-    LabelStart,
-    LabelAtBreak,
-    LabelEolAfter,
-    LabelInside,
-    LabelEscape,
-    LabelNok,
-    // Title.
-    TitleStart,
-    TitleBegin,
-    TitleAfterEol,
-    TitleAtBreak,
-    TitleInside,
-    TitleEscape,
-    TitleNok,
+    /// Of a blank line.
+    BlankLine(blank_line::State),
+    /// Of a block quote.
+    BlockQuote(block_quote::State),
+    /// Of indented code.
+    CodeIndented(code_indented::State),
+    /// Of content.
+    Content(content::State),
+    /// Of a definition.
+    Definition(definition::State),
+    /// Of the document.
+    Document(document::State),
+    /// Of flow.
+    Flow(flow::State),
+    /// Of frontmatter.
+    Frontmatter(frontmatter::State),
+    /// Of a footnote definition.
+    GfmFootnoteDefinition(gfm_footnote_definition::State),
+    /// Of a table.
+    GfmTable(gfm_table::State),
+    /// Of an ATX heading.
+    HeadingAtx(heading_atx::State),
+    /// Of a setext heading.
+    HeadingSetext(heading_setext::State),
+    /// Of HTML.
+    HtmlFlow(html_flow::State),
+    /// Of a list item.
+    ListItem(list_item::State),
+    /// Of a paragraph.
+    Paragraph(paragraph::State),
+    /// Of a byte order mark.
+    Bom(bom::State),
+    /// Of the check that a further line is not lazy.
+    NonLazyContinuation(non_lazy_continuation::State),
+    /// Of fenced code and math.
+    RawFlow(raw_flow::State),
+    /// Of a thematic break.
+    ThematicBreak(thematic_break::State),
+    /// Of whitespace.
+    SpaceOrTab(space_or_tab::State),
+    /// Of whitespace with at most one line ending.
+    SpaceOrTabEol(space_or_tab_eol::State),
+    /// Of a destination.
+    Destination(destination::State),
+    /// Of a label.
+    Label(label::State),
+    /// Of a title.
+    Title(title::State),
 }

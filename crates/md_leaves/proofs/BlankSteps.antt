@@ -3,6 +3,9 @@ use Rattle.std.proofs.Common.{◌≡◌, ℕ, zero, suc, ◌<◌, ◌≤◌, ◌
 use Rattle.md_engine.specs.declared.event.Event.{Event}
 use Rattle.md_engine.specs.declared.event.Name.TheVariants.{SpaceOrTab}
 use Rattle.md_engine.specs.declared.state.Name.TheVariants as n
+use Rattle.md_engine.specs.declared.state.blank_line.State.{State as BlankState}
+use Rattle.md_engine.specs.declared.state.blank_line.State.TheVariants as its
+use Rattle.md_engine.specs.declared.state.space_or_tab.State.TheVariants as space_or_tab
 use Rattle.md_engine.specs.declared.state.State.{State}
 use Rattle.md_engine.specs.declared.state.State.TheVariants.{Nok, Next}
 use Rattle.md_engine.specs.declared.tokenizer.Frame.{Frame}
@@ -10,7 +13,7 @@ use Rattle.md_engine.specs.declared.tokenizer.Scratch.{Scratch}
 use Rattle.md_engine.specs.Meaning.{Accepts, Behaviour, Cell, Feed, Here, Outcome, Refuses, Steps, goes, here, resume}
 use Rattle.md_engine.specs.World.{World}
 use Rattle.md_engine.proofs.StepOf.{Sees, ahead, begins_only, passes}
-use Rattle.md_leaves.specs.Blank.{after_code, start_code}
+use Rattle.md_leaves.specs.Blank.{after_code, blank_transition, start_code}
 use Rattle.md_leaves.specs.BlankRule.{HasBlank, after_blank, blank_at}
 use Rattle.md_seam.specs.Ahead.{begins_white, from_ending, line_bytes, line_end, white_end, white_rest}
 use Rattle.md_seam.specs.Events.Nested.{enter, exit}
@@ -47,13 +50,13 @@ begun cells h s = rw s (simp append_assoc)
 
 -- what an attempt at whitespace without limit comes to
 blank-white : (B : Behaviour) (feed : Feed) (has : HasBlank B) (cells : List Cell) (h : Here) (f : Frame) (events : List Event) → length cells < 2 ^ 63 → begins_white cells ≡ true → IsRest h.scratch →
-    f.is_check ≡ false → f.ok ≡ Next n.BlankLineAfter →
-    blank_at cells h ≡ resume B feed events f (B n.SpaceOrTabStart cells (record h { scratch = asking 1 any_size 0 h.scratch }))
+    f.is_check ≡ false → f.ok ≡ Next (n.BlankLine its.After) →
+    blank_at cells h ≡ resume B feed events f (B (n.SpaceOrTab space_or_tab.Start) cells (record h { scratch = asking 1 any_size 0 h.scratch }))
 blank-white B feed has cells h f events short s r k ok =
     let same : calmed h.scratch ≡ h.scratch = ap calmed r ∙ sym r in
     begun cells h s ∙ blank-run any_size (h.events ++ enter SpaceOrTab h.point ∷ []) cells h (omega arith)
     ∙ ap₂ (λ (es : List Event) (t : Scratch). after_blank (white_rest any_size cells) (record h { events = es; point = white_end any_size cells h.point; scratch = t })) (append_assoc h.events (enter SpaceOrTab h.point ∷ []) _) (sym same)
-    ∙ sym (has.behind _ _)
+    ∙ sym (has.each its.After _ _)
     ∙ ap (λ (x : State). goes B x (white_rest any_size cells) (behind_white any_size cells h)) (sym ok)
     ∙ white-tried B feed f events cells h 1 any_size has.white s (omega arith) (omega arith) k
 
@@ -66,14 +69,15 @@ none-ahead feed w h (Some b) e = go (nat_eq b 10) refl
     go true k = rw (k, e, append-nil) refl
     go false k = rw (k, e) refl
 
-pub blank_start_steps : (B : Behaviour) (feed : Feed) (w : World) (x : Bool) → HasBlank B → Sees feed w → IsRest w.scratch → sees_white w.current ≡ x →
-    Steps B feed (Next n.BlankLineStart) w (start_code w x).to (start_code w x).world
+blank_start_steps : (B : Behaviour) (feed : Feed) (w : World) (x : Bool) → HasBlank B → Sees feed w → IsRest w.scratch →
+    sees_white w.current ≡ x →
+    Steps B feed (Next (n.BlankLine its.Start)) w (start_code w x).to (start_code w x).world
 blank_start_steps B feed w true has s r e =
-    let f : Frame = record { ok = Next n.BlankLineAfter; nok = Nok; is_check = false; events_len = length w.events; point = w.point } in
+    let f : Frame = record { ok = Next (n.BlankLine its.After); nok = Nok; is_check = false; events_len = length w.events; point = w.point } in
     begins_only B feed _ _ w (start_code w true).world f refl refl
-    (has.start _ _ ∙ blank-white B feed has (feed w.point) (here w) f w.events s.short (begins-seen feed w s ∙ e) r refl refl)
+    (has.each its.Start _ _ ∙ blank-white B feed has (feed w.point) (here w) f w.events s.short (begins-seen feed w s ∙ e) r refl refl)
 blank_start_steps B feed w false has s r e =
-    passes B feed _ _ w w refl refl (has.start _ _ ∙ rw s.next (none-ahead feed w (here w) w.current e) ∙ sym (has.behind _ _))
+    passes B feed _ _ w w refl refl (has.each its.Start _ _ ∙ rw s.next (none-ahead feed w (here w) w.current e) ∙ sym (has.each its.After _ _))
 
 ends-ahead : (feed : Feed) (w : World) (h : Here) (o : Option ℕ) (x : Bool) → ends_line o ≡ x →
     after_blank (ahead feed w o) h ≡ cond x (Accepts h (ahead feed w o)) (Refuses h.scratch h.flags)
@@ -83,7 +87,17 @@ ends-ahead feed w h None false e = cc
 ends-ahead feed w h (Some b) true e = rw e refl
 ends-ahead feed w h (Some b) false e = rw e refl
 
-pub blank_after_steps : (B : Behaviour) (feed : Feed) (w : World) (x : Bool) → HasBlank B → Sees feed w → ends_line w.current ≡ x →
-    Steps B feed (Next n.BlankLineAfter) w (after_code w x).to (after_code w x).world
-blank_after_steps B feed w true has s e = passes B feed _ _ w w refl refl (has.behind _ _ ∙ rw s.next (ends-ahead feed w (here w) w.current true e))
-blank_after_steps B feed w false has s e = passes B feed _ _ w w refl refl (has.behind _ _ ∙ rw s.next (ends-ahead feed w (here w) w.current false e))
+blank_after_steps : (B : Behaviour) (feed : Feed) (w : World) (x : Bool) → HasBlank B → Sees feed w →
+    ends_line w.current ≡ x →
+    Steps B feed (Next (n.BlankLine its.After)) w (after_code w x).to (after_code w x).world
+blank_after_steps B feed w true has s e =
+    passes B feed _ _ w w refl refl (has.each its.After _ _ ∙ rw s.next (ends-ahead feed w (here w) w.current true e))
+blank_after_steps B feed w false has s e =
+    passes B feed _ _ w w refl refl (has.each its.After _ _ ∙ rw s.next (ends-ahead feed w (here w) w.current false e))
+
+-- each state of a blank line takes one step of what it means
+pub blank_steps : (B : Behaviour) (feed : Feed) (state : BlankState) (w : World) → HasBlank B → Sees feed w →
+    IsRest w.scratch →
+    Steps B feed (Next (n.BlankLine state)) w (blank_transition state w).to (blank_transition state w).world
+blank_steps B feed its.Start w has s r = blank_start_steps B feed w _ has s r refl
+blank_steps B feed its.After w has s r = blank_after_steps B feed w _ has s refl

@@ -3,12 +3,15 @@ use Rattle.std.proofs.Common.{◌≡◌, ℕ, zero, suc, ◌+◌, ◌<◌, Bool,
 use Rattle.std.proofs.lemmas.Bool.Decides.{nat_tests}
 use Rattle.md_engine.specs.declared.event.Name.TheVariants as parts
 use Rattle.md_engine.specs.declared.state.Name.TheVariants as n
+use Rattle.md_engine.specs.declared.state.bom.State.{State as BomState}
+use Rattle.md_engine.specs.declared.state.bom.State.TheVariants as its
 use Rattle.md_engine.specs.declared.state.State.TheVariants.{Next}
 use Rattle.md_engine.specs.declared.tokenizer.Scratch.{Scratch}
 use Rattle.md_engine.specs.Meaning.{Accepts, Behaviour, Cell, Feed, Here, Refuses, Steps, here}
+use Rattle.md_engine.specs.Scheme.{After, spot}
 use Rattle.md_engine.specs.World.{World, after}
 use Rattle.md_engine.proofs.StepOf.{Sees, ahead, cell_here, moves, passes}
-use Rattle.md_leaves.specs.Bom.{inside_code, mark_at, start_code}
+use Rattle.md_leaves.specs.Bom.{bom_ready, bom_transition, inside_code, mark_at, start_code}
 use Rattle.md_leaves.specs.BomRule.{HasBom, bom_at, inside_mark}
 use Rattle.md_leaves.specs.Heading.{without_size}
 use Rattle.md_leaves.proofs.BreakSteps.{sees-one}
@@ -25,12 +28,13 @@ unfolding bom_at
 no-mark feed w h None e = refl
 no-mark feed w h (Some b) e = rw e refl
 
-pub bom_start_steps : (B : Behaviour) (feed : Feed) (w : World) (x : Bool) → HasBom B → Sees feed w → IsRest w.scratch → is_current 239 w.current ≡ x → Steps B feed (Next n.BomStart) w (start_code w x).to (start_code w x).world
+bom_start_steps : (B : Behaviour) (feed : Feed) (w : World) (x : Bool) → HasBom B → Sees feed w → IsRest w.scratch →
+    is_current 239 w.current ≡ x → Steps B feed (Next (n.Bom its.Start)) w (start_code w x).to (start_code w x).world
 bom_start_steps B feed w true has s r e =
     moves B feed _ _ w (start_code w true).world (enter parts.ByteOrderMark w.point ∷ []) refl refl
-    (has.start _ _ ∙ mark-begins (feed w.point) (here w) (ap (λ (t : Scratch). t.size) r) (ap without_size r ∙ sym r) ∙ sym (has.inside _ _))
+    (has.each its.Start _ _ ∙ mark-begins (feed w.point) (here w) (ap (λ (t : Scratch). t.size) r) (ap without_size r ∙ sym r) ∙ sym (has.each its.Inside _ _))
 bom_start_steps B feed w false has s r e =
-    passes B feed _ _ w w refl refl (has.start _ _ ∙ rw s.next (no-mark feed w (here w) w.current e))
+    passes B feed _ _ w w refl refl (has.each its.Start _ _ ∙ rw s.next (no-mark feed w (here w) w.current e))
 
 -- one byte more
 mark-more : (c : Cell) (cs : List Cell) (h : Here) (k : ℕ) → h.scratch.size ≡ k → k < 2 → nat_eq c.byte (mark_at k) ≡ true →
@@ -64,19 +68,27 @@ mark-stops : (feed : Feed) (w : World) (h : Here) (o : Option ℕ) → h.scratch
 mark-stops feed w h None lt e = mark-none h h.scratch.size refl lt
 mark-stops feed w h (Some b) lt e = mark-other (cell_here feed w b) (feed (after w.setting w.point)) h h.scratch.size refl lt e
 
-pub bom_inside_steps : (B : Behaviour) (feed : Feed) (w : World) (x y : Bool) → HasBom B → Sees feed w → w.scratch.size < 3 → is_current (mark_at w.scratch.size) w.current ≡ x → nat_lt w.scratch.size 2 ≡ y →
-    Steps B feed (Next n.BomInside) w (inside_code w x y).to (inside_code w x y).world
+bom_inside_steps : (B : Behaviour) (feed : Feed) (w : World) (x y : Bool) → HasBom B → Sees feed w →
+    w.scratch.size < 3 → is_current (mark_at w.scratch.size) w.current ≡ x → nat_lt w.scratch.size 2 ≡ y →
+    Steps B feed (Next (n.Bom its.Inside)) w (inside_code w x y).to (inside_code w x y).world
 bom_inside_steps B feed w true true has s lt e f =
     let saw = sees-one feed w (is_current (mark_at w.scratch.size)) refl s e in
     let less : w.scratch.size < 2 = grind (arith, nat_tests) in
     passes B feed _ _ w (inside_code w true true).world refl refl
-    (has.inside _ _ ∙ ap (λ (x : List Cell). inside_mark x (here w)) saw.1
-    ∙ mark-more (cell_here feed w saw.0) (feed (after w.setting w.point)) (here w) w.scratch.size refl less saw.2 ∙ sym (has.inside _ _))
+    (has.each its.Inside _ _ ∙ ap (λ (x : List Cell). inside_mark x (here w)) saw.1
+    ∙ mark-more (cell_here feed w saw.0) (feed (after w.setting w.point)) (here w) w.scratch.size refl less saw.2 ∙ sym (has.each its.Inside _ _))
 bom_inside_steps B feed w true false has s lt e f =
     let saw = sees-one feed w (is_current (mark_at w.scratch.size)) refl s e in
     let two : w.scratch.size ≡ 2 = grind (arith, nat_tests) in
     let last : nat_eq saw.0 191 ≡ true = ap (λ (k : ℕ). nat_eq saw.0 (mark_at k)) (sym two) ∙ saw.2 in
     moves B feed _ _ w (inside_code w true false).world (exit parts.ByteOrderMark (after w.setting w.point) ∷ []) refl refl
-    (has.inside _ _ ∙ ap (λ (x : List Cell). inside_mark x (here w)) saw.1 ∙ mark-ends (cell_here feed w saw.0) (feed (after w.setting w.point)) (here w) two last)
+    (has.each its.Inside _ _ ∙ ap (λ (x : List Cell). inside_mark x (here w)) saw.1 ∙ mark-ends (cell_here feed w saw.0) (feed (after w.setting w.point)) (here w) two last)
 bom_inside_steps B feed w false y has s lt e f =
-    passes B feed _ _ w (inside_code w false y).world refl refl (has.inside _ _ ∙ rw s.next (mark-stops feed w (here w) w.current lt e))
+    passes B feed _ _ w (inside_code w false y).world refl refl (has.each its.Inside _ _ ∙ rw s.next (mark-stops feed w (here w) w.current lt e))
+
+-- each state of a mark takes one step of what it means
+pub bom_steps : (B : Behaviour) (feed : Feed) (state : BomState) (w : World) (K : After) → HasBom B → Sees feed w →
+    bom_ready (n.Bom state) (spot w) K →
+    Steps B feed (Next (n.Bom state)) w (bom_transition state w).to (bom_transition state w).world
+bom_steps B feed its.Start w K has s at = bom_start_steps B feed w _ has s at.0 refl
+bom_steps B feed its.Inside w K has s at = bom_inside_steps B feed w _ _ has s at.0.size refl refl

@@ -7,17 +7,20 @@ use Rattle.md_engine.specs.declared.event.Event.{Event}
 use Rattle.md_engine.specs.declared.event.Name.TheVariants.{SpaceOrTab, ThematicBreak}
 use Rattle.md_engine.specs.declared.event.Name.TheVariants as parts
 use Rattle.md_engine.specs.declared.state.Name.TheVariants as n
+use Rattle.md_engine.specs.declared.state.thematic_break.State.{State as BreakState}
+use Rattle.md_engine.specs.declared.state.thematic_break.State.TheVariants as its
 use Rattle.md_engine.specs.declared.state.State.{State}
 use Rattle.md_engine.specs.declared.state.State.TheVariants.{Nok, Next, Retry}
 use Rattle.md_engine.specs.declared.tokenizer.Frame.{Frame}
 use Rattle.md_engine.specs.declared.tokenizer.Scratch.{Scratch}
 use Rattle.md_engine.specs.Meaning.{Accepts, Behaviour, Cell, Feed, Here, Refuses, Steps, here}
+use Rattle.md_engine.specs.Scheme.{After, spot}
 use Rattle.md_engine.specs.World.{World, after}
 use Rattle.md_engine.proofs.StepOf.{Sees, ahead, begins, cell_here, moves, passes}
-use Rattle.md_leaves.specs.Break.{at_break_code, before_code, is_marker, sequence_code, start_code, without_marker}
+use Rattle.md_leaves.specs.Break.{at_break_code, before_code, break_ready, break_transition, is_marker, sequence_code, start_code, without_marker}
 use Rattle.md_leaves.specs.BreakRule.{Apart, HasBreak, Marks, White, at_break, before_marker, break_at, in_break}
 use Rattle.md_leaves.proofs.BreakLemmas.{apart-mark, before-mark, before-other, in_break-mark, in_break-other, marker-no_ending, marker-no_white, marks-at_none, marks-end, marks-none, marks-white, white-run, behind-joined}
-use Rattle.md_leaves.proofs.Goods.{marked-calm}
+use Rattle.md_leaves.proofs.BreakGoods.{marked-calm}
 use Rattle.md_seam.specs.Ahead.{begins_white, white_rest}
 use Rattle.md_seam.specs.Events.Nested.{enter, exit}
 use Rattle.md_seam.specs.Standard.Rest.{is_white}
@@ -59,29 +62,31 @@ to-white cells c cs h e s k = ap (λ (x : List Cell). in_break Marks x h) e ∙ 
 abbrev pub white_frame : State → World → List Event → Frame
 white_frame ok w events = record { ok = ok; nok = Nok; is_check = false; events_len = length events; point = w.point }
 
-pub sequence_steps : (B : Behaviour) (options : ParseOptions) (feed : Feed) (w : World) (x y : Bool) → HasBreak B options → Sees feed w → IsRest (without_marker w.scratch) → is_marker w.scratch.marker ≡ true →
-    is_current w.scratch.marker w.current ≡ x → sees_white w.current ≡ y → Steps B feed (Next n.ThematicBreakSequence) w (sequence_code w x y).to (sequence_code w x y).world
+sequence_steps : (B : Behaviour) (options : ParseOptions) (feed : Feed) (w : World) (x y : Bool) → HasBreak B options →
+    Sees feed w → IsRest (without_marker w.scratch) → is_marker w.scratch.marker ≡ true →
+    is_current w.scratch.marker w.current ≡ x → sees_white w.current ≡ y →
+    Steps B feed (Next (n.ThematicBreak its.Sequence)) w (sequence_code w x y).to (sequence_code w x y).world
 sequence_steps B options feed w true y has s r mark e f =
     let saw = sees-one feed w (is_current w.scratch.marker) refl s e in
     let ending : nat_eq saw.0 10 ≡ false = rw (eqb-true saw.0 w.scratch.marker saw.2) (marker-no_ending w.scratch.marker mark) in
     passes B feed _ _ w (sequence_code w true y).world refl refl
-    (has.sequence _ _ ∙ ap (λ (x : List Cell). in_break Marks x (here w)) saw.1
-    ∙ in_break-mark (cell_here feed w saw.0) (feed (after w.setting w.point)) (here w) saw.2 ending ∙ sym (has.sequence _ _))
+    (has.each its.Sequence _ _ ∙ ap (λ (x : List Cell). in_break Marks x (here w)) saw.1
+    ∙ in_break-mark (cell_here feed w saw.0) (feed (after w.setting w.point)) (here w) saw.2 ending ∙ sym (has.each its.Sequence _ _))
 sequence_steps B options feed w false true has s r mark e f =
     let saw = sees-other_white feed w w.scratch.marker s e f in
     let h : Here = behind_marks (here w) in
-    let frame : Frame = white_frame (Next n.ThematicBreakAtBreak) w h.events in
+    let frame : Frame = white_frame (Next (n.ThematicBreak its.AtBreak)) w h.events in
     begins B feed _ _ w (sequence_code w false true).world (exit parts.ThematicBreakSequence w.point ∷ []) frame refl refl
-    (has.sequence _ _
+    (has.each its.Sequence _ _
     ∙ to-white (feed w.point) (cell_here feed w saw.0) (feed (after w.setting w.point)) (here w) saw.1 saw.3 saw.2
     ∙ white-run any_size (feed w.point) (record h { events = h.events ++ enter SpaceOrTab h.point ∷ [] }) (omega (arith, s.short)) (marker-no_white w.scratch.marker mark)
     ∙ ap (at_break (white_rest any_size (feed w.point))) (behind-joined any_size (feed w.point) h (marked-calm w.scratch r))
-    ∙ sym (has.at_break _ _)
+    ∙ sym (has.each its.AtBreak _ _)
     ∙ white-tried B feed frame h.events (feed w.point) h 0 any_size has.white (begins-seen feed w s ∙ f) (omega arith) (omega arith) refl)
 sequence_steps B options feed w false false has s r mark e f =
     moves B feed _ _ w (sequence_code w false false).world (exit parts.ThematicBreakSequence w.point ∷ []) refl refl
-    (has.sequence _ _ ∙ ap (λ (x : List Cell). in_break Marks x (here w)) s.next
-    ∙ marks-stop feed w (here w) w.current e f ∙ ap (λ (x : List Cell). at_break x (behind_marks (here w))) (sym s.next) ∙ sym (has.at_break _ _))
+    (has.each its.Sequence _ _ ∙ ap (λ (x : List Cell). in_break Marks x (here w)) s.next
+    ∙ marks-stop feed w (here w) w.current e f ∙ ap (λ (x : List Cell). at_break x (behind_marks (here w))) (sym s.next) ∙ sym (has.each its.AtBreak _ _))
 
 -- no whitespace stands before a marker
 at_break-mark : (c : Cell) (cs : List Cell) (h : Here) → nat_eq c.byte h.scratch.marker ≡ true → is_marker h.scratch.marker ≡ true →
@@ -114,19 +119,21 @@ at_break-no feed w h (Some b) k e = go (is_white b) (nat_eq b 10) refl refl e
     go false true s t e = let ten : b ≡ 10 = eqb-true b 10 t in rw (ten, marks-none, add-zero, e) refl
     go false false s t e = rw s (in_break-other Apart (cell_here feed w b) (feed (after w.setting w.point)) h k s t)
 
-pub at_break_steps : (B : Behaviour) (options : ParseOptions) (feed : Feed) (w : World) (x y : Bool) → HasBreak B options → Sees feed w → is_marker w.scratch.marker ≡ true →
-    is_current w.scratch.marker w.current ≡ x → ends_line w.current && nat_le 3 w.scratch.size ≡ y → Steps B feed (Next n.ThematicBreakAtBreak) w (at_break_code w x y).to (at_break_code w x y).world
+at_break_steps : (B : Behaviour) (options : ParseOptions) (feed : Feed) (w : World) (x y : Bool) → HasBreak B options →
+    Sees feed w → is_marker w.scratch.marker ≡ true →
+    is_current w.scratch.marker w.current ≡ x → ends_line w.current && nat_le 3 w.scratch.size ≡ y →
+    Steps B feed (Next (n.ThematicBreak its.AtBreak)) w (at_break_code w x y).to (at_break_code w x y).world
 at_break_steps B options feed w true y has s mark e f =
     let saw = sees-one feed w (is_current w.scratch.marker) refl s e in
     moves B feed _ _ w (at_break_code w true y).world (enter parts.ThematicBreakSequence w.point ∷ []) refl refl
-    (has.at_break _ _ ∙ ap (λ (x : List Cell). at_break x (here w)) saw.1
+    (has.each its.AtBreak _ _ ∙ ap (λ (x : List Cell). at_break x (here w)) saw.1
     ∙ at_break-mark (cell_here feed w saw.0) (feed (after w.setting w.point)) (here w) saw.2 mark
-    ∙ ap (λ (x : List Cell). in_break Marks x (record (here w) { events = w.events ++ enter parts.ThematicBreakSequence w.point ∷ [] })) (sym saw.1) ∙ sym (has.sequence _ _))
+    ∙ ap (λ (x : List Cell). in_break Marks x (record (here w) { events = w.events ++ enter parts.ThematicBreakSequence w.point ∷ [] })) (sym saw.1) ∙ sym (has.each its.Sequence _ _))
 at_break_steps B options feed w false true has s mark e f =
     moves B feed _ _ w (at_break_code w false true).world (exit ThematicBreak w.point ∷ []) refl refl
-    (has.at_break _ _ ∙ rw s.next (at_break-end feed w (here w) w.current f))
+    (has.each its.AtBreak _ _ ∙ rw s.next (at_break-end feed w (here w) w.current f))
 at_break_steps B options feed w false false has s mark e f =
-    passes B feed _ _ w (at_break_code w false false).world refl refl (has.at_break _ _ ∙ rw s.next (at_break-no feed w (here w) w.current e f))
+    passes B feed _ _ w (at_break_code w false false).world refl refl (has.each its.AtBreak _ _ ∙ rw s.next (at_break-no feed w (here w) w.current e f))
 
 before-none : (h : Here) → before_marker [] h ≡ Refuses (without_marker h.scratch) h.flags
 unfolding before_marker
@@ -137,28 +144,29 @@ at_break-apart : (c : Cell) (cs : List Cell) (h : Here) → is_marker c.byte ≡
 unfolding at_break
 at_break-apart c cs h mark = rw (marker-no_white c.byte mark) refl
 
-pub before_steps : (B : Behaviour) (options : ParseOptions) (feed : Feed) (w : World) → HasBreak B options → Sees feed w → IsRest w.scratch →
-    Steps B feed (Next n.ThematicBreakBefore) w (before_code w w.current).to (before_code w w.current).world
+before_steps : (B : Behaviour) (options : ParseOptions) (feed : Feed) (w : World) → HasBreak B options → Sees feed w →
+    IsRest w.scratch →
+    Steps B feed (Next (n.ThematicBreak its.Before)) w (before_code w w.current).to (before_code w w.current).world
 before_steps B options feed w has s r = go w.current s.next
   where
     rest : without_marker w.scratch ≡ w.scratch
     rest = ap without_marker r ∙ sym r
 
-    refused : before_marker (feed w.point) (here w) ≡ Refuses (without_marker w.scratch) w.flags → Steps B feed (Next n.ThematicBreakBefore) w Nok w
-    refused e = passes B feed _ Nok w w refl refl (has.before _ _ ∙ e ∙ ap (λ (x : Scratch). Refuses x w.flags) rest)
+    refused : before_marker (feed w.point) (here w) ≡ Refuses (without_marker w.scratch) w.flags → Steps B feed (Next (n.ThematicBreak its.Before)) w Nok w
+    refused e = passes B feed _ Nok w w refl refl (has.each its.Before _ _ ∙ e ∙ ap (λ (x : Scratch). Refuses x w.flags) rest)
 
-    go : (o : Option ℕ) → feed w.point ≡ ahead feed w o → Steps B feed (Next n.ThematicBreakBefore) w (before_code w o).to (before_code w o).world
+    go : (o : Option ℕ) → feed w.point ≡ ahead feed w o → Steps B feed (Next (n.ThematicBreak its.Before)) w (before_code w o).to (before_code w o).world
     go None e = refused (ap (λ (x : List Cell). before_marker x (here w)) e ∙ before-none (here w))
     go (Some b) e = by (is_marker b) refl
       where
-        by : (x : Bool) → is_marker b ≡ x → Steps B feed (Next n.ThematicBreakBefore) w (before_code w (Some b)).to (before_code w (Some b)).world
+        by : (x : Bool) → is_marker b ≡ x → Steps B feed (Next (n.ThematicBreak its.Before)) w (before_code w (Some b)).to (before_code w (Some b)).world
         by true k =
             let c = cell_here feed w b in
             let cs = feed (after w.setting w.point) in
             let h : Here = record (here w) { scratch = record w.scratch { marker = b } } in
-            rw k (passes B feed _ (Retry n.ThematicBreakAtBreak) w (record w { scratch = record w.scratch { marker = b } }) refl refl
-            (has.before _ _ ∙ ap (λ (x : List Cell). before_marker x (here w)) e ∙ before-mark c cs (here w) k (ap (λ (t : Scratch). t.size) r)
-            ∙ at_break-apart c cs h k ∙ ap (λ (x : List Cell). at_break x h) (sym e) ∙ sym (has.at_break _ _)))
+            rw k (passes B feed _ (Retry (n.ThematicBreak its.AtBreak)) w (record w { scratch = record w.scratch { marker = b } }) refl refl
+            (has.each its.Before _ _ ∙ ap (λ (x : List Cell). before_marker x (here w)) e ∙ before-mark c cs (here w) k (ap (λ (t : Scratch). t.size) r)
+            ∙ at_break-apart c cs h k ∙ ap (λ (x : List Cell). at_break x h) (sym e) ∙ sym (has.each its.AtBreak _ _)))
         by false k = rw k (refused (ap (λ (x : List Cell). before_marker x (here w)) e ∙ before-other (cell_here feed w b) (feed (after w.setting w.point)) (here w) k))
 
 -- where a break has begun
@@ -178,16 +186,27 @@ pub at-none : (options : ParseOptions) (cells : List Cell) (h : Here) → option
 unfolding break_at
 at-none options cells h on s = rw (on, s) refl
 
-pub start_steps : (B : Behaviour) (feed : Feed) (w : World) (x y : Bool) → HasBreak B w.setting.options → Sees feed w → w.setting.options.constructs.thematic_break ≡ x → sees_white w.current ≡ y →
-    Steps B feed (Next n.ThematicBreakStart) w (start_code w x y).to (start_code w x y).world
-start_steps B feed w false y has s e f = passes B feed _ _ w w refl refl (has.start _ _ ∙ at-off _ (feed w.point) (here w) e)
+start_steps : (B : Behaviour) (feed : Feed) (w : World) (x y : Bool) → HasBreak B w.setting.options → Sees feed w →
+    w.setting.options.constructs.thematic_break ≡ x → sees_white w.current ≡ y →
+    Steps B feed (Next (n.ThematicBreak its.Start)) w (start_code w x y).to (start_code w x y).world
+start_steps B feed w false y has s e f =
+    passes B feed _ _ w w refl refl (has.each its.Start _ _ ∙ at-off _ (feed w.point) (here w) e)
 start_steps B feed w true true has s e f =
     let h : Here = entered_here (here w) in
-    let frame : Frame = white_frame (Next n.ThematicBreakBefore) w h.events in
+    let frame : Frame = white_frame (Next (n.ThematicBreak its.Before)) w h.events in
     let white : begins_white (feed w.point) ≡ true = begins-seen feed w s ∙ f in
     begins B feed _ _ w (start_code w true true).world (enter ThematicBreak w.point ∷ []) frame refl refl
-    (has.start _ _ ∙ at-white _ (feed w.point) (here w) e white ∙ sym (has.before _ _)
+    (has.each its.Start _ _ ∙ at-white _ (feed w.point) (here w) e white ∙ sym (has.each its.Before _ _)
     ∙ white-tried B feed frame h.events (feed w.point) h 0 (small_indent w.setting.options) has.white white (small-some w.setting.options) (omega arith) refl)
 start_steps B feed w true false has s e f =
     moves B feed _ _ w (start_code w true false).world (enter ThematicBreak w.point ∷ []) refl refl
-    (has.start _ _ ∙ at-none _ (feed w.point) (here w) e (begins-seen feed w s ∙ f) ∙ sym (has.before _ _))
+    (has.each its.Start _ _ ∙ at-none _ (feed w.point) (here w) e (begins-seen feed w s ∙ f) ∙ sym (has.each its.Before _ _))
+
+-- each state of a break takes one step of what it means
+pub break_steps : (B : Behaviour) (feed : Feed) (state : BreakState) (w : World) (K : After) →
+    HasBreak B w.setting.options → Sees feed w → break_ready (n.ThematicBreak state) (spot w) K →
+    Steps B feed (Next (n.ThematicBreak state)) w (break_transition state w).to (break_transition state w).world
+break_steps B feed its.Start w K has s at = start_steps B feed w _ _ has s refl refl
+break_steps B feed its.Before w K has s at = before_steps B _ feed w has s at.0
+break_steps B feed its.AtBreak w K has s at = at_break_steps B _ feed w _ _ has s at.0.marker refl refl
+break_steps B feed its.Sequence w K has s at = sequence_steps B _ feed w _ _ has s at.0.rest at.0.marker refl refl

@@ -10,14 +10,17 @@ use Rattle.md_engine.specs.declared.event.Name.TheVariants.{SpaceOrTab}
 use Rattle.md_engine.specs.declared.event.Name.TheVariants as parts
 use Rattle.md_engine.specs.declared.resolve.Name.{Name as ResolveName}
 use Rattle.md_engine.specs.declared.state.Name.TheVariants as n
+use Rattle.md_engine.specs.declared.state.heading_atx.State.{State as HeadingState}
+use Rattle.md_engine.specs.declared.state.heading_atx.State.TheVariants as its
 use Rattle.md_engine.specs.declared.state.State.{State}
 use Rattle.md_engine.specs.declared.state.State.TheVariants.{Next}
 use Rattle.md_engine.specs.declared.tokenizer.Frame.{Frame}
 use Rattle.md_engine.specs.declared.tokenizer.Scratch.{Scratch}
 use Rattle.md_engine.specs.Meaning.{Accepts, Behaviour, Cell, Feed, Here, Refuses, Steps, goes, here}
+use Rattle.md_engine.specs.Scheme.{After, spot}
 use Rattle.md_engine.specs.World.{World, after}
 use Rattle.md_engine.proofs.StepOf.{Sees, ahead, begins, cell_here, moves, passes}
-use Rattle.md_leaves.specs.Heading.{at_break_code, before_code, behind_part, data_code, heading_link, sees_text, sequence_further_code, sequence_open_code, start_code, without_size}
+use Rattle.md_leaves.specs.Heading.{at_break_code, before_code, behind_part, data_code, heading_link, heading_ready, heading_transition, sees_text, sequence_further_code, sequence_open_code, start_code, without_size}
 use Rattle.md_leaves.specs.HeadingRule.{Apart, HasHeading, Hashes, Run, Text, White, at_break, before_opening, begun, closes, goes_on, heading_at, in_heading, in_opening, opens}
 use Rattle.md_leaves.proofs.BreakLemmas.{behind-joined}
 use Rattle.md_leaves.proofs.BreakSteps.{sees-one, white_frame}
@@ -58,19 +61,21 @@ pub at-none : (options : ParseOptions) (cells : List Cell) (h : Here) → option
 unfolding heading_at
 at-none options cells h on s = rw (on, s) refl
 
-pub heading_start_steps : (B : Behaviour) (feed : Feed) (w : World) (x y : Bool) → HasHeading B w.setting.options → Sees feed w → w.setting.options.constructs.heading_atx ≡ x → sees_white w.current ≡ y →
-    Steps B feed (Next n.HeadingAtxStart) w (start_code w x y).to (start_code w x y).world
-heading_start_steps B feed w false y has s e f = passes B feed _ _ w w refl refl (has.start _ _ ∙ at-off _ (feed w.point) (here w) e)
+heading_start_steps : (B : Behaviour) (feed : Feed) (w : World) (x y : Bool) → HasHeading B w.setting.options →
+    Sees feed w → w.setting.options.constructs.heading_atx ≡ x → sees_white w.current ≡ y →
+    Steps B feed (Next (n.HeadingAtx its.Start)) w (start_code w x y).to (start_code w x y).world
+heading_start_steps B feed w false y has s e f =
+    passes B feed _ _ w w refl refl (has.each its.Start _ _ ∙ at-off _ (feed w.point) (here w) e)
 heading_start_steps B feed w true true has s e f =
     let h : Here = entered_here (here w) in
-    let frame : Frame = white_frame (Next n.HeadingAtxBefore) w h.events in
+    let frame : Frame = white_frame (Next (n.HeadingAtx its.Before)) w h.events in
     let white : begins_white (feed w.point) ≡ true = begins-seen feed w s ∙ f in
     begins B feed _ _ w (start_code w true true).world (enter parts.HeadingAtx w.point ∷ []) frame refl refl
-    (has.start _ _ ∙ at-white _ (feed w.point) (here w) e white ∙ sym (has.before _ _)
+    (has.each its.Start _ _ ∙ at-white _ (feed w.point) (here w) e white ∙ sym (has.each its.Before _ _)
     ∙ white-tried B feed frame h.events (feed w.point) h 0 (small_indent w.setting.options) has.white white (small-some w.setting.options) (omega arith) refl)
 heading_start_steps B feed w true false has s e f =
     moves B feed _ _ w (start_code w true false).world (enter parts.HeadingAtx w.point ∷ []) refl refl
-    (has.start _ _ ∙ at-none _ (feed w.point) (here w) e (begins-seen feed w s ∙ f) ∙ sym (has.before _ _))
+    (has.each its.Start _ _ ∙ at-none _ (feed w.point) (here w) e (begins-seen feed w s ∙ f) ∙ sym (has.each its.Before _ _))
 
 -- Behind the indent.
 
@@ -85,17 +90,18 @@ unfolding before_opening
 other-ahead feed w h None e = refl
 other-ahead feed w h (Some b) e = before-other (cell_here feed w b) (feed (after w.setting w.point)) h e
 
-pub heading_before_steps : (B : Behaviour) (options : ParseOptions) (feed : Feed) (w : World) (x : Bool) → HasHeading B options → Sees feed w → IsRest w.scratch → is_current 35 w.current ≡ x →
-    Steps B feed (Next n.HeadingAtxBefore) w (before_code w x).to (before_code w x).world
+heading_before_steps : (B : Behaviour) (options : ParseOptions) (feed : Feed) (w : World) (x : Bool) →
+    HasHeading B options → Sees feed w → IsRest w.scratch → is_current 35 w.current ≡ x →
+    Steps B feed (Next (n.HeadingAtx its.Before)) w (before_code w x).to (before_code w x).world
 heading_before_steps B options feed w true has s r e =
     let saw = sees-one feed w (is_current 35) refl s e in
     let h : Here = record (here w) { events = w.events ++ enter parts.HeadingAtxSequence w.point ∷ [] } in
     moves B feed _ _ w (before_code w true).world (enter parts.HeadingAtxSequence w.point ∷ []) refl refl
-    (has.before _ _ ∙ ap (λ (x : List Cell). before_opening x (here w)) saw.1
+    (has.each its.Before _ _ ∙ ap (λ (x : List Cell). before_opening x (here w)) saw.1
     ∙ before-hash (cell_here feed w saw.0) (feed (after w.setting w.point)) (here w) saw.2 (hash-no_ending saw.0 saw.2) (ap (λ (t : Scratch). t.size) r) (rest-same w.scratch r)
-    ∙ ap (λ (x : List Cell). in_opening x h) (sym saw.1) ∙ sym (has.sequence_open _ _))
+    ∙ ap (λ (x : List Cell). in_opening x h) (sym saw.1) ∙ sym (has.each its.SequenceOpen _ _))
 heading_before_steps B options feed w false has s r e =
-    passes B feed _ _ w w refl refl (has.before _ _ ∙ rw s.next (other-ahead feed w (here w) w.current e))
+    passes B feed _ _ w w refl refl (has.each its.Before _ _ ∙ rw s.next (other-ahead feed w (here w) w.current e))
 
 -- Behind a run of the line.
 
@@ -122,17 +128,17 @@ behind_steps : (B : Behaviour) (options : ParseOptions) (feed : Feed) (from : St
     (let left : Transition = behind_part (record w { events = w.events ++ exit name w.point ∷ []; scratch = t }) x in Steps B feed from w left.to left.world)
 behind_steps B options feed from w name t true has s r e same =
     let h : Here = record (here w) { events = w.events ++ exit name w.point ∷ []; scratch = t } in
-    let frame : Frame = white_frame (Next n.HeadingAtxAtBreak) w h.events in
+    let frame : Frame = white_frame (Next (n.HeadingAtx its.AtBreak)) w h.events in
     begins B feed from _ w (behind_part (record w { events = h.events; scratch = t }) true).world (exit name w.point ∷ []) frame refl refl
     (same ∙ white-here feed w h s e
     ∙ white-run any_size (feed w.point) (record h { events = h.events ++ enter SpaceOrTab h.point ∷ [] }) (omega (arith, s.short))
     ∙ ap (at_break (white_rest any_size (feed w.point))) (behind-joined any_size (feed w.point) h (ap calmed r ∙ sym r))
-    ∙ sym (has.at_break _ _)
+    ∙ sym (has.each its.AtBreak _ _)
     ∙ white-tried B feed frame h.events (feed w.point) h 1 any_size has.white (begins-seen feed w s ∙ e) (omega arith) (omega arith) refl)
 behind_steps B options feed from w name t false has s r e same =
     let h : Here = record (here w) { events = w.events ++ exit name w.point ∷ []; scratch = t } in
     moves B feed from _ w (behind_part (record w { events = h.events; scratch = t }) false).world (exit name w.point ∷ []) refl refl
-    (same ∙ sym (apart-none (feed w.point) h (begins-seen feed w s ∙ e)) ∙ sym (has.at_break _ _))
+    (same ∙ sym (apart-none (feed w.point) h (begins-seen feed w s ∙ e)) ∙ sym (has.each its.AtBreak _ _))
 
 -- The opening sequence.
 
@@ -159,19 +165,21 @@ opening-stops feed w h (Some b) e le = go (nat_eq b 10) refl
 white-of : (o : Option ℕ) (b : ℕ) → sees_text o ≡ false → o ≡ Some b → nat_eq b 10 ≡ false → is_white b ≡ true
 white-of o b e is k = or-left (is_white b) (nat_eq b 10) (sym (ap sees_text is) ∙ e) k
 
-pub sequence_open_steps : (B : Behaviour) (options : ParseOptions) (feed : Feed) (w : World) (x y z : Bool) → HasHeading B options → Sees feed w → IsRest (without_size w.scratch) → w.scratch.size ≤ 6 →
-    is_current 35 w.current && nat_lt w.scratch.size 6 ≡ x → sees_text w.current ≡ y → sees_white w.current ≡ z → Steps B feed (Next n.HeadingAtxSequenceOpen) w (sequence_open_code w x y z).to (sequence_open_code w x y z).world
+sequence_open_steps : (B : Behaviour) (options : ParseOptions) (feed : Feed) (w : World) (x y z : Bool) →
+    HasHeading B options → Sees feed w → IsRest (without_size w.scratch) → w.scratch.size ≤ 6 →
+    is_current 35 w.current && nat_lt w.scratch.size 6 ≡ x → sees_text w.current ≡ y → sees_white w.current ≡ z →
+    Steps B feed (Next (n.HeadingAtx its.SequenceOpen)) w (sequence_open_code w x y z).to (sequence_open_code w x y z).world
 sequence_open_steps B options feed w true y z has s r le e f g =
     let saw = sees-one feed w (is_current 35) refl s (and_parts _ _ e).0 in
     passes B feed _ _ w (sequence_open_code w true y z).world refl refl
-    (has.sequence_open _ _ ∙ ap (λ (x : List Cell). in_opening x (here w)) saw.1
-    ∙ opening-more (cell_here feed w saw.0) (feed (after w.setting w.point)) (here w) saw.2 (hash-no_ending saw.0 saw.2) ∙ sym (has.sequence_open _ _))
+    (has.each its.SequenceOpen _ _ ∙ ap (λ (x : List Cell). in_opening x (here w)) saw.1
+    ∙ opening-more (cell_here feed w saw.0) (feed (after w.setting w.point)) (here w) saw.2 (hash-no_ending saw.0 saw.2) ∙ sym (has.each its.SequenceOpen _ _))
 sequence_open_steps B options feed w false true z has s r le e f g =
-    passes B feed _ _ w (sequence_open_code w false true z).world refl refl (has.sequence_open _ _ ∙ rw s.next (opening-refuses feed w (here w) w.current e f))
+    passes B feed _ _ w (sequence_open_code w false true z).world refl refl (has.each its.SequenceOpen _ _ ∙ rw s.next (opening-refuses feed w (here w) w.current e f))
 sequence_open_steps B options feed w false false z has s r le e f g =
     let h : Here = record (here w) { scratch = without_size w.scratch } in
-    behind_steps B options feed (Next n.HeadingAtxSequenceOpen) w parts.HeadingAtxSequence (without_size w.scratch) z has s r g
-    (has.sequence_open _ _ ∙ rw s.next (opening-stops feed w (here w) w.current f le
+    behind_steps B options feed (Next (n.HeadingAtx its.SequenceOpen)) w parts.HeadingAtxSequence (without_size w.scratch) z has s r g
+    (has.each its.SequenceOpen _ _ ∙ rw s.next (opening-stops feed w (here w) w.current f le
     ∙ run-stops feed w h Hashes w.current (λ b is k. white-no_hash b (white-of w.current b f is k))))
 
 -- Between two runs.
@@ -200,45 +208,66 @@ unfolding at_break
 white-refuses feed w h None e f = cc
 white-refuses feed w h (Some b) e f = rw (or-left (is_white b) (nat_eq b 10) e f) refl
 
-pub heading_at_break_steps : (B : Behaviour) (options : ParseOptions) (feed : Feed) (is_name : ResolveName → Bool) (w : World) (x y z : Bool) → HasHeading B options → Sees feed w →
-    sees_text w.current ≡ x → is_current 35 w.current ≡ y → ends_line w.current ≡ z → Steps B feed (Next n.HeadingAtxAtBreak) w (at_break_code is_name w x y z).to (at_break_code is_name w x y z).world
+heading_at_break_steps : (B : Behaviour) (options : ParseOptions) (feed : Feed) (is_name : ResolveName → Bool) (w : World) (x y z : Bool) →
+    HasHeading B options → Sees feed w →
+    sees_text w.current ≡ x → is_current 35 w.current ≡ y → ends_line w.current ≡ z →
+    Steps B feed (Next (n.HeadingAtx its.AtBreak)) w (at_break_code is_name w x y z).to (at_break_code is_name w x y z).world
 heading_at_break_steps B options feed is_name w true true z has s e f g =
     let saw = sees-one feed w (is_current 35) refl s f in
     let white : is_white saw.0 ≡ false = rw (eqb-true saw.0 35 saw.2) refl in
     moves B feed _ _ w (at_break_code is_name w true true z).world (enter parts.HeadingAtxSequence w.point ∷ []) refl refl
-    (has.at_break _ _ ∙ run-here feed w (here w) saw.0 Hashes saw.1 white (hash-no_ending saw.0 saw.2) (ap begun (eqb-true saw.0 35 saw.2)) ∙ sym (has.sequence_further _ _))
+    (has.each its.AtBreak _ _ ∙ run-here feed w (here w) saw.0 Hashes saw.1 white (hash-no_ending saw.0 saw.2) (ap begun (eqb-true saw.0 35 saw.2)) ∙ sym (has.each its.SequenceFurther _ _))
 heading_at_break_steps B options feed is_name w true false z has s e f g =
     let saw = sees-one feed w (λ (o : Option ℕ). sees_text o && not (is_current 35 o)) refl s (rw (e, f) refl) in
     let apart = not-or (is_white saw.0) (nat_eq saw.0 10) (and_parts _ _ saw.2).0 in
     moves B feed _ _ w (at_break_code is_name w true false z).world (record { kind = Enter; name = parts.Data; point = w.point; link = Some heading_link } ∷ []) refl refl
-    (has.at_break _ _ ∙ run-here feed w (here w) saw.0 Text saw.1 apart.0 apart.1 (text-begins saw.0 apart.0 (not-true _ (and_parts _ _ saw.2).1)) ∙ sym (has.text _ _))
+    (has.each its.AtBreak _ _ ∙ run-here feed w (here w) saw.0 Text saw.1 apart.0 apart.1 (text-begins saw.0 apart.0 (not-true _ (and_parts _ _ saw.2).1)) ∙ sym (has.each its.Data _ _))
 heading_at_break_steps B options feed is_name w false y true has s e f g =
     moves B feed _ _ w (at_break_code is_name w false y true).world (exit parts.HeadingAtx w.point ∷ []) refl refl
-    (has.at_break _ _ ∙ rw s.next (line-ends feed w (here w) w.current g))
+    (has.each its.AtBreak _ _ ∙ rw s.next (line-ends feed w (here w) w.current g))
 heading_at_break_steps B options feed is_name w false y false has s e f g =
-    passes B feed _ _ w w refl refl (has.at_break _ _ ∙ rw s.next (white-refuses feed w (here w) w.current e g))
+    passes B feed _ _ w w refl refl (has.each its.AtBreak _ _ ∙ rw s.next (white-refuses feed w (here w) w.current e g))
 
 -- In a run.
 
-pub sequence_further_steps : (B : Behaviour) (options : ParseOptions) (feed : Feed) (w : World) (x y : Bool) → HasHeading B options → Sees feed w → IsRest w.scratch →
-    is_current 35 w.current ≡ x → sees_white w.current ≡ y → Steps B feed (Next n.HeadingAtxSequenceFurther) w (sequence_further_code w x y).to (sequence_further_code w x y).world
+sequence_further_steps : (B : Behaviour) (options : ParseOptions) (feed : Feed) (w : World) (x y : Bool) →
+    HasHeading B options → Sees feed w → IsRest w.scratch →
+    is_current 35 w.current ≡ x → sees_white w.current ≡ y →
+    Steps B feed (Next (n.HeadingAtx its.SequenceFurther)) w (sequence_further_code w x y).to (sequence_further_code w x y).world
 sequence_further_steps B options feed w true y has s r e f =
     let saw = sees-one feed w (is_current 35) refl s e in
     passes B feed _ _ w (sequence_further_code w true y).world refl refl
-    (has.sequence_further _ _ ∙ ap (λ (x : List Cell). in_heading Hashes x (here w)) saw.1
-    ∙ run-more Hashes (cell_here feed w saw.0) (feed (after w.setting w.point)) (here w) saw.2 (hash-no_ending saw.0 saw.2) ∙ sym (has.sequence_further _ _))
+    (has.each its.SequenceFurther _ _ ∙ ap (λ (x : List Cell). in_heading Hashes x (here w)) saw.1
+    ∙ run-more Hashes (cell_here feed w saw.0) (feed (after w.setting w.point)) (here w) saw.2 (hash-no_ending saw.0 saw.2) ∙ sym (has.each its.SequenceFurther _ _))
 sequence_further_steps B options feed w false y has s r e f =
-    behind_steps B options feed (Next n.HeadingAtxSequenceFurther) w parts.HeadingAtxSequence w.scratch y has s r f
-    (has.sequence_further _ _ ∙ rw s.next (run-stops feed w (here w) Hashes w.current (λ b is k. sym (ap (is_current 35) is) ∙ e)))
+    behind_steps B options feed (Next (n.HeadingAtx its.SequenceFurther)) w parts.HeadingAtxSequence w.scratch y has s r f
+    (has.each its.SequenceFurther _ _ ∙ rw s.next (run-stops feed w (here w) Hashes w.current (λ b is k. sym (ap (is_current 35) is) ∙ e)))
 
-pub data_steps : (B : Behaviour) (options : ParseOptions) (feed : Feed) (w : World) (x y : Bool) → HasHeading B options → Sees feed w → IsRest w.scratch →
-    sees_text w.current ≡ x → sees_white w.current ≡ y → Steps B feed (Next n.HeadingAtxData) w (data_code w x y).to (data_code w x y).world
+data_steps : (B : Behaviour) (options : ParseOptions) (feed : Feed) (w : World) (x y : Bool) → HasHeading B options →
+    Sees feed w → IsRest w.scratch →
+    sees_text w.current ≡ x → sees_white w.current ≡ y →
+    Steps B feed (Next (n.HeadingAtx its.Data)) w (data_code w x y).to (data_code w x y).world
 data_steps B options feed w true y has s r e f =
     let saw = sees-one feed w sees_text refl s e in
     let apart = not-or (is_white saw.0) (nat_eq saw.0 10) saw.2 in
     passes B feed _ _ w (data_code w true y).world refl refl
-    (has.text _ _ ∙ ap (λ (x : List Cell). in_heading Text x (here w)) saw.1
-    ∙ run-more Text (cell_here feed w saw.0) (feed (after w.setting w.point)) (here w) (not_from_false _ apart.0) apart.1 ∙ sym (has.text _ _))
+    (has.each its.Data _ _ ∙ ap (λ (x : List Cell). in_heading Text x (here w)) saw.1
+    ∙ run-more Text (cell_here feed w saw.0) (feed (after w.setting w.point)) (here w) (not_from_false _ apart.0) apart.1 ∙ sym (has.each its.Data _ _))
 data_steps B options feed w false y has s r e f =
-    behind_steps B options feed (Next n.HeadingAtxData) w parts.Data w.scratch y has s r f
-    (has.text _ _ ∙ rw s.next (run-stops feed w (here w) Text w.current (λ b is k. not_from_true _ (white-of w.current b e is k))))
+    behind_steps B options feed (Next (n.HeadingAtx its.Data)) w parts.Data w.scratch y has s r f
+    (has.each its.Data _ _ ∙ rw s.next (run-stops feed w (here w) Text w.current (λ b is k. not_from_true _ (white-of w.current b e is k))))
+
+-- each state of a heading takes one step of what it means
+pub heading_steps : (B : Behaviour) (feed : Feed) (is_name : ResolveName → Bool) (state : HeadingState) (w : World) (K : After) →
+    HasHeading B w.setting.options → Sees feed w →
+    heading_ready (n.HeadingAtx state) (spot w) K →
+    Steps B feed (Next (n.HeadingAtx state)) w (heading_transition is_name state w).to (heading_transition is_name state w).world
+heading_steps B feed is_name its.Start w K has s at = heading_start_steps B feed w _ _ has s refl refl
+heading_steps B feed is_name its.Before w K has s at = heading_before_steps B _ feed w _ has s at.0 refl
+heading_steps B feed is_name its.SequenceOpen w K has s at =
+    sequence_open_steps B _ feed w _ _ _ has s at.0.rest at.0.size refl refl refl
+heading_steps B feed is_name its.AtBreak w K has s at =
+    heading_at_break_steps B _ feed is_name w _ _ _ has s refl refl refl
+heading_steps B feed is_name its.SequenceFurther w K has s at =
+    sequence_further_steps B _ feed w _ _ has s at.0 refl refl
+heading_steps B feed is_name its.Data w K has s at = data_steps B _ feed w _ _ has s at.0 refl refl

@@ -1,8 +1,10 @@
-pub mod Goods
+pub mod BlankGoods
+pub mod BreakGoods
 pub mod BreakLemmas
 pub mod BlankSteps
 pub mod BreakSteps
 pub mod HeadingGoods
+pub mod BomGoods
 pub mod HeadingLemmas
 pub mod HeadingSteps
 pub mod HeadingWhole

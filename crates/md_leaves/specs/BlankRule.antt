@@ -3,7 +3,9 @@ use Rattle.std.specs.Prelude.{◌≡◌, if◌then◌else◌, List, [], ◌++◌
 use Rattle.md_engine.specs.declared.event.Event.{Event}
 use Rattle.md_engine.specs.declared.event.Name.TheVariants.{SpaceOrTab}
 use Rattle.md_engine.specs.declared.event.Point.{Point}
-use Rattle.md_engine.specs.declared.state.Name.TheVariants.{BlankLineStart, BlankLineAfter}
+use Rattle.md_engine.specs.declared.state.Name.TheVariants as n
+use Rattle.md_engine.specs.declared.state.blank_line.State.{State as BlankState}
+use Rattle.md_engine.specs.declared.state.blank_line.State.TheVariants as its
 use Rattle.md_engine.specs.Meaning.{Accepts, Behaviour, Cell, Here, Outcome, Refuses}
 use Rattle.md_seam.specs.Ahead.{HasWhite, begins_white, from_ending, line_bytes, line_end}
 use Rattle.md_seam.specs.Standard.Bytes.{is_end}
@@ -25,7 +27,11 @@ blank_at cells h =
     then Accepts (record h { events = h.events ++ blank_events cells h.point; point = line_end cells h.point }) (from_ending cells)
     else Refuses h.scratch h.flags
 
+-- what is left at each state
+abbrev pub blank_behaves : BlankState → List Cell → Here → Outcome
+blank_behaves its.Start cells h = blank_at cells h
+blank_behaves its.After cells h = after_blank cells h
+
 pub record HasBlank (B : Behaviour) : Type 0 where
   pub white : HasWhite B
-  pub start : (cells : List Cell) (h : Here) → B BlankLineStart cells h ≡ blank_at cells h
-  pub behind : (cells : List Cell) (h : Here) → B BlankLineAfter cells h ≡ after_blank cells h
+  pub each : (state : BlankState) (cells : List Cell) (h : Here) → B (n.BlankLine state) cells h ≡ blank_behaves state cells h

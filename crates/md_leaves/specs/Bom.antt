@@ -1,10 +1,12 @@
 -- The byte order mark.
-use Rattle.std.specs.Prelude.{ℕ, ◌+◌, ◌<◌, Bool, true, false, nat_lt, List, [], ◌∷◌, get_or}
+use Rattle.std.specs.Prelude.{refl, ℕ, ◌+◌, ◌<◌, Bool, true, false, nat_lt, List, [], ◌∷◌, get_or}
 use Rattle.md_engine.specs.declared.event.Name.TheVariants.{ByteOrderMark}
 use Rattle.md_engine.specs.declared.state.Name.{Name as StateName}
-use Rattle.md_engine.specs.declared.state.Name.TheVariants.{BomStart, BomInside}
+use Rattle.md_engine.specs.declared.state.Name.TheVariants as n
+use Rattle.md_engine.specs.declared.state.bom.State.{State as BomState}
+use Rattle.md_engine.specs.declared.state.bom.State.TheVariants as its
 use Rattle.md_engine.specs.declared.state.State.TheVariants.{Ok, Nok, Next, Retry}
-use Rattle.md_engine.specs.Scheme.{After, Ends, Scheme, Spot}
+use Rattle.md_engine.specs.Scheme.{After, Ends, Rank, Scheme, Spot, ranked}
 use Rattle.md_engine.specs.World.{World}
 use Rattle.md_leaves.specs.Heading.{without_size}
 use Rattle.md_seam.specs.Spaces.{IsRest, is_current, rest_ready}
@@ -20,12 +22,13 @@ mark_at size = get_or mark size 0
 
 -- by whether the first byte of the mark stands here
 abbrev pub start_code : World → Bool → Transition
-start_code w true = record { to = Retry BomInside; world = entered w ByteOrderMark }
+start_code w true = record { to = Retry (n.Bom its.Inside); world = entered w ByteOrderMark }
 start_code w false = record { to = Nok; world = w }
 
 -- by whether the next byte of the mark stands here, and whether more of the mark follows
 abbrev pub inside_code : World → Bool → Bool → Transition
-inside_code w true true = record { to = Next BomInside; world = record (taken w) { scratch = record w.scratch { size = w.scratch.size + 1 } } }
+inside_code w true true =
+    record { to = Next (n.Bom its.Inside); world = record (taken w) { scratch = record w.scratch { size = w.scratch.size + 1 } } }
 inside_code w true false = record { to = Ok; world = record (exited (taken w) ByteOrderMark) { scratch = without_size w.scratch } }
 inside_code w false more = record { to = Nok; world = record w { scratch = without_size w.scratch } }
 
@@ -36,8 +39,13 @@ start_transition w = start_code w (is_current 239 w.current)
 abbrev pub inside_transition : World → Transition
 inside_transition w = inside_code w (is_current (mark_at w.scratch.size) w.current) (nat_lt w.scratch.size 2)
 
+-- all of them
+abbrev pub bom_transition : BomState → World → Transition
+bom_transition its.Start w = start_transition w
+bom_transition its.Inside w = inside_transition w
+
 abbrev pub BomNeeds : StateName → World → Type 0
-BomNeeds BomInside w = w.scratch.size < 3
+BomNeeds (n.Bom its.Inside) w = w.scratch.size < 3
 BomNeeds _ w = Unit {0}
 
 -- Inside, not all of the mark is taken.
@@ -46,12 +54,12 @@ pub record IsMarking (x : Spot) : Type 0 where
   pub rest : IsRest (without_size x.scratch)
 
 abbrev pub bom_ready : StateName → Spot → After → Type 0
-bom_ready BomInside x K = IsMarking x × Ends IsRest IsRest x K
+bom_ready (n.Bom its.Inside) x K = IsMarking x × Ends IsRest IsRest x K
 bom_ready _ x K = rest_ready x K
 
-abbrev pub bom_rank : StateName → Spot → ℕ
-bom_rank BomStart x = 1
-bom_rank _ x = 0
+abbrev pub bom_rank : StateName → Spot → Rank
+bom_rank (n.Bom its.Start) x = ranked 1 refl
+bom_rank _ x = ranked 0 refl
 
 abbrev pub bom_scheme : Scheme
-bom_scheme = record { ready = bom_ready; level = λ n. 1; rank = bom_rank; tries = λ n. 0 }
+bom_scheme = record { ready = bom_ready; level = λ n. 1; rank = bom_rank; tries = λ n. ranked 0 refl }

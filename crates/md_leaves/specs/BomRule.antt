@@ -1,7 +1,9 @@
 -- The rule of the byte order mark, as what is left of it at each state.
 use Rattle.std.specs.Prelude.{◌≡◌, ℕ, Bool, true, false, ◌&&◌, ◌==◌, if◌then◌else◌, List, [], ◌∷◌, ◌++◌, length, take, drop}
 use Rattle.md_engine.specs.declared.event.Name.TheVariants.{ByteOrderMark}
-use Rattle.md_engine.specs.declared.state.Name.TheVariants.{BomStart, BomInside}
+use Rattle.md_engine.specs.declared.state.Name.TheVariants as n
+use Rattle.md_engine.specs.declared.state.bom.State.{State as BomState}
+use Rattle.md_engine.specs.declared.state.bom.State.TheVariants as its
 use Rattle.md_engine.specs.Meaning.{Accepts, Behaviour, Cell, Here, Outcome, Refuses}
 use Rattle.md_leaves.specs.Bom.{mark}
 use Rattle.md_leaves.specs.Heading.{without_size}
@@ -31,6 +33,10 @@ bom_at cells h =
     then Accepts (record h { events = h.events ++ pair ByteOrderMark h.point p; point = p }) (drop 3 cells)
     else Refuses h.scratch h.flags
 
+-- what is left at each state
+abbrev pub bom_behaves : BomState → List Cell → Here → Outcome
+bom_behaves its.Start cells h = bom_at cells h
+bom_behaves its.Inside cells h = inside_mark cells h
+
 pub record HasBom (B : Behaviour) : Type 0 where
-  pub start : (cells : List Cell) (h : Here) → B BomStart cells h ≡ bom_at cells h
-  pub inside : (cells : List Cell) (h : Here) → B BomInside cells h ≡ inside_mark cells h
+  pub each : (state : BomState) (cells : List Cell) (h : Here) → B (n.Bom state) cells h ≡ bom_behaves state cells h

@@ -1,11 +1,13 @@
 -- The thematic break.
-use Rattle.std.specs.Prelude.{◌≡◌, ℕ, ◌+◌, ◌≤◌, Bool, true, false, ◌&&◌, ◌||◌, ◌==◌, if◌then◌else◌, nat_le, Option, Some, None}
+use Rattle.std.specs.Prelude.{◌≡◌, refl, ℕ, ◌+◌, ◌≤◌, Bool, true, false, ◌&&◌, ◌||◌, ◌==◌, if◌then◌else◌, nat_le, Option, Some, None}
 use Rattle.md_engine.specs.declared.event.Name.TheVariants.{ThematicBreak, ThematicBreakSequence}
 use Rattle.md_engine.specs.declared.state.Name.{Name as StateName}
-use Rattle.md_engine.specs.declared.state.Name.TheVariants.{ThematicBreakStart, ThematicBreakBefore, ThematicBreakAtBreak, ThematicBreakSequence as Sequence}
+use Rattle.md_engine.specs.declared.state.Name.TheVariants as n
+use Rattle.md_engine.specs.declared.state.thematic_break.State.{State as BreakState}
+use Rattle.md_engine.specs.declared.state.thematic_break.State.TheVariants as its
 use Rattle.md_engine.specs.declared.state.State.TheVariants.{Ok, Nok, Next, Retry}
 use Rattle.md_engine.specs.declared.tokenizer.Scratch.{Scratch}
-use Rattle.md_engine.specs.Scheme.{After, Ends, Scheme, Spot, cells_before, seen}
+use Rattle.md_engine.specs.Scheme.{After, Ends, Rank, Scheme, Spot, cells_before, ranked, seen}
 use Rattle.md_engine.specs.World.{World}
 use Rattle.md_seam.specs.Spaces.{any_size, ends_line, IsRest, is_current, rest_ready, sees_white, small_indent, white_then}
 use Rattle.md_seam.specs.Transition.{Transition, entered, exited, taken}
@@ -20,25 +22,31 @@ without_marker s = record s { marker = 0; size = 0 }
 -- by whether breaks are on, and whether whitespace stands here
 abbrev pub start_code : World → Bool → Bool → Transition
 start_code w false white = record { to = Nok; world = w }
-start_code w true true = white_then (entered w ThematicBreak) 0 (small_indent w.setting.options) (Next ThematicBreakBefore) Nok
-start_code w true false = record { to = Retry ThematicBreakBefore; world = entered w ThematicBreak }
+start_code w true true =
+    white_then (entered w ThematicBreak) 0 (small_indent w.setting.options) (Next (n.ThematicBreak its.Before)) Nok
+start_code w true false = record { to = Retry (n.ThematicBreak its.Before); world = entered w ThematicBreak }
 
 -- by what stands here
 abbrev pub before_code : World → Option ℕ → Transition
 before_code w None = record { to = Nok; world = w }
-before_code w (Some b) = if is_marker b then record { to = Retry ThematicBreakAtBreak; world = record w { scratch = record w.scratch { marker = b } } } else record { to = Nok; world = w }
+before_code w (Some b) =
+    if is_marker b then record { to = Retry (n.ThematicBreak its.AtBreak); world = record w { scratch = record w.scratch { marker = b } } } else record { to = Nok; world = w }
 
 -- by whether the marker stands here, and whether the line ends here with enough of it
 abbrev pub at_break_code : World → Bool → Bool → Transition
-at_break_code w true done = record { to = Retry Sequence; world = entered w ThematicBreakSequence }
+at_break_code w true done =
+    record { to = Retry (n.ThematicBreak its.Sequence); world = entered w ThematicBreakSequence }
 at_break_code w false true = record { to = Ok; world = record (exited w ThematicBreak) { scratch = without_marker w.scratch; flags = record w.flags { interrupt = false } } }
 at_break_code w false false = record { to = Nok; world = record w { scratch = without_marker w.scratch } }
 
 -- by whether the marker stands here, and whether whitespace does
 abbrev pub sequence_code : World → Bool → Bool → Transition
-sequence_code w true white = record { to = Next Sequence; world = record (taken w) { scratch = record w.scratch { size = w.scratch.size + 1 } } }
-sequence_code w false true = white_then (exited w ThematicBreakSequence) 0 any_size (Next ThematicBreakAtBreak) Nok
-sequence_code w false false = record { to = Retry ThematicBreakAtBreak; world = exited w ThematicBreakSequence }
+sequence_code w true white =
+    record { to = Next (n.ThematicBreak its.Sequence); world = record (taken w) { scratch = record w.scratch { size = w.scratch.size + 1 } } }
+sequence_code w false true =
+    white_then (exited w ThematicBreakSequence) 0 any_size (Next (n.ThematicBreak its.AtBreak)) Nok
+sequence_code w false false =
+    record { to = Retry (n.ThematicBreak its.AtBreak); world = exited w ThematicBreakSequence }
 
 -- each state with what it does, where there is memory
 abbrev pub start_transition : World → Transition
@@ -53,6 +61,13 @@ at_break_transition w = at_break_code w (is_current w.scratch.marker w.current) 
 abbrev pub sequence_transition : World → Transition
 sequence_transition w = sequence_code w (is_current w.scratch.marker w.current) (sees_white w.current)
 
+-- all of them
+abbrev pub break_transition : BreakState → World → Transition
+break_transition its.Start w = start_transition w
+break_transition its.Before w = before_transition w
+break_transition its.AtBreak w = at_break_transition w
+break_transition its.Sequence w = sequence_transition w
+
 -- Behind the indent there is a marker, and those that were taken lie before the point.
 pub record IsMarked (x : Spot) : Type 0 where
   pub marker : is_marker x.scratch.marker ≡ true
@@ -60,23 +75,24 @@ pub record IsMarked (x : Spot) : Type 0 where
   pub rest : IsRest (without_marker x.scratch)
 
 abbrev pub BreakNeeds : StateName → World → Type 0
-BreakNeeds Sequence w = w.scratch.size ≤ cells_before w.point
+BreakNeeds (n.ThematicBreak its.Sequence) w = w.scratch.size ≤ cells_before w.point
 BreakNeeds _ w = Unit {0}
 
 abbrev pub break_ready : StateName → Spot → After → Type 0
-break_ready ThematicBreakAtBreak x K = IsMarked x × Ends IsRest IsRest x K
-break_ready Sequence x K = IsMarked x × Ends IsRest IsRest x K
+break_ready (n.ThematicBreak its.AtBreak) x K = IsMarked x × Ends IsRest IsRest x K
+break_ready (n.ThematicBreak its.Sequence) x K = IsMarked x × Ends IsRest IsRest x K
 break_ready _ x K = rest_ready x K
 
-abbrev pub break_rank : StateName → Spot → ℕ
-break_rank ThematicBreakStart x = 5
-break_rank ThematicBreakBefore x = 3
-break_rank ThematicBreakAtBreak x = if is_current x.scratch.marker (seen x) then 2 else 0
-break_rank _ x = if is_current x.scratch.marker (seen x) then 1 else 2
+abbrev pub break_rank : StateName → Spot → Rank
+break_rank (n.ThematicBreak its.Start) x = ranked 5 refl
+break_rank (n.ThematicBreak its.Before) x = ranked 3 refl
+break_rank (n.ThematicBreak its.AtBreak) x =
+    if is_current x.scratch.marker (seen x) then ranked 2 refl else ranked 0 refl
+break_rank _ x = if is_current x.scratch.marker (seen x) then ranked 1 refl else ranked 2 refl
 
-abbrev pub break_tries : StateName → ℕ
-break_tries ThematicBreakBefore = 4
-break_tries _ = 1
+abbrev pub break_tries : StateName → Rank
+break_tries (n.ThematicBreak its.Before) = ranked 4 refl
+break_tries _ = ranked 1 refl
 
 abbrev pub break_scheme : Scheme
 break_scheme = record { ready = break_ready; level = λ n. 1; rank = break_rank; tries = break_tries }

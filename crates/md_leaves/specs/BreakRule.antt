@@ -5,7 +5,9 @@ use Rattle.md_engine.specs.declared.configuration.ParseOptions.{ParseOptions}
 use Rattle.md_engine.specs.declared.event.Event.{Event}
 use Rattle.md_engine.specs.declared.event.Name.TheVariants.{SpaceOrTab, ThematicBreak, ThematicBreakSequence}
 use Rattle.md_engine.specs.declared.event.Point.{Point}
-use Rattle.md_engine.specs.declared.state.Name.TheVariants.{ThematicBreakStart, ThematicBreakBefore, ThematicBreakAtBreak, ThematicBreakSequence as Sequence}
+use Rattle.md_engine.specs.declared.state.Name.TheVariants as n
+use Rattle.md_engine.specs.declared.state.thematic_break.State.{State as BreakState}
+use Rattle.md_engine.specs.declared.state.thematic_break.State.TheVariants as its
 use Rattle.md_engine.specs.Meaning.{Accepts, Behaviour, Cell, Here, Outcome, Refuses}
 use Rattle.md_leaves.specs.Break.{without_marker}
 use Rattle.md_seam.specs.Ahead.{HasWhite, begins_white, from_ending, line_bytes, line_cells, line_end, white_end, white_rest}
@@ -74,9 +76,13 @@ break_at options cells h =
     then before_marker (white_rest room cells) (record h { events = entered ++ enter SpaceOrTab h.point ∷ exit SpaceOrTab p ∷ []; point = p; scratch = calmed h.scratch })
     else before_marker cells (record h { events = entered })
 
+-- what is left at each state
+abbrev pub break_behaves : ParseOptions → BreakState → List Cell → Here → Outcome
+break_behaves options its.Start cells h = break_at options cells h
+break_behaves options its.Before cells h = before_marker cells h
+break_behaves options its.AtBreak cells h = at_break cells h
+break_behaves options its.Sequence cells h = in_break Marks cells h
+
 pub record HasBreak (B : Behaviour) (options : ParseOptions) : Type 0 where
   pub white : HasWhite B
-  pub start : (cells : List Cell) (h : Here) → B ThematicBreakStart cells h ≡ break_at options cells h
-  pub before : (cells : List Cell) (h : Here) → B ThematicBreakBefore cells h ≡ before_marker cells h
-  pub at_break : (cells : List Cell) (h : Here) → B ThematicBreakAtBreak cells h ≡ at_break cells h
-  pub sequence : (cells : List Cell) (h : Here) → B Sequence cells h ≡ in_break Marks cells h
+  pub each : (state : BreakState) (cells : List Cell) (h : Here) → B (n.ThematicBreak state) cells h ≡ break_behaves options state cells h

@@ -1,15 +1,17 @@
 -- The ATX heading.
-use Rattle.std.specs.Prelude.{ℕ, ◌+◌, ◌≤◌, Bool, true, false, ◌&&◌, ◌||◌, ◌==◌, not, if◌then◌else◌, nat_lt, Option, Some, None}
+use Rattle.std.specs.Prelude.{refl, ℕ, ◌+◌, ◌≤◌, Bool, true, false, ◌&&◌, ◌||◌, ◌==◌, not, if◌then◌else◌, nat_lt, Option, Some, None}
 use Rattle.md_engine.specs.declared.event.Content.TheVariants as content
 use Rattle.md_engine.specs.declared.event.Link.{Link}
 use Rattle.md_engine.specs.declared.event.Name.TheVariants.{Data, HeadingAtx, HeadingAtxSequence}
 use Rattle.md_engine.specs.declared.resolve.Name.{Name as ResolveName}
 use Rattle.md_engine.specs.declared.resolve.Name.TheVariants.{HeadingAtx as HeadingResolver}
 use Rattle.md_engine.specs.declared.state.Name.{Name as StateName}
-use Rattle.md_engine.specs.declared.state.Name.TheVariants.{HeadingAtxStart, HeadingAtxBefore, HeadingAtxSequenceOpen, HeadingAtxAtBreak, HeadingAtxSequenceFurther, HeadingAtxData}
+use Rattle.md_engine.specs.declared.state.Name.TheVariants as n
+use Rattle.md_engine.specs.declared.state.heading_atx.State.{State as HeadingState}
+use Rattle.md_engine.specs.declared.state.heading_atx.State.TheVariants as its
 use Rattle.md_engine.specs.declared.state.State.TheVariants.{Ok, Nok, Next, Retry}
 use Rattle.md_engine.specs.declared.tokenizer.Scratch.{Scratch}
-use Rattle.md_engine.specs.Scheme.{After, Ends, Scheme, Spot, seen}
+use Rattle.md_engine.specs.Scheme.{After, Ends, Rank, Scheme, Spot, ranked, seen}
 use Rattle.md_engine.specs.World.{World, registered}
 use Rattle.md_seam.specs.Standard.Rest.{is_white}
 use Rattle.md_seam.specs.Spaces.{any_size, ends_line, IsRest, is_current, rest_ready, sees_white, small_indent, white_then}
@@ -29,40 +31,44 @@ heading_link = record { previous = None; next = None; content = content.Text }
 -- by whether headings are on, and whether whitespace stands here
 abbrev pub start_code : World → Bool → Bool → Transition
 start_code w false white = record { to = Nok; world = w }
-start_code w true true = white_then (entered w HeadingAtx) 0 (small_indent w.setting.options) (Next HeadingAtxBefore) Nok
-start_code w true false = record { to = Retry HeadingAtxBefore; world = entered w HeadingAtx }
+start_code w true true =
+    white_then (entered w HeadingAtx) 0 (small_indent w.setting.options) (Next (n.HeadingAtx its.Before)) Nok
+start_code w true false = record { to = Retry (n.HeadingAtx its.Before); world = entered w HeadingAtx }
 
 -- by whether `#` stands here
 abbrev pub before_code : World → Bool → Transition
-before_code w true = record { to = Retry HeadingAtxSequenceOpen; world = entered w HeadingAtxSequence }
+before_code w true = record { to = Retry (n.HeadingAtx its.SequenceOpen); world = entered w HeadingAtxSequence }
 before_code w false = record { to = Nok; world = w }
 
 -- behind a run of the line, by whether whitespace stands here
 abbrev pub behind_part : World → Bool → Transition
-behind_part w true = white_then w 1 any_size (Next HeadingAtxAtBreak) Nok
-behind_part w false = record { to = Retry HeadingAtxAtBreak; world = w }
+behind_part w true = white_then w 1 any_size (Next (n.HeadingAtx its.AtBreak)) Nok
+behind_part w false = record { to = Retry (n.HeadingAtx its.AtBreak); world = w }
 
 -- by whether one more `#` is taken, and whether text or whitespace stands here
 abbrev pub sequence_open_code : World → Bool → Bool → Bool → Transition
-sequence_open_code w true text white = record { to = Next HeadingAtxSequenceOpen; world = record (taken w) { scratch = record w.scratch { size = w.scratch.size + 1 } } }
+sequence_open_code w true text white =
+    record { to = Next (n.HeadingAtx its.SequenceOpen); world = record (taken w) { scratch = record w.scratch { size = w.scratch.size + 1 } } }
 sequence_open_code w false true white = record { to = Nok; world = record w { scratch = without_size w.scratch } }
 sequence_open_code w false false white = behind_part (record (exited w HeadingAtxSequence) { scratch = without_size w.scratch }) white
 
 -- by whether text, `#` or the line's end stands here; `is_name` finds the resolver of headings
 abbrev pub at_break_code : (ResolveName → Bool) → World → Bool → Bool → Bool → Transition
-at_break_code is_name w true true ending = record { to = Retry HeadingAtxSequenceFurther; world = entered w HeadingAtxSequence }
-at_break_code is_name w true false ending = record { to = Retry HeadingAtxData; world = entered_link w Data heading_link }
+at_break_code is_name w true true ending =
+    record { to = Retry (n.HeadingAtx its.SequenceFurther); world = entered w HeadingAtxSequence }
+at_break_code is_name w true false ending =
+    record { to = Retry (n.HeadingAtx its.Data); world = entered_link w Data heading_link }
 at_break_code is_name w false hash true = record { to = Ok; world = record (exited w HeadingAtx) { resolvers = registered is_name w.resolvers HeadingResolver; flags = record w.flags { interrupt = false } } }
 at_break_code is_name w false hash false = record { to = Nok; world = w }
 
 -- by whether `#` or whitespace stands here
 abbrev pub sequence_further_code : World → Bool → Bool → Transition
-sequence_further_code w true white = record { to = Next HeadingAtxSequenceFurther; world = taken w }
+sequence_further_code w true white = record { to = Next (n.HeadingAtx its.SequenceFurther); world = taken w }
 sequence_further_code w false white = behind_part (exited w HeadingAtxSequence) white
 
 -- by whether text or whitespace stands here
 abbrev pub data_code : World → Bool → Bool → Transition
-data_code w true white = record { to = Next HeadingAtxData; world = taken w }
+data_code w true white = record { to = Next (n.HeadingAtx its.Data); world = taken w }
 data_code w false white = behind_part (exited w Data) white
 
 -- each state with what it does, where there is memory
@@ -84,26 +90,35 @@ sequence_further_transition w = sequence_further_code w (is_current 35 w.current
 abbrev pub data_transition : World → Transition
 data_transition w = data_code w (sees_text w.current) (sees_white w.current)
 
+-- all of them
+abbrev pub heading_transition : (ResolveName → Bool) → HeadingState → World → Transition
+heading_transition is_name its.Start w = start_transition w
+heading_transition is_name its.Before w = before_transition w
+heading_transition is_name its.SequenceOpen w = sequence_open_transition w
+heading_transition is_name its.AtBreak w = at_break_transition is_name w
+heading_transition is_name its.SequenceFurther w = sequence_further_transition w
+heading_transition is_name its.Data w = data_transition w
+
 -- In the opening sequence at most six were taken.
 pub record IsOpeningPrefix (x : Spot) : Type 0 where
   pub size : x.scratch.size ≤ 6
   pub rest : IsRest (without_size x.scratch)
 
 abbrev pub heading_ready : StateName → Spot → After → Type 0
-heading_ready HeadingAtxSequenceOpen x K = IsOpeningPrefix x × Ends IsRest IsRest x K
+heading_ready (n.HeadingAtx its.SequenceOpen) x K = IsOpeningPrefix x × Ends IsRest IsRest x K
 heading_ready _ x K = rest_ready x K
 
-abbrev pub heading_rank : StateName → Spot → ℕ
-heading_rank HeadingAtxStart x = 5
-heading_rank HeadingAtxBefore x = 3
-heading_rank HeadingAtxSequenceOpen x = 2
-heading_rank HeadingAtxAtBreak x = if sees_text (seen x) then 2 else 0
-heading_rank HeadingAtxSequenceFurther x = if is_current 35 (seen x) then 1 else 3
-heading_rank _ x = if sees_text (seen x) then 1 else 2
+abbrev pub heading_rank : StateName → Spot → Rank
+heading_rank (n.HeadingAtx its.Start) x = ranked 5 refl
+heading_rank (n.HeadingAtx its.Before) x = ranked 3 refl
+heading_rank (n.HeadingAtx its.SequenceOpen) x = ranked 2 refl
+heading_rank (n.HeadingAtx its.AtBreak) x = if sees_text (seen x) then ranked 2 refl else ranked 0 refl
+heading_rank (n.HeadingAtx its.SequenceFurther) x = if is_current 35 (seen x) then ranked 1 refl else ranked 3 refl
+heading_rank _ x = if sees_text (seen x) then ranked 1 refl else ranked 2 refl
 
-abbrev pub heading_tries : StateName → ℕ
-heading_tries HeadingAtxBefore = 4
-heading_tries _ = 1
+abbrev pub heading_tries : StateName → Rank
+heading_tries (n.HeadingAtx its.Before) = ranked 4 refl
+heading_tries _ = ranked 1 refl
 
 abbrev pub heading_scheme : Scheme
 heading_scheme = record { ready = heading_ready; level = λ n. 1; rank = heading_rank; tries = heading_tries }

@@ -5,7 +5,9 @@ use Rattle.md_engine.specs.declared.event.Event.{Event}
 use Rattle.md_engine.specs.declared.event.Kind.TheVariants.{Enter}
 use Rattle.md_engine.specs.declared.event.Name.TheVariants.{Data, HeadingAtx, HeadingAtxSequence, SpaceOrTab}
 use Rattle.md_engine.specs.declared.event.Point.{Point}
-use Rattle.md_engine.specs.declared.state.Name.TheVariants.{HeadingAtxStart, HeadingAtxBefore, HeadingAtxSequenceOpen, HeadingAtxAtBreak, HeadingAtxSequenceFurther, HeadingAtxData}
+use Rattle.md_engine.specs.declared.state.Name.TheVariants as n
+use Rattle.md_engine.specs.declared.state.heading_atx.State.{State as HeadingState}
+use Rattle.md_engine.specs.declared.state.heading_atx.State.TheVariants as its
 use Rattle.md_engine.specs.Meaning.{Accepts, Behaviour, Cell, Here, Outcome, Refuses}
 use Rattle.md_leaves.specs.Heading.{heading_link, without_size}
 use Rattle.md_seam.specs.Ahead.{HasWhite, begins_white, from_ending, line_bytes, line_cells, line_end, white_end, white_rest}
@@ -90,14 +92,18 @@ heading_at options cells h =
     then before_opening (white_rest room cells) (record h { events = entered ++ enter SpaceOrTab h.point ∷ exit SpaceOrTab p ∷ []; point = p; scratch = calmed h.scratch })
     else before_opening cells (record h { events = entered })
 
+-- what is left at each state
+abbrev pub heading_behaves : ParseOptions → HeadingState → List Cell → Here → Outcome
+heading_behaves options its.Start cells h = heading_at options cells h
+heading_behaves options its.Before cells h = before_opening cells h
+heading_behaves options its.SequenceOpen cells h = in_opening cells h
+heading_behaves options its.AtBreak cells h = at_break cells h
+heading_behaves options its.SequenceFurther cells h = in_heading Hashes cells h
+heading_behaves options its.Data cells h = in_heading Text cells h
+
 pub record HasHeading (B : Behaviour) (options : ParseOptions) : Type 0 where
   pub white : HasWhite B
-  pub start : (cells : List Cell) (h : Here) → B HeadingAtxStart cells h ≡ heading_at options cells h
-  pub before : (cells : List Cell) (h : Here) → B HeadingAtxBefore cells h ≡ before_opening cells h
-  pub sequence_open : (cells : List Cell) (h : Here) → B HeadingAtxSequenceOpen cells h ≡ in_opening cells h
-  pub at_break : (cells : List Cell) (h : Here) → B HeadingAtxAtBreak cells h ≡ at_break cells h
-  pub sequence_further : (cells : List Cell) (h : Here) → B HeadingAtxSequenceFurther cells h ≡ in_heading Hashes cells h
-  pub text : (cells : List Cell) (h : Here) → B HeadingAtxData cells h ≡ in_heading Text cells h
+  pub each : (state : HeadingState) (cells : List Cell) (h : Here) → B (n.HeadingAtx state) cells h ≡ heading_behaves options state cells h
 
 -- A line as a whole.
 

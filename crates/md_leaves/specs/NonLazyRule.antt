@@ -1,7 +1,9 @@
 -- The rule that a further line is not lazy, as what is left of it at each state (CommonMark 5.1).
 use Rattle.std.specs.Prelude.{◌≡◌, Bool, ◌&&◌, ◌==◌, not, if◌then◌else◌, List, [], ◌∷◌, ◌++◌}
 use Rattle.md_engine.specs.declared.event.Name.TheVariants.{LineEnding}
-use Rattle.md_engine.specs.declared.state.Name.TheVariants.{NonLazyContinuationStart, NonLazyContinuationAfter}
+use Rattle.md_engine.specs.declared.state.Name.TheVariants as n
+use Rattle.md_engine.specs.declared.state.non_lazy_continuation.State.{State as NonLazyState}
+use Rattle.md_engine.specs.declared.state.non_lazy_continuation.State.TheVariants as its
 use Rattle.md_engine.specs.declared.tokenizer.Line.{Line}
 use Rattle.md_engine.specs.Meaning.{Accepts, Behaviour, Cell, Here, Outcome, Refuses, line_of}
 use Rattle.md_seam.specs.Events.Nested.{pair}
@@ -22,6 +24,10 @@ continuation_at none (c ∷ cs) h =
     then Accepts (record h { events = h.events ++ pair LineEnding h.point c.after; point = c.after }) cs
     else Refuses h.scratch h.flags
 
+-- what is left at each state
+abbrev pub non_lazy_behaves : Line → NonLazyState → List Cell → Here → Outcome
+non_lazy_behaves none its.Start cells h = continuation_at none cells h
+non_lazy_behaves none its.After cells h = after_ending none cells h
+
 pub record HasNonLazy (B : Behaviour) (none : Line) : Type 0 where
-  pub start : (cells : List Cell) (h : Here) → B NonLazyContinuationStart cells h ≡ continuation_at none cells h
-  pub behind : (cells : List Cell) (h : Here) → B NonLazyContinuationAfter cells h ≡ after_ending none cells h
+  pub each : (state : NonLazyState) (cells : List Cell) (h : Here) → B (n.NonLazyContinuation state) cells h ≡ non_lazy_behaves none state cells h

@@ -8,9 +8,11 @@ ghost use Rattle.std.specs.Prelude.{◌≡◌, ◌≢◌};
 ghost use Rattle.md_engine.specs.World.{world};
 ghost use Rattle.md_engine.specs.declared.state.Name.{Name as StateName};
 ghost use Rattle.md_engine.specs.declared.state.State.{State};
-ghost use Rattle.md_leaves.specs.Blank.{after_transition, start_transition};
+ghost use Rattle.md_engine.specs.declared.state.blank_line.State.{State as BlankState};
+ghost use Rattle.md_leaves.specs.Blank.{after_transition, blank_transition, start_transition};
 ghost use Rattle.md_seam.specs.Transition.{IsAt, NeedsNothing};
 
+use md_engine::state::blank_line::State as BlankState;
 use md_engine::state::{Name as StateName, State};
 use md_engine::tokenizer::Tokenizer;
 use md_seam::space_or_tab::{is_space_or_tab, space_or_tab};
@@ -22,18 +24,18 @@ use md_seam::space_or_tab::{is_space_or_tab, space_or_tab};
 ///     ^
 /// ```
 pub fn start(tokenizer: &mut Tokenizer) -> State
-    requires { IsAt NeedsNothing StateName.BlankLineStart (world tokenizer.old) }
+    requires { IsAt NeedsNothing (StateName.BlankLine BlankState.Start) (world tokenizer.old) }
     ensures to { result ≢ State.Error → result ≡ (start_transition (world tokenizer.old)).to }
     ensures world { result ≢ State.Error → world tokenizer.new ≡ (start_transition (world tokenizer.old)).world }
 {
     if is_space_or_tab(tokenizer.current) {
         space_or_tab(
             tokenizer,
-            State::Next(StateName::BlankLineAfter),
+            State::Next(StateName::BlankLine(BlankState::After)),
             State::Nok,
         )
     } else {
-        State::Retry(StateName::BlankLineAfter)
+        State::Retry(StateName::BlankLine(BlankState::After))
     }
 }
 
@@ -44,12 +46,24 @@ pub fn start(tokenizer: &mut Tokenizer) -> State
 ///     ^
 /// ```
 pub fn after(tokenizer: &mut Tokenizer) -> State
-    requires { IsAt NeedsNothing StateName.BlankLineAfter (world tokenizer.old) }
+    requires { IsAt NeedsNothing (StateName.BlankLine BlankState.After) (world tokenizer.old) }
     ensures to { result ≡ (after_transition (world tokenizer.old)).to }
     ensures world { world tokenizer.new ≡ (after_transition (world tokenizer.old)).world }
 {
     match tokenizer.current {
         None | Some(b'\n') => State::Ok,
         _ => State::Nok,
+    }
+}
+
+/// Calls a state of a blank line.
+pub fn call(tokenizer: &mut Tokenizer, state: BlankState) -> State
+    requires { IsAt NeedsNothing (StateName.BlankLine state) (world tokenizer.old) }
+    ensures to { result ≢ State.Error → result ≡ (blank_transition state (world tokenizer.old)).to }
+    ensures world { result ≢ State.Error → world tokenizer.new ≡ (blank_transition state (world tokenizer.old)).world }
+{
+    match state {
+        BlankState::Start => start(tokenizer),
+        BlankState::After => after(tokenizer),
     }
 }

@@ -12,7 +12,8 @@ ghost use Rattle.md_engine.specs.Found.{found_in};
 ghost use Rattle.md_engine.specs.World.{world};
 ghost use Rattle.md_engine.specs.declared.state.Name.{Name as StateName};
 ghost use Rattle.md_engine.specs.declared.state.State.{State};
-ghost use Rattle.md_leaves.specs.Heading.{at_break_transition, before_transition, behind_part, data_transition, sequence_further_transition, sequence_open_transition, start_transition};
+ghost use Rattle.md_engine.specs.declared.state.heading_atx.State.{State as HeadingState};
+ghost use Rattle.md_leaves.specs.Heading.{at_break_transition, before_transition, behind_part, data_transition, heading_transition, sequence_further_transition, sequence_open_transition, start_transition};
 ghost use Rattle.md_leaves.specs.HeadingText.{headings_resolved};
 ghost use Rattle.md_seam.specs.Spaces.{sees_white};
 ghost use Rattle.md_seam.specs.Transition.{IsAt, NeedsNothing};
@@ -22,6 +23,7 @@ use md_engine::event::{Content, Link, Name};
 use md_engine::message::Message;
 use md_engine::or_error;
 use md_engine::resolve::Name as ResolveName;
+use md_engine::state::heading_atx::State as HeadingState;
 use md_engine::state::{Name as StateName, State};
 use md_engine::subtokenize::Subresult;
 use md_engine::tokenizer::Tokenizer;
@@ -44,7 +46,7 @@ pub(crate) const TEXT_LINK: Link = Link {
 ///     ^
 /// ```
 pub fn start(tokenizer: &mut Tokenizer) -> State
-    requires { IsAt NeedsNothing StateName.HeadingAtxStart (world tokenizer.old) }
+    requires { IsAt NeedsNothing (StateName.HeadingAtx HeadingState.Start) (world tokenizer.old) }
     ensures to { result ≢ State.Error → result ≡ (start_transition (world tokenizer.old)).to }
     ensures world { result ≢ State.Error → world tokenizer.new ≡ (start_transition (world tokenizer.old)).world }
 {
@@ -58,11 +60,11 @@ pub fn start(tokenizer: &mut Tokenizer) -> State
             tokenizer,
             0,
             max,
-            State::Next(StateName::HeadingAtxBefore),
+            State::Next(StateName::HeadingAtx(HeadingState::Before)),
             State::Nok,
         )
     } else {
-        State::Retry(StateName::HeadingAtxBefore)
+        State::Retry(StateName::HeadingAtx(HeadingState::Before))
     }
 }
 
@@ -73,13 +75,13 @@ pub fn start(tokenizer: &mut Tokenizer) -> State
 ///     ^
 /// ```
 pub fn before(tokenizer: &mut Tokenizer) -> State
-    requires { IsAt NeedsNothing StateName.HeadingAtxBefore (world tokenizer.old) }
+    requires { IsAt NeedsNothing (StateName.HeadingAtx HeadingState.Before) (world tokenizer.old) }
     ensures to { result ≢ State.Error → result ≡ (before_transition (world tokenizer.old)).to }
     ensures world { result ≢ State.Error → world tokenizer.new ≡ (before_transition (world tokenizer.old)).world }
 {
     if tokenizer.current == Some(b'#') {
         or_error!(tokenizer.enter(Name::HeadingAtxSequence));
-        State::Retry(StateName::HeadingAtxSequenceOpen)
+        State::Retry(StateName::HeadingAtx(HeadingState::SequenceOpen))
     } else {
         State::Nok
     }
@@ -93,11 +95,11 @@ fn go_on(tokenizer: &mut Tokenizer) -> State
     if is_space_or_tab(tokenizer.current) {
         space_or_tab(
             tokenizer,
-            State::Next(StateName::HeadingAtxAtBreak),
+            State::Next(StateName::HeadingAtx(HeadingState::AtBreak)),
             State::Nok,
         )
     } else {
-        State::Retry(StateName::HeadingAtxAtBreak)
+        State::Retry(StateName::HeadingAtx(HeadingState::AtBreak))
     }
 }
 
@@ -108,14 +110,14 @@ fn go_on(tokenizer: &mut Tokenizer) -> State
 ///     ^^
 /// ```
 pub fn sequence_open(tokenizer: &mut Tokenizer) -> State
-    requires { IsAt NeedsNothing StateName.HeadingAtxSequenceOpen (world tokenizer.old) }
+    requires { IsAt NeedsNothing (StateName.HeadingAtx HeadingState.SequenceOpen) (world tokenizer.old) }
     ensures to { result ≢ State.Error → result ≡ (sequence_open_transition (world tokenizer.old)).to }
     ensures world { result ≢ State.Error → world tokenizer.new ≡ (sequence_open_transition (world tokenizer.old)).world }
 {
     if tokenizer.current == Some(b'#') && tokenizer.scratch.size < OPENING {
         tokenizer.consume();
         tokenizer.scratch.size += 1;
-        return State::Next(StateName::HeadingAtxSequenceOpen);
+        return State::Next(StateName::HeadingAtx(HeadingState::SequenceOpen));
     }
     tokenizer.scratch.size = 0;
     match tokenizer.current {
@@ -134,7 +136,7 @@ pub fn sequence_open(tokenizer: &mut Tokenizer) -> State
 ///        ^  ^ ^
 /// ```
 pub fn at_break(tokenizer: &mut Tokenizer) -> State
-    requires { IsAt NeedsNothing StateName.HeadingAtxAtBreak (world tokenizer.old) }
+    requires { IsAt NeedsNothing (StateName.HeadingAtx HeadingState.AtBreak) (world tokenizer.old) }
     ensures to { result ≢ State.Error → result ≡ (at_break_transition (λ name. ⟦<ResolveName as PartialEq>⟧.eq name ResolveName.HeadingAtx) (world tokenizer.old)).to }
     ensures world { result ≢ State.Error → world tokenizer.new ≡ (at_break_transition (λ name. ⟦<ResolveName as PartialEq>⟧.eq name ResolveName.HeadingAtx) (world tokenizer.old)).world }
 {
@@ -149,11 +151,11 @@ pub fn at_break(tokenizer: &mut Tokenizer) -> State
         Some(b'\t' | b' ') => State::Nok,
         Some(b'#') => {
             or_error!(tokenizer.enter(Name::HeadingAtxSequence));
-            State::Retry(StateName::HeadingAtxSequenceFurther)
+            State::Retry(StateName::HeadingAtx(HeadingState::SequenceFurther))
         }
         Some(_) => {
             or_error!(tokenizer.enter_link(Name::Data, TEXT_LINK));
-            State::Retry(StateName::HeadingAtxData)
+            State::Retry(StateName::HeadingAtx(HeadingState::Data))
         }
     }
 }
@@ -165,13 +167,13 @@ pub fn at_break(tokenizer: &mut Tokenizer) -> State
 ///           ^^
 /// ```
 pub fn sequence_further(tokenizer: &mut Tokenizer) -> State
-    requires { IsAt NeedsNothing StateName.HeadingAtxSequenceFurther (world tokenizer.old) }
+    requires { IsAt NeedsNothing (StateName.HeadingAtx HeadingState.SequenceFurther) (world tokenizer.old) }
     ensures to { result ≢ State.Error → result ≡ (sequence_further_transition (world tokenizer.old)).to }
     ensures world { result ≢ State.Error → world tokenizer.new ≡ (sequence_further_transition (world tokenizer.old)).world }
 {
     if tokenizer.current == Some(b'#') {
         tokenizer.consume();
-        State::Next(StateName::HeadingAtxSequenceFurther)
+        State::Next(StateName::HeadingAtx(HeadingState::SequenceFurther))
     } else {
         or_error!(tokenizer.exit(Name::HeadingAtxSequence));
         go_on(tokenizer)
@@ -185,7 +187,7 @@ pub fn sequence_further(tokenizer: &mut Tokenizer) -> State
 ///        ^^
 /// ```
 pub fn data(tokenizer: &mut Tokenizer) -> State
-    requires { IsAt NeedsNothing StateName.HeadingAtxData (world tokenizer.old) }
+    requires { IsAt NeedsNothing (StateName.HeadingAtx HeadingState.Data) (world tokenizer.old) }
     ensures to { result ≢ State.Error → result ≡ (data_transition (world tokenizer.old)).to }
     ensures world { result ≢ State.Error → world tokenizer.new ≡ (data_transition (world tokenizer.old)).world }
 {
@@ -196,8 +198,24 @@ pub fn data(tokenizer: &mut Tokenizer) -> State
         }
         _ => {
             tokenizer.consume();
-            State::Next(StateName::HeadingAtxData)
+            State::Next(StateName::HeadingAtx(HeadingState::Data))
         }
+    }
+}
+
+/// Calls a state of a heading.
+pub fn call(tokenizer: &mut Tokenizer, state: HeadingState) -> State
+    requires { IsAt NeedsNothing (StateName.HeadingAtx state) (world tokenizer.old) }
+    ensures to { result ≢ State.Error → result ≡ (heading_transition (λ name. ⟦<ResolveName as PartialEq>⟧.eq name ResolveName.HeadingAtx) state (world tokenizer.old)).to }
+    ensures world { result ≢ State.Error → world tokenizer.new ≡ (heading_transition (λ name. ⟦<ResolveName as PartialEq>⟧.eq name ResolveName.HeadingAtx) state (world tokenizer.old)).world }
+{
+    match state {
+        HeadingState::Start => start(tokenizer),
+        HeadingState::Before => before(tokenizer),
+        HeadingState::SequenceOpen => sequence_open(tokenizer),
+        HeadingState::AtBreak => at_break(tokenizer),
+        HeadingState::SequenceFurther => sequence_further(tokenizer),
+        HeadingState::Data => data(tokenizer),
     }
 }
 

@@ -8,11 +8,13 @@ ghost use Rattle.std.specs.Prelude.{◌≡◌, ◌≢◌};
 ghost use Rattle.md_engine.specs.World.{world};
 ghost use Rattle.md_engine.specs.declared.state.Name.{Name as StateName};
 ghost use Rattle.md_engine.specs.declared.state.State.{State};
-ghost use Rattle.md_leaves.specs.Bom.{BomNeeds, inside_transition, start_transition};
+ghost use Rattle.md_engine.specs.declared.state.bom.State.{State as BomState};
+ghost use Rattle.md_leaves.specs.Bom.{BomNeeds, bom_transition, inside_transition, start_transition};
 ghost use Rattle.md_seam.specs.Transition.{IsAt};
 
 use md_engine::event::Name;
 use md_engine::or_error;
+use md_engine::state::bom::State as BomState;
 use md_engine::state::{Name as StateName, State};
 use md_engine::tokenizer::Tokenizer;
 
@@ -26,13 +28,13 @@ const MARK: [u8; 3] = [0xEF, 0xBB, 0xBF];
 ///     ^^^^
 /// ```
 pub fn start(tokenizer: &mut Tokenizer) -> State
-    requires { IsAt BomNeeds StateName.BomStart (world tokenizer.old) }
+    requires { IsAt BomNeeds (StateName.Bom BomState.Start) (world tokenizer.old) }
     ensures to { result ≢ State.Error → result ≡ (start_transition (world tokenizer.old)).to }
     ensures world { result ≢ State.Error → world tokenizer.new ≡ (start_transition (world tokenizer.old)).world }
 {
     if tokenizer.current == Some(MARK[0]) {
         or_error!(tokenizer.enter(Name::ByteOrderMark));
-        State::Retry(StateName::BomInside)
+        State::Retry(StateName::Bom(BomState::Inside))
     } else {
         State::Nok
     }
@@ -45,7 +47,7 @@ pub fn start(tokenizer: &mut Tokenizer) -> State
 ///     ^^^^ ^^^^ ^^^^
 /// ```
 pub fn inside(tokenizer: &mut Tokenizer) -> State
-    requires { IsAt BomNeeds StateName.BomInside (world tokenizer.old) }
+    requires { IsAt BomNeeds (StateName.Bom BomState.Inside) (world tokenizer.old) }
     ensures to { result ≢ State.Error → result ≡ (inside_transition (world tokenizer.old)).to }
     ensures world { result ≢ State.Error → world tokenizer.new ≡ (inside_transition (world tokenizer.old)).world }
 {
@@ -57,9 +59,21 @@ pub fn inside(tokenizer: &mut Tokenizer) -> State
     tokenizer.consume();
     if size + 1 < MARK.len() {
         tokenizer.scratch.size = size + 1;
-        return State::Next(StateName::BomInside);
+        return State::Next(StateName::Bom(BomState::Inside));
     }
     tokenizer.scratch.size = 0;
     or_error!(tokenizer.exit(Name::ByteOrderMark));
     State::Ok
+}
+
+/// Calls a state of a mark.
+pub fn call(tokenizer: &mut Tokenizer, state: BomState) -> State
+    requires { IsAt BomNeeds (StateName.Bom state) (world tokenizer.old) }
+    ensures to { result ≢ State.Error → result ≡ (bom_transition state (world tokenizer.old)).to }
+    ensures world { result ≢ State.Error → world tokenizer.new ≡ (bom_transition state (world tokenizer.old)).world }
+{
+    match state {
+        BomState::Start => start(tokenizer),
+        BomState::Inside => inside(tokenizer),
+    }
 }

@@ -8,11 +8,13 @@ ghost use Rattle.std.specs.Prelude.{◌≡◌, ◌≢◌};
 ghost use Rattle.md_engine.specs.World.{world};
 ghost use Rattle.md_engine.specs.declared.state.Name.{Name as StateName};
 ghost use Rattle.md_engine.specs.declared.state.State.{State};
-ghost use Rattle.md_leaves.specs.NonLazy.{after_transition, start_transition};
+ghost use Rattle.md_engine.specs.declared.state.non_lazy_continuation.State.{State as NonLazyState};
+ghost use Rattle.md_leaves.specs.NonLazy.{after_transition, non_lazy_transition, start_transition};
 ghost use Rattle.md_seam.specs.Transition.{IsAt, NeedsNothing};
 
 use md_engine::event::Name;
 use md_engine::or_error;
+use md_engine::state::non_lazy_continuation::State as NonLazyState;
 use md_engine::state::{Name as StateName, State};
 use md_engine::tokenizer::Tokenizer;
 
@@ -24,7 +26,7 @@ use md_engine::tokenizer::Tokenizer;
 ///   | > d
 /// ```
 pub fn start(tokenizer: &mut Tokenizer) -> State
-    requires { IsAt NeedsNothing StateName.NonLazyContinuationStart (world tokenizer.old) }
+    requires { IsAt NeedsNothing (StateName.NonLazyContinuation NonLazyState.Start) (world tokenizer.old) }
     ensures to { result ≢ State.Error → result ≡ (start_transition (world tokenizer.old)).to }
     ensures world { result ≢ State.Error → world tokenizer.new ≡ (start_transition (world tokenizer.old)).world }
 {
@@ -32,7 +34,7 @@ pub fn start(tokenizer: &mut Tokenizer) -> State
         or_error!(tokenizer.enter(Name::LineEnding));
         tokenizer.consume();
         or_error!(tokenizer.exit(Name::LineEnding));
-        State::Next(StateName::NonLazyContinuationAfter)
+        State::Next(StateName::NonLazyContinuation(NonLazyState::After))
     } else {
         State::Nok
     }
@@ -46,7 +48,7 @@ pub fn start(tokenizer: &mut Tokenizer) -> State
 ///       ^
 /// ```
 pub fn after(tokenizer: &mut Tokenizer) -> State
-    requires { IsAt NeedsNothing StateName.NonLazyContinuationAfter (world tokenizer.old) }
+    requires { IsAt NeedsNothing (StateName.NonLazyContinuation NonLazyState.After) (world tokenizer.old) }
     ensures to { result ≡ (after_transition (world tokenizer.old)).to }
     ensures world { world tokenizer.new ≡ (after_transition (world tokenizer.old)).world }
 {
@@ -54,5 +56,17 @@ pub fn after(tokenizer: &mut Tokenizer) -> State
         State::Nok
     } else {
         State::Ok
+    }
+}
+
+/// Calls a state of the check.
+pub fn call(tokenizer: &mut Tokenizer, state: NonLazyState) -> State
+    requires { IsAt NeedsNothing (StateName.NonLazyContinuation state) (world tokenizer.old) }
+    ensures to { result ≢ State.Error → result ≡ (non_lazy_transition state (world tokenizer.old)).to }
+    ensures world { result ≢ State.Error → world tokenizer.new ≡ (non_lazy_transition state (world tokenizer.old)).world }
+{
+    match state {
+        NonLazyState::Start => start(tokenizer),
+        NonLazyState::After => after(tokenizer),
     }
 }

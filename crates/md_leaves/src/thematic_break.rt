@@ -10,11 +10,13 @@ ghost use Rattle.std.specs.Prelude.{◌≡◌, ◌≢◌};
 ghost use Rattle.md_engine.specs.World.{world};
 ghost use Rattle.md_engine.specs.declared.state.Name.{Name as StateName};
 ghost use Rattle.md_engine.specs.declared.state.State.{State};
-ghost use Rattle.md_leaves.specs.Break.{BreakNeeds, at_break_transition, before_transition, sequence_transition, start_transition};
+ghost use Rattle.md_engine.specs.declared.state.thematic_break.State.{State as BreakState};
+ghost use Rattle.md_leaves.specs.Break.{BreakNeeds, at_break_transition, before_transition, break_transition, sequence_transition, start_transition};
 ghost use Rattle.md_seam.specs.Transition.{IsAt};
 
 use md_engine::event::Name;
 use md_engine::or_error;
+use md_engine::state::thematic_break::State as BreakState;
 use md_engine::state::{Name as StateName, State};
 use md_engine::tokenizer::Tokenizer;
 use md_seam::space_or_tab::{is_space_or_tab, small_indent, space_or_tab_min_max};
@@ -29,7 +31,7 @@ const MARKERS: usize = 3;
 ///     ^
 /// ```
 pub fn start(tokenizer: &mut Tokenizer) -> State
-    requires { IsAt BreakNeeds StateName.ThematicBreakStart (world tokenizer.old) }
+    requires { IsAt BreakNeeds (StateName.ThematicBreak BreakState.Start) (world tokenizer.old) }
     ensures to { result ≢ State.Error → result ≡ (start_transition (world tokenizer.old)).to }
     ensures world { result ≢ State.Error → world tokenizer.new ≡ (start_transition (world tokenizer.old)).world }
 {
@@ -43,11 +45,11 @@ pub fn start(tokenizer: &mut Tokenizer) -> State
             tokenizer,
             0,
             max,
-            State::Next(StateName::ThematicBreakBefore),
+            State::Next(StateName::ThematicBreak(BreakState::Before)),
             State::Nok,
         )
     } else {
-        State::Retry(StateName::ThematicBreakBefore)
+        State::Retry(StateName::ThematicBreak(BreakState::Before))
     }
 }
 
@@ -58,14 +60,14 @@ pub fn start(tokenizer: &mut Tokenizer) -> State
 ///     ^
 /// ```
 pub fn before(tokenizer: &mut Tokenizer) -> State
-    requires { IsAt BreakNeeds StateName.ThematicBreakBefore (world tokenizer.old) }
+    requires { IsAt BreakNeeds (StateName.ThematicBreak BreakState.Before) (world tokenizer.old) }
     ensures to { result ≡ (before_transition (world tokenizer.old)).to }
     ensures world { world tokenizer.new ≡ (before_transition (world tokenizer.old)).world }
 {
     match tokenizer.current {
         Some(byte) if byte == b'*' || byte == b'-' || byte == b'_' => {
             tokenizer.scratch.marker = byte;
-            State::Retry(StateName::ThematicBreakAtBreak)
+            State::Retry(StateName::ThematicBreak(BreakState::AtBreak))
         }
         _ => State::Nok,
     }
@@ -78,13 +80,13 @@ pub fn before(tokenizer: &mut Tokenizer) -> State
 ///     ^ ^ ^
 /// ```
 pub fn at_break(tokenizer: &mut Tokenizer) -> State
-    requires { IsAt BreakNeeds StateName.ThematicBreakAtBreak (world tokenizer.old) }
+    requires { IsAt BreakNeeds (StateName.ThematicBreak BreakState.AtBreak) (world tokenizer.old) }
     ensures to { result ≢ State.Error → result ≡ (at_break_transition (world tokenizer.old)).to }
     ensures world { result ≢ State.Error → world tokenizer.new ≡ (at_break_transition (world tokenizer.old)).world }
 {
     if tokenizer.current == Some(tokenizer.scratch.marker) {
         or_error!(tokenizer.enter(Name::ThematicBreakSequence));
-        return State::Retry(StateName::ThematicBreakSequence);
+        return State::Retry(StateName::ThematicBreak(BreakState::Sequence));
     }
     let is_break = match tokenizer.current {
         None | Some(b'\n') => tokenizer.scratch.size >= MARKERS,
@@ -108,14 +110,14 @@ pub fn at_break(tokenizer: &mut Tokenizer) -> State
 ///     ^^^
 /// ```
 pub fn sequence(tokenizer: &mut Tokenizer) -> State
-    requires { IsAt BreakNeeds StateName.ThematicBreakSequence (world tokenizer.old) }
+    requires { IsAt BreakNeeds (StateName.ThematicBreak BreakState.Sequence) (world tokenizer.old) }
     ensures to { result ≢ State.Error → result ≡ (sequence_transition (world tokenizer.old)).to }
     ensures world { result ≢ State.Error → world tokenizer.new ≡ (sequence_transition (world tokenizer.old)).world }
 {
     if tokenizer.current == Some(tokenizer.scratch.marker) {
         tokenizer.consume();
         tokenizer.scratch.size += 1;
-        return State::Next(StateName::ThematicBreakSequence);
+        return State::Next(StateName::ThematicBreak(BreakState::Sequence));
     }
     or_error!(tokenizer.exit(Name::ThematicBreakSequence));
     if is_space_or_tab(tokenizer.current) {
@@ -123,10 +125,24 @@ pub fn sequence(tokenizer: &mut Tokenizer) -> State
             tokenizer,
             0,
             usize::MAX,
-            State::Next(StateName::ThematicBreakAtBreak),
+            State::Next(StateName::ThematicBreak(BreakState::AtBreak)),
             State::Nok,
         )
     } else {
-        State::Retry(StateName::ThematicBreakAtBreak)
+        State::Retry(StateName::ThematicBreak(BreakState::AtBreak))
+    }
+}
+
+/// Calls a state of a break.
+pub fn call(tokenizer: &mut Tokenizer, state: BreakState) -> State
+    requires { IsAt BreakNeeds (StateName.ThematicBreak state) (world tokenizer.old) }
+    ensures to { result ≢ State.Error → result ≡ (break_transition state (world tokenizer.old)).to }
+    ensures world { result ≢ State.Error → world tokenizer.new ≡ (break_transition state (world tokenizer.old)).world }
+{
+    match state {
+        BreakState::Start => start(tokenizer),
+        BreakState::Before => before(tokenizer),
+        BreakState::AtBreak => at_break(tokenizer),
+        BreakState::Sequence => sequence(tokenizer),
     }
 }

@@ -1,23 +1,25 @@
 -- Whitespace stands and ends in any table that has it.
-use Rattle.std.proofs.Common.{◌≡◌, ℕ, ◌%◌, ◌<◌, ◌≤◌, Bool, true, false, nat_lt, Option, Some, None, List, length, refl, arith, ap, sym, ◌∙◌, subst}
+use Rattle.std.proofs.Common.{◌≡◌, ℕ, ◌<◌, ◌≤◌, Bool, true, false, ◌&&◌, nat_lt, Option, Some, None, List, length, refl, arith, ap, sym, ◌∙◌, subst}
 use Rattle.std.specs.Prelude.{nat_le}
 use Rattle.std.proofs.lemmas.Bool.Decides.{nat_tests}
 use Rattle.md_engine.specs.declared.event.Event.{Event}
 use Rattle.md_engine.specs.declared.event.Point.{Point}
 use Rattle.md_engine.specs.declared.state.Name.{Name as StateName}
 use Rattle.md_engine.specs.declared.state.Name.TheVariants as n
+use Rattle.md_engine.specs.declared.state.space_or_tab.State.{State as WhiteState}
+use Rattle.md_engine.specs.declared.state.space_or_tab.State.TheVariants as its
 use Rattle.md_engine.specs.declared.state.State.TheVariants.{Nok, Next, Ok}
 use Rattle.md_engine.specs.declared.state.State.{State}
 use Rattle.md_engine.specs.declared.event.Name.TheVariants.{SpaceOrTab}
 use Rattle.md_engine.specs.declared.tokenizer.Scratch.{Scratch}
 use Rattle.md_engine.specs.Scheme.{After, Ends, EndsLater, Fits, Good, Grown, Reaches, Scheme, Spot, after_all, seen, spot, spot_at, stands, state_number, work}
 use Rattle.md_engine.specs.Run.{plain}
-use Rattle.md_engine.specs.World.{Setting, World, after}
+use Rattle.md_engine.specs.World.{Setting, World, after, looks}
 use Rattle.md_engine.proofs.Falls.{later, later_at}
 use Rattle.md_engine.proofs.Local.{accepts, begins_try, consumes, refuses, turns}
 use Rattle.md_engine.proofs.Points.{cells-grow, grown-same, stays, takes}
 use Rattle.md_engine.proofs.Powers.{weighs}
-use Rattle.md_seam.specs.Spaces.{IsRest, after_code, asking, calmed, inside_code, start_code, white_ready, white_scheme, white_then}
+use Rattle.md_seam.specs.Spaces.{IsRest, after_code, asking, calmed, ends_line, inside_code, sees_white, start_code, white_ready, white_scheme, white_then, white_transition}
 use Rattle.md_seam.specs.Transition.{Transition, entered, exited}
 
 -- what a state does keeps what the table needs, and falls; no state changes the setting
@@ -53,6 +55,23 @@ seen-some x b e = go (nat_lt x.point.index x.setting.limit) refl
     go true k = grind (arith, nat_tests)
     go false k = let bad : (let o : Option ℕ = None in o) ≡ Some b = rw k at e in cc
 
+-- where whitespace stands here, something does
+white-here : (w : World) (b : Bool) → w.current ≡ looks w → sees_white w.current && b ≡ true →
+    w.point.index < w.setting.limit
+white-here w b c e = go w.current c e
+  where
+    go : (o : Option ℕ) → o ≡ looks w → sees_white o && b ≡ true → w.point.index < w.setting.limit
+    go None k e = cc
+    go (Some x) k e = seen-some (spot w) x (sym k)
+
+-- where the line does not end here, something stands here
+pub goes-on : (w : World) → w.current ≡ looks w → ends_line w.current ≡ false → w.point.index < w.setting.limit
+goes-on w c e = go w.current c e
+  where
+    go : (o : Option ℕ) → o ≡ looks w → ends_line o ≡ false → w.point.index < w.setting.limit
+    go None k e = cc
+    go (Some b) k e = seen-some (spot w) b (sym k)
+
 -- what a construct owes where it ends still holds when more may be read
 pub ends-grow : (P Q : Scratch → Type 0) (x : Spot) (K : After) (t : Setting) → Ends P Q x K → Grown x.setting t → Ends P Q (record x { setting = t }) K
 ends-grow P Q x K t e up = later_at P Q x K x.point t x.scratch up (stays t.limit x.point) e
@@ -64,6 +83,9 @@ rest-calm s e = ap calmed e
 pub rest-none : (s : Scratch) → IsRest s → s.whitespace.size ≡ 0
 rest-none s e = ap (λ (t : Scratch). t.whitespace.size) e
 
+pub rest-size : (s : Scratch) → IsRest s → s.size ≡ 0
+rest-size s e = ap (λ (t : Scratch). t.size) e
+
 -- a construct that ends behind the cell that is here
 pub accepts-behind : (T : Scheme) (n : StateName) (w : World) (P Q : Scratch → Type 0) (events : List Event) (s : Scratch) → w.point.index < w.setting.limit → Ends P Q (spot w) (after_all T w.frames) → P s →
     Good T n w Ok (record w { events = events; point = after w.setting w.point; scratch = s })
@@ -72,26 +94,30 @@ accepts-behind T n w P Q events s inside e is =
     (e.ok s (after w.setting w.point) w.setting is (grown-same w.setting) (takes w.setting w.point inside), omega (arith, less))
 
 pub record WhiteFits (T : Scheme) : Type 1 where
-  pub start : Fits T white_scheme n.SpaceOrTabStart
-  pub inside : Fits T white_scheme n.SpaceOrTabInside
-  pub behind : Fits T white_scheme n.SpaceOrTabAfter
+  pub each : (state : WhiteState) → Fits T white_scheme (n.SpaceOrTab state)
 
-pub good_start : (T : Scheme) (w : World) (x : Bool) → WhiteFits T → white_ready n.SpaceOrTabStart (spot w) (after_all T w.frames) → Does T n.SpaceOrTabStart w (start_code w x)
+good_start : (T : Scheme) (w : World) (x : Bool) → WhiteFits T →
+    white_ready (n.SpaceOrTab its.Start) (spot w) (after_all T w.frames) →
+    Does T (n.SpaceOrTab its.Start) w (start_code w x)
 good_start T w true has r =
-    (turns T white_scheme _ _ w (entered w SpaceOrTab).events w.scratch has.start has.inside r (omega arith) (omega arith), refl)
+    (turns T white_scheme _ _ w (entered w SpaceOrTab).events w.scratch (has.each its.Start) (has.each its.Inside) r (omega arith) (omega arith), refl)
 good_start T w false has r =
-    (turns T white_scheme _ _ w w.events w.scratch has.start has.behind r (omega arith) (omega arith), refl)
+    (turns T white_scheme _ _ w w.events w.scratch (has.each its.Start) (has.each its.After) r (omega arith) (omega arith), refl)
 
-pub good_inside : (T : Scheme) (w : World) (x : Bool) → WhiteFits T → white_ready n.SpaceOrTabInside (spot w) (after_all T w.frames) → (x ≡ true → w.point.index < w.setting.limit) → Does T n.SpaceOrTabInside w (inside_code w x)
+good_inside : (T : Scheme) (w : World) (x : Bool) → WhiteFits T →
+    white_ready (n.SpaceOrTab its.Inside) (spot w) (after_all T w.frames) →
+    (x ≡ true → w.point.index < w.setting.limit) → Does T (n.SpaceOrTab its.Inside) w (inside_code w x)
 good_inside T w true has r m = (
-  consumes T white_scheme _ _ w w.events _ has.inside has.inside (m refl)
+  consumes T white_scheme _ _ w w.events _ (has.each its.Inside) (has.each its.Inside) (m refl)
       (omega (arith, r.0, cells-grow w.setting w.point), later _ _ (spot w) _ _ _ (takes w.setting w.point (m refl)) r.1) (omega arith),
   refl,
 )
 good_inside T w false has r m =
-    (turns T white_scheme _ _ w (exited w SpaceOrTab).events w.scratch has.inside has.behind r (omega arith) (omega arith), refl)
+    (turns T white_scheme _ _ w (exited w SpaceOrTab).events w.scratch (has.each its.Inside) (has.each its.After) r (omega arith) (omega arith), refl)
 
-pub good_after : (T : Scheme) (w : World) (x : Bool) → WhiteFits T → white_ready n.SpaceOrTabAfter (spot w) (after_all T w.frames) → nat_le w.scratch.whitespace.min w.scratch.whitespace.size ≡ x → Does T n.SpaceOrTabAfter w (after_code w x)
+good_after : (T : Scheme) (w : World) (x : Bool) → WhiteFits T →
+    white_ready (n.SpaceOrTab its.After) (spot w) (after_all T w.frames) →
+    nat_le w.scratch.whitespace.min w.scratch.whitespace.size ≡ x → Does T (n.SpaceOrTab its.After) w (after_code w x)
 good_after T w true has r e =
     (accepts T _ w _ _ w.events (calmed w.scratch) r.1 refl, refl)
 good_after T w false has r e =
@@ -100,16 +126,25 @@ good_after T w false has r e =
     asked : 0 < w.scratch.whitespace.min
     asked = grind (arith, nat_tests)
 
+-- each state of whitespace
+pub white_does : (T : Scheme) (state : WhiteState) (w : World) → WhiteFits T → w.current ≡ looks w →
+    white_ready (n.SpaceOrTab state) (spot w) (after_all T w.frames) →
+    Does T (n.SpaceOrTab state) w (white_transition state w)
+white_does T its.Start w has c r = good_start T w _ has r
+white_does T its.Inside w has c r = good_inside T w _ has r (white-here w _ c)
+white_does T its.After w has c r = good_after T w _ has r refl
+
 -- an attempt at whitespace that goes on with a state of the construct, or refuses where the construct may
 white_else : (T own : Scheme) (name next : StateName) (w : World) (events : List Event) (s : Scratch) (min max : ℕ) → WhiteFits T → Fits T own name → Fits T own next →
     s.whitespace.size ≡ 0 → ((t : Setting) → 0 < min → Grown w.setting t → (after_all T w.frames).nok (spot_at t w.point (calmed s))) →
     ((q : Point) (t : Setting) → Grown w.setting t → Reaches t.limit w.point q → own.ready next (spot_at t q (calmed s)) (after_all T w.frames)) →
     own.level next ≤ own.level name → 0 < own.level name →
-    ((t : Setting) → Grown w.setting t → own.rank next (spot_at t w.point (calmed s)) % 64 < own.tries next % 64) → own.tries next % 64 < own.rank name (spot w) % 64 →
+    ((t : Setting) → Grown w.setting t → (own.rank next (spot_at t w.point (calmed s))).number < (own.tries next).number) →
+    (own.tries next).number < (own.rank name (spot w)).number →
     Does T name w (white_then (record w { events = events; scratch = s }) min max (Next next) Nok)
 white_else T own name next w events s min max white fn fx none refuse r le pos low lt = (
-  begins_try T own white_scheme name n.SpaceOrTabStart w (λ t. t ≡ calmed s) (λ t. (t ≡ calmed s) × (0 < min)) events (asking min max 0 s)
-      (record { ok = Next next; nok = Nok; is_check = false; events_len = length events; point = w.point }) fn white.start fx tt refl
+  begins_try T own white_scheme name (n.SpaceOrTab its.Start) w (λ t. t ≡ calmed s) (λ t. (t ≡ calmed s) × (0 < min)) events (asking min max 0 s)
+      (record { ok = Next next; nok = Nok; is_check = false; events_len = length events; point = w.point }) fn (white.each its.Start) fx tt refl
       (record {
         ok = λ t q v is up way. rw is (r q v up way);
         ok_level = omega arith;
@@ -127,7 +162,8 @@ pub white_try : (T own : Scheme) (name next : StateName) (w : World) (events : L
     s.whitespace.size ≡ 0 → (0 < min → Q (calmed s)) → Ends P Q (spot w) (after_all T w.frames) →
     ((q : Point) (t : Setting) → Grown w.setting t → Reaches t.limit w.point q → own.ready next (spot_at t q (calmed s)) (after_all T w.frames)) →
     own.level next ≤ own.level name → 0 < own.level name →
-    ((t : Setting) → Grown w.setting t → own.rank next (spot_at t w.point (calmed s)) % 64 < own.tries next % 64) → own.tries next % 64 < own.rank name (spot w) % 64 →
+    ((t : Setting) → Grown w.setting t → (own.rank next (spot_at t w.point (calmed s))).number < (own.tries next).number) →
+    (own.tries next).number < (own.rank name (spot w)).number →
     Does T name w (white_then (record w { events = events; scratch = s }) min max (Next next) Nok)
 white_try T own name next w events s min max P Q white fn fx none calm ends =
     white_else T own name next w events s min max white fn fx none (λ t some up. ends.nok (calmed s) w.point t (calm some) up)
@@ -137,7 +173,8 @@ pub white_try_later : (T own : Scheme) (name next : StateName) (w : World) (even
     s.whitespace.size ≡ 0 → (0 < min → Q (calmed s)) → EndsLater P Q (spot w) (after_all T w.frames) →
     ((q : Point) (t : Setting) → Grown w.setting t → Reaches t.limit w.point q → own.ready next (spot_at t q (calmed s)) (after_all T w.frames)) →
     own.level next ≤ own.level name → 0 < own.level name →
-    ((t : Setting) → Grown w.setting t → own.rank next (spot_at t w.point (calmed s)) % 64 < own.tries next % 64) → own.tries next % 64 < own.rank name (spot w) % 64 →
+    ((t : Setting) → Grown w.setting t → (own.rank next (spot_at t w.point (calmed s))).number < (own.tries next).number) →
+    (own.tries next).number < (own.rank name (spot w)).number →
     Does T name w (white_then (record w { events = events; scratch = s }) min max (Next next) Nok)
 white_try_later T own name next w events s min max P Q white fn fx none calm ends =
     white_else T own name next w events s min max white fn fx none (λ t some up. ends.nok (calmed s) w.point t (calm some) up)

@@ -5,6 +5,8 @@ use Rattle.std.proofs.lemmas.Bool.Decides.{nat_tests}
 use Rattle.md_engine.specs.declared.event.Event.{Event}
 use Rattle.md_engine.specs.declared.event.Name.TheVariants.{SpaceOrTab}
 use Rattle.md_engine.specs.declared.state.Name.TheVariants as n
+use Rattle.md_engine.specs.declared.state.space_or_tab.State.{State as WhiteState}
+use Rattle.md_engine.specs.declared.state.space_or_tab.State.TheVariants as its
 use Rattle.md_engine.specs.declared.state.State.TheVariants.{Next}
 use Rattle.md_engine.specs.declared.tokenizer.Frame.{Frame}
 use Rattle.md_engine.specs.Meaning.{Accepts, Behaviour, Cell, Feed, Here, Steps, goes, here, resume}
@@ -13,7 +15,7 @@ use Rattle.md_engine.proofs.StepOf.{Sees, ahead, cell_here, moves, passes}
 use Rattle.md_seam.specs.Ahead.{HasWhite, after_white, begins_white, inside_white, white_at, white_end, white_rest, white_size}
 use Rattle.md_seam.specs.Events.Nested.{enter, exit}
 use Rattle.md_seam.specs.Standard.Rest.{is_white}
-use Rattle.md_seam.specs.Spaces.{after_code, asking, calmed, inside_code, sees_white, start_code}
+use Rattle.md_seam.specs.Spaces.{after_code, asking, calmed, inside_code, sees_white, start_code, white_transition}
 use Rattle.md_seam.proofs.AheadLemmas.{none-end, none-rest, none-size}
 
 -- one column more
@@ -65,32 +67,44 @@ begins-seen feed w s = rw s.next (go w.current)
     go None = refl
     go (Some b) = refl
 
-pub white_start_steps : (B : Behaviour) (feed : Feed) (w : World) (x : Bool) → HasWhite B → Sees feed w → sees_white w.current && nat_lt 0 w.scratch.whitespace.max ≡ x →
-    Steps B feed (Next n.SpaceOrTabStart) w (start_code w x).to (start_code w x).world
+white_start_steps : (B : Behaviour) (feed : Feed) (w : World) (x : Bool) → HasWhite B → Sees feed w →
+    sees_white w.current && nat_lt 0 w.scratch.whitespace.max ≡ x →
+    Steps B feed (Next (n.SpaceOrTab its.Start)) w (start_code w x).to (start_code w x).world
 unfolding white_at
 white_start_steps B feed w true has s e =
-    moves B feed _ _ w (start_code w true).world (enter SpaceOrTab w.point ∷ []) refl refl (has.start _ _ ∙ rw (begins-seen feed w s, e) (sym (has.inside _ _)))
+    moves B feed _ _ w (start_code w true).world (enter SpaceOrTab w.point ∷ []) refl refl (has.each its.Start _ _ ∙ rw (begins-seen feed w s, e) (sym (has.each its.Inside _ _)))
 white_start_steps B feed w false has s e =
-    passes B feed _ _ w w refl refl (has.start _ _ ∙ rw (begins-seen feed w s, e) (sym (has.behind _ _)))
+    passes B feed _ _ w w refl refl (has.each its.Start _ _ ∙ rw (begins-seen feed w s, e) (sym (has.each its.After _ _)))
 
-pub white_inside_steps : (B : Behaviour) (feed : Feed) (w : World) (x y : Bool) → HasWhite B → Sees feed w → sees_white w.current ≡ x → nat_lt w.scratch.whitespace.size w.scratch.whitespace.max ≡ y →
-    Steps B feed (Next n.SpaceOrTabInside) w (inside_code w (x && y)).to (inside_code w (x && y)).world
+white_inside_steps : (B : Behaviour) (feed : Feed) (w : World) (x y : Bool) → HasWhite B → Sees feed w →
+    sees_white w.current ≡ x → nat_lt w.scratch.whitespace.size w.scratch.whitespace.max ≡ y →
+    Steps B feed (Next (n.SpaceOrTab its.Inside)) w (inside_code w (x && y)).to (inside_code w (x && y)).world
 white_inside_steps B feed w true true has s e f =
     let saw = sees-white feed w s e in
     let lt : w.scratch.whitespace.size < w.scratch.whitespace.max = grind (arith, nat_tests) in
     passes B feed _ _ w (inside_code w true).world refl refl
-    (has.inside _ _ ∙ ap (λ (x : List Cell). inside_white x (here w)) saw.1 ∙ inside-more (cell_here feed w saw.0) (feed (after w.setting w.point)) (here w) saw.2 lt ∙ sym (has.inside _ _))
+    (has.each its.Inside _ _ ∙ ap (λ (x : List Cell). inside_white x (here w)) saw.1 ∙ inside-more (cell_here feed w saw.0) (feed (after w.setting w.point)) (here w) saw.2 lt ∙ sym (has.each its.Inside _ _))
 white_inside_steps B feed w true false has s e f =
     let le : w.scratch.whitespace.max ≤ w.scratch.whitespace.size = grind (arith, nat_tests) in
-    moves B feed _ _ w (inside_code w false).world (exit SpaceOrTab w.point ∷ []) refl refl (has.inside _ _ ∙ inside-stop feed w (here w) s (inr le) ∙ sym (has.behind _ _))
+    moves B feed _ _ w (inside_code w false).world (exit SpaceOrTab w.point ∷ []) refl refl (has.each its.Inside _ _ ∙ inside-stop feed w (here w) s (inr le) ∙ sym (has.each its.After _ _))
 white_inside_steps B feed w false y has s e f =
-    moves B feed _ _ w (inside_code w false).world (exit SpaceOrTab w.point ∷ []) refl refl (has.inside _ _ ∙ inside-stop feed w (here w) s (inl e) ∙ sym (has.behind _ _))
+    moves B feed _ _ w (inside_code w false).world (exit SpaceOrTab w.point ∷ []) refl refl (has.each its.Inside _ _ ∙ inside-stop feed w (here w) s (inl e) ∙ sym (has.each its.After _ _))
 
-pub white_after_steps : (B : Behaviour) (feed : Feed) (w : World) (x : Bool) → HasWhite B → nat_le w.scratch.whitespace.min w.scratch.whitespace.size ≡ x →
-    Steps B feed (Next n.SpaceOrTabAfter) w (after_code w x).to (after_code w x).world
+white_after_steps : (B : Behaviour) (feed : Feed) (w : World) (x : Bool) → HasWhite B →
+    nat_le w.scratch.whitespace.min w.scratch.whitespace.size ≡ x →
+    Steps B feed (Next (n.SpaceOrTab its.After)) w (after_code w x).to (after_code w x).world
 unfolding after_white
-white_after_steps B feed w true has e = passes B feed _ _ w (after_code w true).world refl refl (has.behind _ _ ∙ rw e refl)
-white_after_steps B feed w false has e = passes B feed _ _ w (after_code w false).world refl refl (has.behind _ _ ∙ rw e refl)
+white_after_steps B feed w true has e =
+    passes B feed _ _ w (after_code w true).world refl refl (has.each its.After _ _ ∙ rw e refl)
+white_after_steps B feed w false has e =
+    passes B feed _ _ w (after_code w false).world refl refl (has.each its.After _ _ ∙ rw e refl)
+
+-- each state of whitespace takes one step of what it means
+pub white_steps : (B : Behaviour) (feed : Feed) (state : WhiteState) (w : World) → HasWhite B → Sees feed w →
+    Steps B feed (Next (n.SpaceOrTab state)) w (white_transition state w).to (white_transition state w).world
+white_steps B feed its.Start w has s = white_start_steps B feed w _ has s refl
+white_steps B feed its.Inside w has s = white_inside_steps B feed w _ _ has s refl refl
+white_steps B feed its.After w has s = white_after_steps B feed w _ has refl
 
 white-some : (room : ℕ) (cells : List Cell) → 1 ≤ room → begins_white cells ≡ true → 1 ≤ white_size room cells
 white-some room [] le e = cc
@@ -115,5 +129,6 @@ white-taken cells h min max s most least =
 
 -- what an attempt at whitespace that is here comes to
 pub white-tried : (B : Behaviour) (feed : Feed) (f : Frame) (events : List Event) (cells : List Cell) (h : Here) (min max : ℕ) → HasWhite B → begins_white cells ≡ true → 1 ≤ max → min ≤ 1 → f.is_check ≡ false →
-    goes B f.ok (white_rest max cells) (behind_white max cells h) ≡ resume B feed events f (B n.SpaceOrTabStart cells (record h { scratch = asking min max 0 h.scratch }))
-white-tried B feed f events cells h min max has s most least k = rw (has.start, white-taken cells h min max s most least, k) refl
+    goes B f.ok (white_rest max cells) (behind_white max cells h) ≡ resume B feed events f (B (n.SpaceOrTab its.Start) cells (record h { scratch = asking min max 0 h.scratch }))
+white-tried B feed f events cells h min max has s most least k =
+    rw (has.each its.Start, white-taken cells h min max s most least, k) refl

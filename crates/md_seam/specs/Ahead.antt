@@ -2,7 +2,9 @@
 use Rattle.std.specs.Prelude.{◌≡◌, ℕ, zero, suc, ◌+◌, ◌-◌, Bool, false, ◌&&◌, ◌==◌, if◌then◌else◌, nat_lt, nat_le, List, [], ◌∷◌, ◌++◌, map}
 use Rattle.md_engine.specs.declared.event.Name.TheVariants.{SpaceOrTab}
 use Rattle.md_engine.specs.declared.event.Point.{Point}
-use Rattle.md_engine.specs.declared.state.Name.TheVariants.{SpaceOrTabStart, SpaceOrTabInside, SpaceOrTabAfter}
+use Rattle.md_engine.specs.declared.state.Name.TheVariants as n
+use Rattle.md_engine.specs.declared.state.space_or_tab.State.{State as WhiteState}
+use Rattle.md_engine.specs.declared.state.space_or_tab.State.TheVariants as its
 use Rattle.md_engine.specs.Meaning.{Accepts, Behaviour, Cell, Here, Outcome, Refuses}
 use Rattle.md_seam.specs.Events.Nested.{enter, exit}
 use Rattle.md_seam.specs.Standard.Rest.{is_white}
@@ -76,7 +78,11 @@ white_at cells h =
     then inside_white cells (record h { events = h.events ++ enter SpaceOrTab h.point ∷ [] })
     else after_white cells h
 
+-- what is left at each state
+abbrev pub white_behaves : WhiteState → List Cell → Here → Outcome
+white_behaves its.Start cells h = white_at cells h
+white_behaves its.Inside cells h = inside_white cells h
+white_behaves its.After cells h = after_white cells h
+
 pub record HasWhite (B : Behaviour) : Type 0 where
-  pub start : (cells : List Cell) (h : Here) → B SpaceOrTabStart cells h ≡ white_at cells h
-  pub inside : (cells : List Cell) (h : Here) → B SpaceOrTabInside cells h ≡ inside_white cells h
-  pub behind : (cells : List Cell) (h : Here) → B SpaceOrTabAfter cells h ≡ after_white cells h
+  pub each : (state : WhiteState) (cells : List Cell) (h : Here) → B (n.SpaceOrTab state) cells h ≡ white_behaves state cells h

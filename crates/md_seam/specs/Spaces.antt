@@ -1,15 +1,17 @@
 -- Spaces and tabs.
-use Rattle.std.specs.Prelude.{◌≡◌, ℕ, ◌+◌, ◌-◌, ◌^◌, ◌<◌, ◌≤◌, Bool, true, false, ◌&&◌, ◌==◌, if◌then◌else◌, nat_lt, nat_le, Option, Some, None}
+use Rattle.std.specs.Prelude.{◌≡◌, refl, ℕ, ◌+◌, ◌-◌, ◌^◌, ◌<◌, ◌≤◌, Bool, true, false, ◌&&◌, ◌==◌, if◌then◌else◌, nat_lt, nat_le, Option, Some, None}
 use Rattle.md_engine.specs.declared.event.Name.TheVariants.{SpaceOrTab}
 use Rattle.md_engine.specs.declared.state.Name.{Name as StateName}
-use Rattle.md_engine.specs.declared.state.Name.TheVariants.{SpaceOrTabStart, SpaceOrTabInside, SpaceOrTabAfter}
+use Rattle.md_engine.specs.declared.state.Name.TheVariants as n
+use Rattle.md_engine.specs.declared.state.space_or_tab.State.{State as WhiteState}
+use Rattle.md_engine.specs.declared.state.space_or_tab.State.TheVariants as its
 use Rattle.md_engine.specs.declared.state.State.{State}
 use Rattle.md_engine.specs.declared.state.State.TheVariants.{Ok, Nok, Next, Retry}
 use Rattle.md_engine.specs.declared.tokenizer.Scratch.{Scratch}
 use Rattle.md_engine.specs.declared.tokenizer.TheConstants.Scratch.{REST}
 use Rattle.md_engine.specs.declared.configuration.ParseOptions.{ParseOptions}
 use Rattle.md_engine.specs.World.{World}
-use Rattle.md_engine.specs.Scheme.{Spot, After, Scheme, Ends, EndsLater, cells_before}
+use Rattle.md_engine.specs.Scheme.{Spot, After, Rank, Scheme, Ends, EndsLater, cells_before, ranked}
 use Rattle.md_seam.specs.Standard.Rest.{is_white}
 use Rattle.md_seam.specs.Transition.{Transition, entered, exited, taken, tried}
 
@@ -35,16 +37,18 @@ calmed s = asking 0 0 0 s
 
 -- an attempt at so much whitespace begins
 abbrev pub white_then : World → ℕ → ℕ → State → State → Transition
-white_then w min max ok nok = record { to = Retry SpaceOrTabStart; world = record (tried w ok nok) { scratch = asking min max 0 w.scratch } }
+white_then w min max ok nok =
+    record { to = Retry (n.SpaceOrTab its.Start); world = record (tried w ok nok) { scratch = asking min max 0 w.scratch } }
 
 -- by whether whitespace stands here, and there is room for it
 abbrev pub start_code : World → Bool → Transition
-start_code w true = record { to = Retry SpaceOrTabInside; world = entered w SpaceOrTab }
-start_code w false = record { to = Retry SpaceOrTabAfter; world = w }
+start_code w true = record { to = Retry (n.SpaceOrTab its.Inside); world = entered w SpaceOrTab }
+start_code w false = record { to = Retry (n.SpaceOrTab its.After); world = w }
 
 abbrev pub inside_code : World → Bool → Transition
-inside_code w true = record { to = Next SpaceOrTabInside; world = record (taken w) { scratch = asking w.scratch.whitespace.min w.scratch.whitespace.max (w.scratch.whitespace.size + 1) w.scratch } }
-inside_code w false = record { to = Retry SpaceOrTabAfter; world = exited w SpaceOrTab }
+inside_code w true =
+    record { to = Next (n.SpaceOrTab its.Inside); world = record (taken w) { scratch = asking w.scratch.whitespace.min w.scratch.whitespace.max (w.scratch.whitespace.size + 1) w.scratch } }
+inside_code w false = record { to = Retry (n.SpaceOrTab its.After); world = exited w SpaceOrTab }
 
 -- by whether it is enough
 abbrev pub after_code : World → Bool → Transition
@@ -53,7 +57,7 @@ after_code w false = record { to = Nok; world = record w { scratch = calmed w.sc
 
 -- what is taken lies before the point
 abbrev pub WhiteNeeds : StateName → World → Type 0
-WhiteNeeds SpaceOrTabInside w = w.scratch.whitespace.size ≤ cells_before w.point
+WhiteNeeds (n.SpaceOrTab its.Inside) w = w.scratch.whitespace.size ≤ cells_before w.point
 WhiteNeeds _ w = Unit {0}
 
 -- each state with what it does, where there is memory
@@ -65,6 +69,12 @@ inside_transition w = inside_code w (sees_white w.current && nat_lt w.scratch.wh
 
 abbrev pub after_transition : World → Transition
 after_transition w = after_code w (nat_le w.scratch.whitespace.min w.scratch.whitespace.size)
+
+-- all of them
+abbrev pub white_transition : WhiteState → World → Transition
+white_transition its.Start w = start_transition w
+white_transition its.Inside w = inside_transition w
+white_transition its.After w = after_transition w
 
 -- whether this byte stands here
 abbrev pub is_current : ℕ → Option ℕ → Bool
@@ -82,13 +92,13 @@ ends_line (Some b) = b == 10
 abbrev pub white_ready : StateName → Spot → After → Type 0
 white_ready n x K = (x.scratch.whitespace.size ≤ cells_before x.point) × Ends (λ s. s ≡ calmed x.scratch) (λ s. (s ≡ calmed x.scratch) × (0 < x.scratch.whitespace.min)) x K
 
-abbrev pub white_rank : StateName → Spot → ℕ
-white_rank SpaceOrTabStart x = 2
-white_rank SpaceOrTabInside x = 1
-white_rank _ x = 0
+abbrev pub white_rank : StateName → Spot → Rank
+white_rank (n.SpaceOrTab its.Start) x = ranked 2 refl
+white_rank (n.SpaceOrTab its.Inside) x = ranked 1 refl
+white_rank _ x = ranked 0 refl
 
 abbrev pub white_scheme : Scheme
-white_scheme = record { ready = white_ready; level = λ n. 0; rank = white_rank; tries = λ n. 0 }
+white_scheme = record { ready = white_ready; level = λ n. 0; rank = white_rank; tries = λ n. ranked 0 refl }
 
 -- a construct at rest, which ends at rest
 abbrev pub IsRest : Scratch → Type 0

@@ -8,11 +8,13 @@ ghost use Rattle.std.specs.Prelude.{◌≡◌, ◌≢◌};
 ghost use Rattle.md_engine.specs.World.{world};
 ghost use Rattle.md_engine.specs.declared.state.Name.{Name as StateName};
 ghost use Rattle.md_engine.specs.declared.state.State.{State};
-ghost use Rattle.md_seam.specs.Spaces.{WhiteNeeds, after_transition, any_size, inside_transition, sees_white, small_indent, start_transition, white_then};
+ghost use Rattle.md_engine.specs.declared.state.space_or_tab.State.{State as WhiteState};
+ghost use Rattle.md_seam.specs.Spaces.{WhiteNeeds, after_transition, any_size, inside_transition, sees_white, small_indent, start_transition, white_then, white_transition};
 ghost use Rattle.md_seam.specs.Transition.{IsAt};
 
 use md_engine::event::Name;
 use md_engine::or_error;
+use md_engine::state::space_or_tab::State as WhiteState;
 use md_engine::state::{Name as StateName, State};
 use md_engine::tokenizer::{Tokenizer, Whitespace};
 
@@ -54,7 +56,7 @@ pub fn space_or_tab_min_max(
 {
     or_error!(tokenizer.attempt(ok, nok));
     tokenizer.scratch.whitespace = Whitespace { min, max, size: 0 };
-    State::Retry(StateName::SpaceOrTabStart)
+    State::Retry(StateName::SpaceOrTab(WhiteState::Start))
 }
 
 /// Tries at least one space or tab, and goes on with `ok` where it is there, else with `nok`.
@@ -72,15 +74,15 @@ pub fn space_or_tab(tokenizer: &mut Tokenizer, ok: State, nok: State) -> State
 ///     ^
 /// ```
 pub fn start(tokenizer: &mut Tokenizer) -> State
-    requires { IsAt WhiteNeeds StateName.SpaceOrTabStart (world tokenizer.old) }
+    requires { IsAt WhiteNeeds (StateName.SpaceOrTab WhiteState.Start) (world tokenizer.old) }
     ensures to { result ≢ State.Error → result ≡ (start_transition (world tokenizer.old)).to }
     ensures world { result ≢ State.Error → world tokenizer.new ≡ (start_transition (world tokenizer.old)).world }
 {
     if is_space_or_tab(tokenizer.current) && tokenizer.scratch.whitespace.max > 0 {
         or_error!(tokenizer.enter(Name::SpaceOrTab));
-        State::Retry(StateName::SpaceOrTabInside)
+        State::Retry(StateName::SpaceOrTab(WhiteState::Inside))
     } else {
-        State::Retry(StateName::SpaceOrTabAfter)
+        State::Retry(StateName::SpaceOrTab(WhiteState::After))
     }
 }
 
@@ -91,7 +93,7 @@ pub fn start(tokenizer: &mut Tokenizer) -> State
 ///      ^
 /// ```
 pub fn inside(tokenizer: &mut Tokenizer) -> State
-    requires { IsAt WhiteNeeds StateName.SpaceOrTabInside (world tokenizer.old) }
+    requires { IsAt WhiteNeeds (StateName.SpaceOrTab WhiteState.Inside) (world tokenizer.old) }
     ensures to { result ≢ State.Error → result ≡ (inside_transition (world tokenizer.old)).to }
     ensures world { result ≢ State.Error → world tokenizer.new ≡ (inside_transition (world tokenizer.old)).world }
 {
@@ -99,10 +101,10 @@ pub fn inside(tokenizer: &mut Tokenizer) -> State
     if is_space_or_tab(tokenizer.current) && size < max {
         tokenizer.consume();
         tokenizer.scratch.whitespace.size += 1;
-        State::Next(StateName::SpaceOrTabInside)
+        State::Next(StateName::SpaceOrTab(WhiteState::Inside))
     } else {
         or_error!(tokenizer.exit(Name::SpaceOrTab));
-        State::Retry(StateName::SpaceOrTabAfter)
+        State::Retry(StateName::SpaceOrTab(WhiteState::After))
     }
 }
 
@@ -113,7 +115,7 @@ pub fn inside(tokenizer: &mut Tokenizer) -> State
 ///       ^
 /// ```
 pub fn after(tokenizer: &mut Tokenizer) -> State
-    requires { IsAt WhiteNeeds StateName.SpaceOrTabAfter (world tokenizer.old) }
+    requires { IsAt WhiteNeeds (StateName.SpaceOrTab WhiteState.After) (world tokenizer.old) }
     ensures to { result ≡ (after_transition (world tokenizer.old)).to }
     ensures world { world tokenizer.new ≡ (after_transition (world tokenizer.old)).world }
 {
@@ -124,4 +126,17 @@ pub fn after(tokenizer: &mut Tokenizer) -> State
         size: 0,
     };
     if size >= min { State::Ok } else { State::Nok }
+}
+
+/// Calls a state of whitespace.
+pub fn call(tokenizer: &mut Tokenizer, state: WhiteState) -> State
+    requires { IsAt WhiteNeeds (StateName.SpaceOrTab state) (world tokenizer.old) }
+    ensures to { result ≢ State.Error → result ≡ (white_transition state (world tokenizer.old)).to }
+    ensures world { result ≢ State.Error → world tokenizer.new ≡ (white_transition state (world tokenizer.old)).world }
+{
+    match state {
+        WhiteState::Start => start(tokenizer),
+        WhiteState::Inside => inside(tokenizer),
+        WhiteState::After => after(tokenizer),
+    }
 }

@@ -1,15 +1,19 @@
 -- The states of thematic breaks register nothing.
+use Rattle.md_engine.specs.declared.state.thematic_break.State.{State as BreakState}
+use Rattle.md_engine.specs.declared.state.thematic_break.State.TheVariants as at
+use Rattle.std.proofs.Common.{◌&&◌, nat_le}
+use Rattle.md_seam.specs.Spaces.{ends_line, is_current, sees_white}
 use Rattle.std.proofs.Common.{◌≡◌, ℕ, Bool, true, false, Option, Some, None, refl}
 use Rattle.md_engine.specs.World.{World}
 use Rattle.md_leaves.specs.Break as break
 use Rattle.markdown_blocks.proofs.Registers.{Registers, adds}
 
-pub break-start : (w : World) (a b : Bool) → Registers w → Registers (break.start_code w a b).world
+break-start : (w : World) (a b : Bool) → Registers w → Registers (break.start_code w a b).world
 break-start w false b h = h
 break-start w true true h = adds w.events _ w.resolvers refl refl h
 break-start w true false h = adds w.events _ w.resolvers refl refl h
 
-pub break-before : (w : World) (o : Option ℕ) → Registers w → Registers (break.before_code w o).world
+break-before : (w : World) (o : Option ℕ) → Registers w → Registers (break.before_code w o).world
 break-before w None h = h
 break-before w (Some b) h = go (break.is_marker b) refl
   where
@@ -17,12 +21,19 @@ break-before w (Some b) h = go (break.is_marker b) refl
     go true e = rw e h
     go false e = rw e h
 
-pub break-at : (w : World) (a b : Bool) → Registers w → Registers (break.at_break_code w a b).world
+break-at : (w : World) (a b : Bool) → Registers w → Registers (break.at_break_code w a b).world
 break-at w true b h = adds w.events _ w.resolvers refl refl h
 break-at w false true h = adds w.events _ w.resolvers refl refl h
 break-at w false false h = h
 
-pub break-sequence : (w : World) (a b : Bool) → Registers w → Registers (break.sequence_code w a b).world
+break-sequence : (w : World) (a b : Bool) → Registers w → Registers (break.sequence_code w a b).world
 break-sequence w true b h = h
 break-sequence w false true h = adds w.events _ w.resolvers refl refl h
 break-sequence w false false h = adds w.events _ w.resolvers refl refl h
+
+-- each of them
+pub break-registers : (state : BreakState) (w : World) → Registers w → Registers (break.break_transition state w).world
+break-registers at.Start w h = break-start w w.setting.options.constructs.thematic_break (sees_white w.current) h
+break-registers at.Before w h = break-before w w.current h
+break-registers at.AtBreak w h = break-at w (is_current w.scratch.marker w.current) (ends_line w.current && nat_le 3 w.scratch.size) h
+break-registers at.Sequence w h = break-sequence w (is_current w.scratch.marker w.current) (sees_white w.current) h

@@ -14,9 +14,10 @@ ghost use Rattle.md_engine.specs.Scheme.{stands};
 ghost use Rattle.md_engine.specs.World.{looks, world};
 ghost use Rattle.md_engine.specs.declared.state.Name.{Name as StateName};
 ghost use Rattle.md_engine.specs.declared.state.State.{State};
+ghost use Rattle.md_engine.specs.declared.state.document.State.{State as DocumentState};
 ghost use Rattle.markdown_blocks.specs.Flow.{containers_after_transition, existing_after_transition, existing_before_transition, flow_end_transition, goes_on_with, new_after_transition, new_before_transition};
 ghost use Rattle.markdown_blocks.specs.LineFlags.{ending_name, next_container, stays};
-ghost use Rattle.markdown_blocks.specs.Document.{before_frontmatter_transition, document_table_scheme, document_transition, start_transition};
+ghost use Rattle.markdown_blocks.specs.Document.{before_frontmatter_transition, document_own_transition, document_table_scheme, document_transition, start_transition};
 ghost use Rattle.md_seam.specs.Transition.{IsAt, NeedsNothing};
 
 use crate::resolve;
@@ -24,6 +25,10 @@ use md_engine::event::Name;
 use md_engine::message::Message;
 use md_engine::or_error;
 use md_engine::resolve::Name as ResolveName;
+use md_engine::state::block_quote::State as QuoteState;
+use md_engine::state::bom::State as BomState;
+use md_engine::state::document::State as DocumentState;
+use md_engine::state::flow::State as FlowState;
 use md_engine::state::{Name as StateName, State};
 use md_engine::subtokenize::Subresult;
 use md_engine::table::Table;
@@ -37,15 +42,15 @@ use md_leaves::partial_bom;
 ///     ^
 /// ```
 pub fn start(tokenizer: &mut Tokenizer) -> State
-    requires { IsAt NeedsNothing StateName.DocumentStart (world tokenizer.old) }
+    requires { IsAt NeedsNothing (StateName.Document DocumentState.Start) (world tokenizer.old) }
     ensures to { result ≢ State.Error → result ≡ (start_transition (world tokenizer.old)).to }
     ensures world { result ≢ State.Error → world tokenizer.new ≡ (start_transition (world tokenizer.old)).world }
 {
     or_error!(tokenizer.attempt(
-        State::Next(StateName::DocumentBeforeFrontmatter),
-        State::Next(StateName::DocumentBeforeFrontmatter)
+        State::Next(StateName::Document(DocumentState::BeforeFrontmatter)),
+        State::Next(StateName::Document(DocumentState::BeforeFrontmatter))
     ));
-    State::Retry(StateName::BomStart)
+    State::Retry(StateName::Bom(BomState::Start))
 }
 
 /// Behind the mark: the lines of the text begin.
@@ -55,7 +60,7 @@ pub fn start(tokenizer: &mut Tokenizer) -> State
 ///     ^
 /// ```
 pub fn before_frontmatter(_tokenizer: &mut Tokenizer) -> State
-    requires { IsAt NeedsNothing StateName.DocumentBeforeFrontmatter (world _tokenizer.old) }
+    requires { IsAt NeedsNothing (StateName.Document DocumentState.BeforeFrontmatter) (world _tokenizer.old) }
     ensures to { result ≡ (before_frontmatter_transition (world _tokenizer.old)).to }
     ensures world { world _tokenizer.new ≡ (before_frontmatter_transition (world _tokenizer.old)).world }
 {
@@ -74,7 +79,7 @@ fn goes_on_with(kind: ContainerKind) -> StateName
     ensures { result ≡ goes_on_with kind }
 {
     match kind {
-        ContainerKind::BlockQuote => StateName::BlockQuoteContStart,
+        ContainerKind::BlockQuote => StateName::BlockQuote(QuoteState::ContStart),
     }
 }
 
@@ -86,16 +91,16 @@ fn goes_on_with(kind: ContainerKind) -> StateName
 ///     ^
 /// ```
 pub fn container_existing_before(tokenizer: &mut Tokenizer) -> State
-    requires { IsAt NeedsNothing StateName.DocumentContainerExistingBefore (world tokenizer.old) }
+    requires { IsAt NeedsNothing (StateName.Document DocumentState.ContainerExistingBefore) (world tokenizer.old) }
     ensures to { result ≢ State.Error → result ≡ (existing_before_transition (world tokenizer.old)).to }
     ensures world { result ≢ State.Error → world tokenizer.new ≡ (existing_before_transition (world tokenizer.old)).world }
 {
     match next_container(tokenizer) {
-        None => State::Retry(StateName::DocumentContainerNewBefore),
+        None => State::Retry(StateName::Document(DocumentState::ContainerNewBefore)),
         Some(container) => {
             or_error!(tokenizer.attempt(
-                State::Next(StateName::DocumentContainerExistingAfter),
-                State::Next(StateName::DocumentContainerNewBefore)
+                State::Next(StateName::Document(DocumentState::ContainerExistingAfter)),
+                State::Next(StateName::Document(DocumentState::ContainerNewBefore))
             ));
             State::Retry(goes_on_with(container.kind))
         }
@@ -110,14 +115,14 @@ pub fn container_existing_before(tokenizer: &mut Tokenizer) -> State
 ///       ^
 /// ```
 pub fn container_existing_after(tokenizer: &mut Tokenizer) -> State
-    requires { IsAt NeedsNothing StateName.DocumentContainerExistingAfter (world tokenizer.old) }
+    requires { IsAt NeedsNothing (StateName.Document DocumentState.ContainerExistingAfter) (world tokenizer.old) }
     ensures to { result ≡ (existing_after_transition (world tokenizer.old)).to }
     ensures world { world tokenizer.new ≡ (existing_after_transition (world tokenizer.old)).world }
 {
     if tokenizer.flags.continued < tokenizer.containers.len() {
         tokenizer.flags.continued += 1;
     }
-    State::Retry(StateName::DocumentContainerExistingBefore)
+    State::Retry(StateName::Document(DocumentState::ContainerExistingBefore))
 }
 
 /// Before a container that may open.
@@ -127,15 +132,15 @@ pub fn container_existing_after(tokenizer: &mut Tokenizer) -> State
 ///     ^
 /// ```
 pub fn container_new_before(tokenizer: &mut Tokenizer) -> State
-    requires { IsAt NeedsNothing StateName.DocumentContainerNewBefore (world tokenizer.old) }
+    requires { IsAt NeedsNothing (StateName.Document DocumentState.ContainerNewBefore) (world tokenizer.old) }
     ensures to { result ≢ State.Error → result ≡ (new_before_transition (world tokenizer.old)).to }
     ensures world { result ≢ State.Error → world tokenizer.new ≡ (new_before_transition (world tokenizer.old)).world }
 {
     or_error!(tokenizer.attempt(
-        State::Next(StateName::DocumentContainerNewAfter),
-        State::Next(StateName::DocumentContainersAfter)
+        State::Next(StateName::Document(DocumentState::ContainerNewAfter)),
+        State::Next(StateName::Document(DocumentState::ContainersAfter))
     ));
-    State::Retry(StateName::BlockQuoteStart)
+    State::Retry(StateName::BlockQuote(QuoteState::Start))
 }
 
 /// Behind the first prefix of a container that opens: those that did not go on end before it.
@@ -145,7 +150,7 @@ pub fn container_new_before(tokenizer: &mut Tokenizer) -> State
 ///       ^
 /// ```
 pub fn container_new_after(tokenizer: &mut Tokenizer) -> State
-    requires { IsAt NeedsNothing StateName.DocumentContainerNewAfter (world tokenizer.old) }
+    requires { IsAt NeedsNothing (StateName.Document DocumentState.ContainerNewAfter) (world tokenizer.old) }
     ensures to { result ≢ State.Error → result ≡ (new_after_transition (world tokenizer.old)).to }
     ensures world { result ≢ State.Error → world tokenizer.new ≡ (new_after_transition (world tokenizer.old)).world }
 {
@@ -160,7 +165,7 @@ pub fn container_new_after(tokenizer: &mut Tokenizer) -> State
     }));
     tokenizer.flags.continued = tokenizer.containers.len();
     tokenizer.flags.interrupt = false;
-    State::Retry(StateName::DocumentContainerNewBefore)
+    State::Retry(StateName::Document(DocumentState::ContainerNewBefore))
 }
 
 /// Behind all containers of a line.
@@ -170,12 +175,12 @@ pub fn container_new_after(tokenizer: &mut Tokenizer) -> State
 ///       ^
 /// ```
 pub fn containers_after(tokenizer: &mut Tokenizer) -> State
-    requires { IsAt NeedsNothing StateName.DocumentContainersAfter (world tokenizer.old) }
+    requires { IsAt NeedsNothing (StateName.Document DocumentState.ContainersAfter) (world tokenizer.old) }
     ensures to { result ≡ (containers_after_transition (world tokenizer.old)).to }
     ensures world { world tokenizer.new ≡ (containers_after_transition (world tokenizer.old)).world }
 {
     tokenizer.flags.text_open = tokenizer.flags.interrupt;
-    State::Retry(StateName::FlowStart)
+    State::Retry(StateName::Flow(FlowState::Start))
 }
 
 /// How many containers are still open behind a line: all of them if it goes on the open paragraph, else those that went on.
@@ -208,7 +213,7 @@ fn ending_name(blank: bool) -> Name
 ///        ^
 /// ```
 pub fn flow_end(tokenizer: &mut Tokenizer) -> State
-    requires { IsAt NeedsNothing StateName.DocumentFlowEnd (world tokenizer.old) }
+    requires { IsAt NeedsNothing (StateName.Document DocumentState.FlowEnd) (world tokenizer.old) }
     ensures to { result ≢ State.Error → result ≡ (flow_end_transition (world tokenizer.old)).to }
     ensures world { result ≢ State.Error → world tokenizer.new ≡ (flow_end_transition (world tokenizer.old)).world }
 {
@@ -229,13 +234,32 @@ pub fn flow_end(tokenizer: &mut Tokenizer) -> State
             tokenizer.flags.blank = false;
             tokenizer.flags.continued = 0;
             tokenizer.flags.line_end = len;
-            State::Next(StateName::DocumentContainerExistingBefore)
+            State::Next(StateName::Document(DocumentState::ContainerExistingBefore))
         }
         _ => State::Nok,
     }
 }
 
-/// Calls a state of the document.
+/// Calls a state of the document: in front of its lines, or between the containers of a line.
+pub fn call(tokenizer: &mut Tokenizer, state: DocumentState) -> State
+    requires { IsAt NeedsNothing (StateName.Document state) (world tokenizer.old) }
+    ensures to { result ≢ State.Error → result ≡ (document_own_transition state (world tokenizer.old)).to }
+    ensures world { result ≢ State.Error → world tokenizer.new ≡ (document_own_transition state (world tokenizer.old)).world }
+{
+    match state {
+        DocumentState::Start => start(tokenizer),
+        DocumentState::BeforeFrontmatter => before_frontmatter(tokenizer),
+        DocumentState::ContainerExistingBefore => container_existing_before(tokenizer),
+        DocumentState::ContainerExistingAfter => container_existing_after(tokenizer),
+        DocumentState::ContainerNewBefore => container_new_before(tokenizer),
+        DocumentState::ContainerNewAfter => container_new_after(tokenizer),
+        DocumentState::ContainersAfter => containers_after(tokenizer),
+        DocumentState::FlowEnd => flow_end(tokenizer),
+        _ => State::Nok,
+    }
+}
+
+/// Calls a state of the table.
 fn call_state(tokenizer: &mut Tokenizer, name: StateName) -> State
     requires current { (world tokenizer.old).current ≡ looks (world tokenizer.old) }
     requires stands { stands document_table_scheme (world tokenizer.old) (State.Next name) }
@@ -243,10 +267,8 @@ fn call_state(tokenizer: &mut Tokenizer, name: StateName) -> State
     ensures world { result ≢ State.Error → world tokenizer.new ≡ (document_transition name (world tokenizer.old)).world }
 {
     match name {
-        StateName::BomStart => partial_bom::start(tokenizer),
-        StateName::BomInside => partial_bom::inside(tokenizer),
-        StateName::DocumentStart => start(tokenizer),
-        StateName::DocumentBeforeFrontmatter => before_frontmatter(tokenizer),
+        StateName::Bom(state) => partial_bom::call(tokenizer, state),
+        StateName::Document(state) => call(tokenizer, state),
         _ => State::Nok,
     }
 }

@@ -11,7 +11,8 @@ ghost use Rattle.md_engine.specs.declared.resolve.Name.{Name as ResolveName};
 ghost use Rattle.markdown_blocks.specs.States.{flow_table_scheme, flow_transition};
 ghost use Rattle.md_engine.specs.declared.state.Name.{Name as StateName};
 ghost use Rattle.md_engine.specs.declared.state.State.{State};
-ghost use Rattle.markdown_blocks.specs.Flow.{after_transition, before_content_transition, before_heading_atx_transition, before_thematic_break_transition, blank_line_after_transition, blank_line_before_transition, start_transition};
+ghost use Rattle.md_engine.specs.declared.state.flow.State.{State as FlowState};
+ghost use Rattle.markdown_blocks.specs.Flow.{after_transition, before_content_transition, before_heading_atx_transition, before_thematic_break_transition, blank_line_after_transition, blank_line_before_transition, flow_own_transition, start_transition};
 ghost use Rattle.md_seam.specs.Transition.{IsAt, NeedsNothing};
 
 use crate::construct::document;
@@ -21,6 +22,13 @@ use md_content::content;
 use md_engine::message::Message;
 use md_engine::or_error;
 use md_engine::resolve::Name as ResolveName;
+use md_engine::state::blank_line::State as BlankState;
+use md_engine::state::block_quote::State as QuoteState;
+use md_engine::state::content::State as ContentState;
+use md_engine::state::document::State as DocumentState;
+use md_engine::state::flow::State as FlowState;
+use md_engine::state::heading_atx::State as HeadingState;
+use md_engine::state::thematic_break::State as BreakState;
 use md_engine::state::{Name as StateName, State};
 use md_engine::subtokenize::Subresult;
 use md_engine::table::Table;
@@ -35,11 +43,11 @@ use md_seam::space_or_tab;
 ///     ^
 /// ```
 pub fn start(_tokenizer: &mut Tokenizer) -> State
-    requires { IsAt NeedsNothing StateName.FlowStart (world _tokenizer.old) }
+    requires { IsAt NeedsNothing (StateName.Flow FlowState.Start) (world _tokenizer.old) }
     ensures to { result ≡ (start_transition (world _tokenizer.old)).to }
     ensures world { world _tokenizer.new ≡ (start_transition (world _tokenizer.old)).world }
 {
-    State::Retry(StateName::FlowBlankLineBefore)
+    State::Retry(StateName::Flow(FlowState::BlankLineBefore))
 }
 
 /// Before a blank line.
@@ -49,15 +57,15 @@ pub fn start(_tokenizer: &mut Tokenizer) -> State
 ///     ^
 /// ```
 pub fn blank_line_before(tokenizer: &mut Tokenizer) -> State
-    requires { IsAt NeedsNothing StateName.FlowBlankLineBefore (world tokenizer.old) }
+    requires { IsAt NeedsNothing (StateName.Flow FlowState.BlankLineBefore) (world tokenizer.old) }
     ensures to { result ≢ State.Error → result ≡ (blank_line_before_transition (world tokenizer.old)).to }
     ensures world { result ≢ State.Error → world tokenizer.new ≡ (blank_line_before_transition (world tokenizer.old)).world }
 {
     or_error!(tokenizer.attempt(
-        State::Next(StateName::FlowBlankLineAfter),
-        State::Next(StateName::FlowBeforeHeadingAtx)
+        State::Next(StateName::Flow(FlowState::BlankLineAfter)),
+        State::Next(StateName::Flow(FlowState::BeforeHeadingAtx))
     ));
-    State::Retry(StateName::BlankLineStart)
+    State::Retry(StateName::BlankLine(BlankState::Start))
 }
 
 /// Before an ATX heading.
@@ -67,15 +75,15 @@ pub fn blank_line_before(tokenizer: &mut Tokenizer) -> State
 ///     ^
 /// ```
 pub fn before_heading_atx(tokenizer: &mut Tokenizer) -> State
-    requires { IsAt NeedsNothing StateName.FlowBeforeHeadingAtx (world tokenizer.old) }
+    requires { IsAt NeedsNothing (StateName.Flow FlowState.BeforeHeadingAtx) (world tokenizer.old) }
     ensures to { result ≢ State.Error → result ≡ (before_heading_atx_transition (world tokenizer.old)).to }
     ensures world { result ≢ State.Error → world tokenizer.new ≡ (before_heading_atx_transition (world tokenizer.old)).world }
 {
     or_error!(tokenizer.attempt(
-        State::Next(StateName::FlowAfter),
-        State::Next(StateName::FlowBeforeThematicBreak)
+        State::Next(StateName::Flow(FlowState::After)),
+        State::Next(StateName::Flow(FlowState::BeforeThematicBreak))
     ));
-    State::Retry(StateName::HeadingAtxStart)
+    State::Retry(StateName::HeadingAtx(HeadingState::Start))
 }
 
 /// Before a thematic break.
@@ -85,15 +93,15 @@ pub fn before_heading_atx(tokenizer: &mut Tokenizer) -> State
 ///     ^
 /// ```
 pub fn before_thematic_break(tokenizer: &mut Tokenizer) -> State
-    requires { IsAt NeedsNothing StateName.FlowBeforeThematicBreak (world tokenizer.old) }
+    requires { IsAt NeedsNothing (StateName.Flow FlowState.BeforeThematicBreak) (world tokenizer.old) }
     ensures to { result ≢ State.Error → result ≡ (before_thematic_break_transition (world tokenizer.old)).to }
     ensures world { result ≢ State.Error → world tokenizer.new ≡ (before_thematic_break_transition (world tokenizer.old)).world }
 {
     or_error!(tokenizer.attempt(
-        State::Next(StateName::FlowAfter),
-        State::Next(StateName::FlowBeforeContent)
+        State::Next(StateName::Flow(FlowState::After)),
+        State::Next(StateName::Flow(FlowState::BeforeContent))
     ));
-    State::Retry(StateName::ThematicBreakStart)
+    State::Retry(StateName::ThematicBreak(BreakState::Start))
 }
 
 /// Before content.
@@ -103,12 +111,12 @@ pub fn before_thematic_break(tokenizer: &mut Tokenizer) -> State
 ///     ^
 /// ```
 pub fn before_content(tokenizer: &mut Tokenizer) -> State
-    requires { IsAt NeedsNothing StateName.FlowBeforeContent (world tokenizer.old) }
+    requires { IsAt NeedsNothing (StateName.Flow FlowState.BeforeContent) (world tokenizer.old) }
     ensures to { result ≢ State.Error → result ≡ (before_content_transition (world tokenizer.old)).to }
     ensures world { result ≢ State.Error → world tokenizer.new ≡ (before_content_transition (world tokenizer.old)).world }
 {
-    or_error!(tokenizer.attempt(State::Next(StateName::FlowAfter), State::Nok));
-    State::Retry(StateName::ContentChunkStart)
+    or_error!(tokenizer.attempt(State::Next(StateName::Flow(FlowState::After)), State::Nok));
+    State::Retry(StateName::Content(ContentState::ChunkStart))
 }
 
 /// Behind a blank line, at its ending or the end of the text.
@@ -118,13 +126,13 @@ pub fn before_content(tokenizer: &mut Tokenizer) -> State
 ///     ^
 /// ```
 pub fn blank_line_after(tokenizer: &mut Tokenizer) -> State
-    requires { IsAt NeedsNothing StateName.FlowBlankLineAfter (world tokenizer.old) }
+    requires { IsAt NeedsNothing (StateName.Flow FlowState.BlankLineAfter) (world tokenizer.old) }
     ensures to { result ≡ (blank_line_after_transition (world tokenizer.old)).to }
     ensures world { world tokenizer.new ≡ (blank_line_after_transition (world tokenizer.old)).world }
 {
     tokenizer.flags.interrupt = false;
     tokenizer.flags.blank = true;
-    State::Retry(StateName::DocumentFlowEnd)
+    State::Retry(StateName::Document(DocumentState::FlowEnd))
 }
 
 /// Behind any other line, at its ending or the end of the text.
@@ -134,14 +142,32 @@ pub fn blank_line_after(tokenizer: &mut Tokenizer) -> State
 ///        ^
 /// ```
 pub fn after(_tokenizer: &mut Tokenizer) -> State
-    requires { IsAt NeedsNothing StateName.FlowAfter (world _tokenizer.old) }
+    requires { IsAt NeedsNothing (StateName.Flow FlowState.After) (world _tokenizer.old) }
     ensures to { result ≡ (after_transition (world _tokenizer.old)).to }
     ensures world { world _tokenizer.new ≡ (after_transition (world _tokenizer.old)).world }
 {
-    State::Retry(StateName::DocumentFlowEnd)
+    State::Retry(StateName::Document(DocumentState::FlowEnd))
 }
 
 /// Calls a state of flow.
+pub fn call(tokenizer: &mut Tokenizer, state: FlowState) -> State
+    requires { IsAt NeedsNothing (StateName.Flow state) (world tokenizer.old) }
+    ensures to { result ≢ State.Error → result ≡ (flow_own_transition state (world tokenizer.old)).to }
+    ensures world { result ≢ State.Error → world tokenizer.new ≡ (flow_own_transition state (world tokenizer.old)).world }
+{
+    match state {
+        FlowState::Start => start(tokenizer),
+        FlowState::BlankLineBefore => blank_line_before(tokenizer),
+        FlowState::BeforeHeadingAtx => before_heading_atx(tokenizer),
+        FlowState::BeforeThematicBreak => before_thematic_break(tokenizer),
+        FlowState::BeforeContent => before_content(tokenizer),
+        FlowState::BlankLineAfter => blank_line_after(tokenizer),
+        FlowState::After => after(tokenizer),
+        _ => State::Nok,
+    }
+}
+
+/// Calls a state of the table.
 fn call_state(tokenizer: &mut Tokenizer, name: StateName) -> State
     requires current { (world tokenizer.old).current ≡ looks (world tokenizer.old) }
     requires stands { stands flow_table_scheme (world tokenizer.old) (State.Next name) }
@@ -149,42 +175,14 @@ fn call_state(tokenizer: &mut Tokenizer, name: StateName) -> State
     ensures world { result ≢ State.Error → world tokenizer.new ≡ (flow_transition (λ target other. ⟦<ResolveName as PartialEq>⟧.eq other target) name (world tokenizer.old)).world }
 {
     match name {
-        StateName::BlankLineStart => blank_line::start(tokenizer),
-        StateName::BlankLineAfter => blank_line::after(tokenizer),
-        StateName::BlockQuoteStart => block_quote::start(tokenizer),
-        StateName::BlockQuoteContStart => block_quote::cont_start(tokenizer),
-        StateName::BlockQuoteContBefore => block_quote::cont_before(tokenizer),
-        StateName::BlockQuoteContAfter => block_quote::cont_after(tokenizer),
-        StateName::ContentChunkStart => content::chunk_start(tokenizer),
-        StateName::ContentChunkInside => content::chunk_inside(tokenizer),
-        StateName::DocumentContainerExistingBefore => {
-            document::container_existing_before(tokenizer)
-        }
-        StateName::DocumentContainerExistingAfter => document::container_existing_after(tokenizer),
-        StateName::DocumentContainerNewBefore => document::container_new_before(tokenizer),
-        StateName::DocumentContainerNewAfter => document::container_new_after(tokenizer),
-        StateName::DocumentContainersAfter => document::containers_after(tokenizer),
-        StateName::DocumentFlowEnd => document::flow_end(tokenizer),
-        StateName::FlowStart => start(tokenizer),
-        StateName::FlowBlankLineBefore => blank_line_before(tokenizer),
-        StateName::FlowBeforeHeadingAtx => before_heading_atx(tokenizer),
-        StateName::FlowBeforeThematicBreak => before_thematic_break(tokenizer),
-        StateName::FlowBeforeContent => before_content(tokenizer),
-        StateName::FlowBlankLineAfter => blank_line_after(tokenizer),
-        StateName::FlowAfter => after(tokenizer),
-        StateName::HeadingAtxStart => heading_atx::start(tokenizer),
-        StateName::HeadingAtxBefore => heading_atx::before(tokenizer),
-        StateName::HeadingAtxSequenceOpen => heading_atx::sequence_open(tokenizer),
-        StateName::HeadingAtxAtBreak => heading_atx::at_break(tokenizer),
-        StateName::HeadingAtxSequenceFurther => heading_atx::sequence_further(tokenizer),
-        StateName::HeadingAtxData => heading_atx::data(tokenizer),
-        StateName::SpaceOrTabStart => space_or_tab::start(tokenizer),
-        StateName::SpaceOrTabInside => space_or_tab::inside(tokenizer),
-        StateName::SpaceOrTabAfter => space_or_tab::after(tokenizer),
-        StateName::ThematicBreakStart => thematic_break::start(tokenizer),
-        StateName::ThematicBreakBefore => thematic_break::before(tokenizer),
-        StateName::ThematicBreakAtBreak => thematic_break::at_break(tokenizer),
-        StateName::ThematicBreakSequence => thematic_break::sequence(tokenizer),
+        StateName::BlankLine(state) => blank_line::call(tokenizer, state),
+        StateName::BlockQuote(state) => block_quote::call(tokenizer, state),
+        StateName::Content(state) => content::call(tokenizer, state),
+        StateName::Document(state) => document::call(tokenizer, state),
+        StateName::Flow(state) => call(tokenizer, state),
+        StateName::HeadingAtx(state) => heading_atx::call(tokenizer, state),
+        StateName::SpaceOrTab(state) => space_or_tab::call(tokenizer, state),
+        StateName::ThematicBreak(state) => thematic_break::call(tokenizer, state),
         _ => State::Nok,
     }
 }

@@ -1,0 +1,10 @@
+// States of a block quote.
+
+/// Names of the states of a block quote.
+#[derive(Clone, Copy, Debug, PartialEq, Eq)]
+pub enum State {
+    Start,
+    ContStart,
+    ContBefore,
+    ContAfter,
+}

@@ -1,0 +1,8 @@
+// States of a byte order mark.
+
+/// Names of the states of a byte order mark.
+#[derive(Clone, Copy, Debug, PartialEq, Eq)]
+pub enum State {
+    Start,
+    Inside,
+}

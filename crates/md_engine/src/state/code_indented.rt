@@ -1,0 +1,13 @@
+// States of indented code.
+
+/// Names of the states of indented code.
+#[derive(Clone, Copy, Debug, PartialEq, Eq)]
+pub enum State {
+    Start,
+    AtBreak,
+    Inside,
+    After,
+    FurtherStart,
+    FurtherBegin,
+    FurtherAfter,
+}

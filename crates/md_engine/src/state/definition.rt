@@ -1,0 +1,20 @@
+// States of a definition.
+
+/// Names of the states of a definition.
+#[derive(Clone, Copy, Debug, PartialEq, Eq)]
+pub enum State {
+    Start,
+    Before,
+    LabelAfter,
+    LabelNok,
+    MarkerAfter,
+    DestinationBefore,
+    DestinationAfter,
+    DestinationMissing,
+    After,
+    AfterWhitespace,
+    TitleBefore,
+    TitleBeforeMarker,
+    TitleAfter,
+    TitleAfterOptionalWhitespace,
+}

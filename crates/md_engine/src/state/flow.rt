@@ -1,0 +1,18 @@
+// States of flow.
+
+/// Names of the states of flow.
+#[derive(Clone, Copy, Debug, PartialEq, Eq)]
+pub enum State {
+    Start,
+    BlankLineBefore,
+    BeforeCodeIndented,
+    BeforeRaw,
+    BeforeHtml,
+    BeforeHeadingAtx,
+    BeforeHeadingSetext,
+    BeforeThematicBreak,
+    BeforeGfmTable,
+    BeforeContent,
+    BlankLineAfter,
+    After,
+}

@@ -1,0 +1,25 @@
+// States of a table.
+
+/// Names of the states of a table.
+#[derive(Clone, Copy, Debug, PartialEq, Eq)]
+pub enum State {
+    Start,
+    HeadRowBefore,
+    HeadRowStart,
+    HeadRowBreak,
+    HeadRowData,
+    HeadRowEscape,
+    HeadDelimiterStart,
+    HeadDelimiterBefore,
+    HeadDelimiterCellBefore,
+    HeadDelimiterValueBefore,
+    HeadDelimiterLeftAlignmentAfter,
+    HeadDelimiterFiller,
+    HeadDelimiterRightAlignmentAfter,
+    HeadDelimiterCellAfter,
+    HeadDelimiterNok,
+    BodyRowStart,
+    BodyRowBreak,
+    BodyRowData,
+    BodyRowEscape,
+}

@@ -1,0 +1,10 @@
+// States of a setext heading.
+
+/// Names of the states of a setext heading.
+#[derive(Clone, Copy, Debug, PartialEq, Eq)]
+pub enum State {
+    Start,
+    Before,
+    Inside,
+    After,
+}

@@ -1,0 +1,37 @@
+// States of HTML.
+
+/// Names of the states of HTML.
+#[derive(Clone, Copy, Debug, PartialEq, Eq)]
+pub enum State {
+    Start,
+    Before,
+    Open,
+    DeclarationOpen,
+    CommentOpenInside,
+    CdataOpenInside,
+    TagCloseStart,
+    TagName,
+    BasicSelfClosing,
+    CompleteClosingTagAfter,
+    CompleteAttributeNameBefore,
+    CompleteAttributeName,
+    CompleteAttributeNameAfter,
+    CompleteAttributeValueBefore,
+    CompleteAttributeValueQuoted,
+    CompleteAttributeValueUnquoted,
+    CompleteAttributeValueQuotedAfter,
+    CompleteEnd,
+    CompleteAfter,
+    Continuation,
+    ContinuationStart,
+    ContinuationStartNonLazy,
+    ContinuationBefore,
+    ContinuationCommentInside,
+    ContinuationRawTagOpen,
+    ContinuationRawEndTag,
+    ContinuationCdataInside,
+    ContinuationDeclarationInside,
+    ContinuationClose,
+    ContinuationAfter,
+    BlankLineBefore,
+}

@@ -1,0 +1,8 @@
+// States of the check that a further line is not lazy.
+
+/// Names of the states of the check that a further line is not lazy.
+#[derive(Clone, Copy, Debug, PartialEq, Eq)]
+pub enum State {
+    Start,
+    After,
+}

@@ -1,0 +1,9 @@
+// States of a paragraph.
+
+/// Names of the states of a paragraph.
+#[derive(Clone, Copy, Debug, PartialEq, Eq)]
+pub enum State {
+    Start,
+    LineStart,
+    Inside,
+}
