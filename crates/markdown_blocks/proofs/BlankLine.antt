@@ -1,5 +1,5 @@
 -- Blank lines: what is known of their whitespace.
-use Rattle.std.proofs.Common.{◌≡◌, ℕ, zero, suc, ◌+◌, true, List, [], ◌∷◌, ◌++◌, drop, refl, sym, ap, ◌∙◌, subst, arith}
+use Rattle.std.proofs.Common.{◌≡◌, ℕ, ◌+◌, true, List, [], ◌∷◌, ◌++◌, drop, refl, sym, ap, ◌∙◌, subst, arith}
 use Rattle.std.specs.Prelude.{None}
 use Rattle.md_engine.specs.declared.event.Event.{Event}
 use Rattle.md_engine.specs.declared.event.Name.TheVariants as n
@@ -7,12 +7,11 @@ use Rattle.md_engine.specs.declared.event.Point.{Point}
 use Rattle.md_seam.specs.Events.Endings.{line_start}
 use Rattle.md_seam.specs.Events.Nested.{pair}
 use Rattle.md_seam.specs.Events.Places.{past_text}
-use Rattle.md_seam.specs.Standard.Rest.{Rest, cut_tab, is_blank}
+use Rattle.md_seam.specs.Standard.Rest.{Rest, is_blank}
 use Rattle.md_seam.proofs.EndingsLemmas.{others-lead}
 use Rattle.md_seam.proofs.InlineLemmas.{before-text, same-refl}
 use Rattle.md_seam.proofs.NestedLemmas.{at_or_before-refl, balanced-none}
 use Rattle.md_seam.proofs.SpelledLemmas.{read-quiet}
-use Rattle.markdown_blocks.specs.Fronted.{rest_line}
 use Rattle.markdown_blocks.specs.Rows.{blank_line}
 use Rattle.markdown_blocks.proofs.BetweenFacts.{between-pair}
 use Rattle.markdown_blocks.proofs.FillFacts.{fill-same}
@@ -24,6 +23,7 @@ use Rattle.markdown_blocks.proofs.PartsStand.{stands-outside}
 use Rattle.markdown_blocks.proofs.PieceFacts.{Stood, begins-cut, over-front, over-stands, stood-none, stood-pair}
 use Rattle.markdown_blocks.proofs.PiecesLemmas.{tiled-none, tiled-pair}
 use Rattle.markdown_blocks.proofs.PlainFacts.{plain-nil, plain-quiet}
+use Rattle.markdown_blocks.proofs.RestRows.{line-blank}
 use Rattle.markdown_blocks.proofs.SpanLemmas.{Nested_in, around-nested}
 
 -- an empty line
@@ -47,8 +47,9 @@ empty-facts bytes p = record {
 }
 
 -- whitespace
-white-facts : (bytes line rest : List ℕ) (b : ℕ) (p : Point) → is_blank (b ∷ line) ≡ true → drop p.index bytes ≡ (b ∷ line) ++ rest →
-    LeafFacts bytes None p (past_text (b ∷ line) p) (pair n.SpaceOrTab p (past_text (b ∷ line) p)) (pair n.SpaceOrTab p (past_text (b ∷ line) p))
+white-facts : (bytes line rest : List ℕ) (b : ℕ) (p : Point) → is_blank (b ∷ line) ≡ true →
+    drop p.index bytes ≡ (b ∷ line) ++ rest → LeafFacts bytes None p (past_text (b ∷ line) p)
+    (pair n.SpaceOrTab p (past_text (b ∷ line) p)) (pair n.SpaceOrTab p (past_text (b ∷ line) p))
 white-facts bytes line rest b p blank text = record {
   unread_nested = nested;
   nested = nested;
@@ -79,23 +80,17 @@ white-facts bytes line rest b p blank text = record {
     stood : Stood bytes white
     stood = stood-pair bytes n.SpaceOrTab p q (over-stands bytes n.SpaceOrTab p q (b ∷ line) (over-front bytes p q (b ∷ line) rest text (omega arith) refl) (begins-cut n.SpaceOrTab p refl) blank)
 
--- a tab that is cut in front of it is whitespace too
-rest-blank : (r : Rest) → is_blank r.bytes ≡ true → is_blank (rest_line r) ≡ true
-rest-blank r h = go r.spaces
-  where
-    go : (spaces : ℕ) → is_blank (cut_tab spaces ++ r.bytes) ≡ true
-    go zero = h
-    go (suc k) = h
-
 -- A blank line shows no block.
-pub blank-facts : (bytes line : List ℕ) (r : Rest) (p q : Point) → is_blank r.bytes ≡ true → LineAt bytes r line p q → LeafFacts bytes None p q (blank_line line p) (blank_line line p)
+pub blank-facts : (bytes line : List ℕ) (r : Rest) (p q : Point) → is_blank r.bytes ≡ true → LineAt bytes r line p q →
+    LeafFacts bytes None p q (blank_line line p) (blank_line line p)
 blank-facts bytes line r p q blank at =
-    subst (λ (x : Point). LeafFacts bytes None p x (blank_line line p) (blank_line line p)) (sym at.end) (go line (ap is_blank at.line_is ∙ rest-blank r blank) text)
+    subst (λ (x : Point). LeafFacts bytes None p x (blank_line line p) (blank_line line p)) (sym at.end) (go line (ap is_blank at.line_is ∙ line-blank r ∙ blank) text)
   where
     text : drop p.index bytes ≡ line ++ drop q.index bytes
     text = line-stands bytes r line p q at
 
-    go : (line : List ℕ) → is_blank line ≡ true → drop p.index bytes ≡ line ++ drop q.index bytes → LeafFacts bytes None p (past_text line p) (blank_line line p) (blank_line line p)
+    go : (line : List ℕ) → is_blank line ≡ true → drop p.index bytes ≡ line ++ drop q.index bytes →
+        LeafFacts bytes None p (past_text line p) (blank_line line p) (blank_line line p)
     go [] blank text = empty-facts bytes p
     go (b ∷ line) blank text = white-facts bytes line (drop q.index bytes) b p blank text
 

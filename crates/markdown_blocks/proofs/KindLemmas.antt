@@ -1,25 +1,26 @@
 -- What a line is by its kind, whichever leaves there are.
 use Rattle.std.proofs.Common.{◌≡◌, Bool, true, false, cond, List, [], ◌∷◌, Option, Some, None, refl, ap₂}
 use Rattle.md_engine.specs.declared.configuration.ParseOptions.{ParseOptions}
-use Rattle.md_engine.specs.Meaning.{Cell}
-use Rattle.md_seam.specs.Ahead.{line_bytes}
 use Rattle.md_seam.specs.Standard.Rest.{Rest, is_blank}
 use Rattle.markdown_blocks.specs.Registry.{LeafName, first_of, leaf, trials}
-use Rattle.markdown_blocks.specs.Rows.{BlankRow, LeafRow, kind_of, line_kind, row_kind}
+use Rattle.markdown_blocks.specs.Rows.{BlankRow, LeafRow, kind_of, line_kind}
 
 -- Tests of leaves.
 
 -- tests that agree find the same leaf
-pub first-agrees : (f g : LeafName → Bool) → ((l : LeafName) → f l ≡ g l) → (ls : List LeafName) → first_of f ls ≡ first_of g ls
+pub first-agrees : (f g : LeafName → Bool) → ((l : LeafName) → f l ≡ g l) → (ls : List LeafName) →
+    first_of f ls ≡ first_of g ls
 first-agrees f g same [] = refl
 first-agrees f g same (l ∷ ls) = ap₂ (λ (t : Bool) (found : Option LeafName). cond t (Some l) found) (same l) (first-agrees f g same ls)
 
 -- the leaf that a test finds passes it
-pub first-passes : (test : LeafName → Bool) (ls : List LeafName) (l : LeafName) → first_of test ls ≡ Some l → test l ≡ true
+pub first-passes : (test : LeafName → Bool) (ls : List LeafName) (l : LeafName) → first_of test ls ≡ Some l →
+    test l ≡ true
 first-passes test [] l e = cc
 first-passes test (k ∷ ls) l e = go (test k) refl e (first-passes test ls l)
   where
-    go : (t : Bool) → test k ≡ t → cond t (Some k) (first_of test ls) ≡ Some l → (first_of test ls ≡ Some l → test l ≡ true) → test l ≡ true
+    go : (t : Bool) → test k ≡ t → cond t (Some k) (first_of test ls) ≡ Some l →
+        (first_of test ls ≡ Some l → test l ≡ true) → test l ≡ true
     go true passes e more = cc
     go false passes e more = more e
 
@@ -31,25 +32,18 @@ kind-is_blank true found e = refl
 kind-is_blank false None e = cc
 kind-is_blank false (Some l) e = cc
 
-kind-found : (blank : Bool) (found : Option LeafName) (l : LeafName) → cond blank BlankRow (kind_of found) ≡ LeafRow l → found ≡ Some l
+kind-found : (blank : Bool) (found : Option LeafName) (l : LeafName) → cond blank BlankRow (kind_of found) ≡ LeafRow l →
+    found ≡ Some l
 kind-found true found l e = cc
 kind-found false None l e = cc
 kind-found false (Some k) l e = cc
 
--- by the rest of a line: it is blank, or its leaf starts there
+-- so the line is blank, or its leaf starts there
 pub kind-blank : (options : ParseOptions) (r : Rest) → line_kind options r ≡ BlankRow → is_blank r.bytes ≡ true
 kind-blank options r e = kind-is_blank (is_blank r.bytes) (first_of (λ l. (leaf l).starts options r) trials) e
 
-pub kind-starts : (options : ParseOptions) (r : Rest) (l : LeafName) → line_kind options r ≡ LeafRow l → (leaf l).starts options r ≡ true
+pub kind-starts : (options : ParseOptions) (r : Rest) (l : LeafName) → line_kind options r ≡ LeafRow l →
+    (leaf l).starts options r ≡ true
 kind-starts options r l e =
     let found : Option LeafName = first_of (λ k. (leaf k).starts options r) trials in
     first-passes (λ k. (leaf k).starts options r) trials l (kind-found (is_blank r.bytes) found l e)
-
--- by its cells: it is blank, or its leaf takes it
-pub row-blank : (options : ParseOptions) (cells : List Cell) → row_kind options cells ≡ BlankRow → is_blank (line_bytes cells) ≡ true
-row-blank options cells e = kind-is_blank (is_blank (line_bytes cells)) (first_of (λ l. (leaf l).takes options cells) trials) e
-
-pub row-takes : (options : ParseOptions) (cells : List Cell) (l : LeafName) → row_kind options cells ≡ LeafRow l → (leaf l).takes options cells ≡ true
-row-takes options cells l e =
-    let found : Option LeafName = first_of (λ k. (leaf k).takes options cells) trials in
-    first-passes (λ k. (leaf k).takes options cells) trials l (kind-found (is_blank (line_bytes cells)) found l e)

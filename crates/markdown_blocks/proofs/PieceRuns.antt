@@ -38,8 +38,9 @@ abbrev pub run_event : Name → Kind → Bool → Point → Event
 run_event name kind white p = record { kind = kind; name = cond white n.SpaceOrTab name; point = p; link = None }
 
 -- what holds of no events, and of one more such, holds of all runs
-pub runs-each : (P : List Event → Type 0) (name : Name) → P [] → ((kind : Kind) (white : Bool) (p : Point) (es : List Event) → P es → P (run_event name kind white p ∷ es)) → (run : Run) (m : ℕ) (bs : List ℕ) (p : Point) →
-    P (mark_runs name run m bs p)
+pub runs-each : (P : List Event → Type 0) (name : Name) → P [] →
+    ((kind : Kind) (white : Bool) (p : Point) (es : List Event) → P es → P (run_event name kind white p ∷ es)) →
+    (run : Run) (m : ℕ) (bs : List ℕ) (p : Point) → P (mark_runs name run m bs p)
 runs-each P name none more Apart m [] p = none
 runs-each P name none more Marks m [] p = more Exit false p [] none
 runs-each P name none more White m [] p = more Exit true p [] none
@@ -62,7 +63,9 @@ open_in name White = n.SpaceOrTab ∷ []
 abbrev Ends_all : List Name → List Event → Type 0
 Ends_all names es = Matches names es × (open_after names es ≡ [])
 
-runs-end : (name : Name) (run : Run) (m : ℕ) (bs : List ℕ) (p : Point) → Ends_all (open_in name run) (mark_runs name run m bs p)
+-- so the runs that are left do
+runs-end : (name : Name) (run : Run) (m : ℕ) (bs : List ℕ) (p : Point) →
+    Ends_all (open_in name run) (mark_runs name run m bs p)
 runs-end name Apart m [] p = (tt, refl)
 runs-end name Marks m [] p = ((refl, tt), refl)
 runs-end name White m [] p = ((refl, tt), refl)
@@ -78,7 +81,8 @@ runs-end name White m (b ∷ bs) p =
     either (Ends_all (n.SpaceOrTab ∷ [])) (b == m) _ _ ((refl, (tt, marks.0)), marks.1) (runs-end name White m bs (past_byte b p))
 
 -- from a point at or before the one where they are, up to the end of the bytes
-runs-span : (name : Name) (run : Run) (m : ℕ) (bs : List ℕ) (p q : Point) → IsTrue (at_or_before p q) → Spans p (past_text bs q) (mark_runs name run m bs q)
+runs-span : (name : Name) (run : Run) (m : ℕ) (bs : List ℕ) (p q : Point) → IsTrue (at_or_before p q) →
+    Spans p (past_text bs q) (mark_runs name run m bs q)
 runs-span name Apart m [] p q h = (tt, h)
 runs-span name Marks m [] p q h = ((h, tt), at_or_before-refl q)
 runs-span name White m [] p q h = ((h, tt), at_or_before-refl q)
@@ -96,7 +100,9 @@ runs-span name White m (b ∷ bs) p q h =
     let marks = runs-span name Marks m bs q (past_byte b q) on in
     either (Spans p (past_text bs (past_byte b q))) (b == m) _ _ ((h, (at_or_before-refl q, marks.0)), marks.1) (runs-span name White m bs p (past_byte b q) (at_or_before-trans p q (past_byte b q) h on))
 
-pub runs-nested : (name : Name) (m : ℕ) (bs : List ℕ) (p : Point) → Nested_in p (past_text bs p) (mark_runs name Apart m bs p)
+-- all runs of some bytes nest between their begin and their end
+pub runs-nested : (name : Name) (m : ℕ) (bs : List ℕ) (p : Point) →
+    Nested_in p (past_text bs p) (mark_runs name Apart m bs p)
 runs-nested name m bs p =
     let ends = runs-end name Apart m bs p in
     (record { matches = ends.0; closed = ends.1 }, runs-span name Apart m bs p p (at_or_before-refl p))
@@ -104,7 +110,8 @@ runs-nested name m bs p =
 -- How they lie side by side.
 
 -- a run that has begun is shut, and others may follow
-runs-shut : (name : Name) (run : Run) (m : ℕ) (bs : List ℕ) (e : Event) (p : Point) → run ≢ Apart → e.kind ≡ Enter → Shut e (past_text bs p) (mark_runs name run m bs p)
+runs-shut : (name : Name) (run : Run) (m : ℕ) (bs : List ℕ) (e : Event) (p : Point) → run ≢ Apart → e.kind ≡ Enter →
+    Shut e (past_text bs p) (mark_runs name run m bs p)
 runs-shut name Apart m bs e p ok h = absurd (ok refl)
 runs-shut name Marks m [] e p ok h = shut-exit e (exit name p) p [] h refl (tiled-none p p (same-refl p))
 runs-shut name White m [] e p ok h = shut-exit e (exit n.SpaceOrTab p) p [] h refl (tiled-none p p (same-refl p))
@@ -122,7 +129,9 @@ runs-shut name White m (b ∷ bs) e p ok h =
     (shut-exit e (exit n.SpaceOrTab p) end (marks ∷ more) h refl (tiled-enter marks end more refl (runs-shut name Marks m bs marks (past_byte b p) (λ k. cc) refl)))
     (runs-shut name White m bs e (past_byte b p) ok h)
 
-pub runs-tiled : (name : Name) (m : ℕ) (bs : List ℕ) (p : Point) → Tiled p (past_text bs p) (mark_runs name Apart m bs p)
+-- all runs of some bytes cover them
+pub runs-tiled : (name : Name) (m : ℕ) (bs : List ℕ) (p : Point) →
+    Tiled p (past_text bs p) (mark_runs name Apart m bs p)
 runs-tiled name m [] p = tiled-none p p (same-refl p)
 runs-tiled name m (b ∷ bs) p =
     let marks : Event = enter name p in
@@ -162,12 +171,14 @@ record Begun (bytes : List ℕ) (run : Run) (m : ℕ) (p q : Point) (ys rest : L
   cut : ((p.vs == 0) || may_cut run) ≡ true
 
 -- it begins with a byte
-begun-first : (bytes : List ℕ) (run : Run) (m : ℕ) (p : Point) (b : ℕ) (rest : List ℕ) → drop p.index bytes ≡ b ∷ rest → goes_on run m b ≡ true → ((p.vs == 0) || may_cut run) ≡ true →
-    Begun bytes run m p (past_byte b p) (b ∷ []) rest
+begun-first : (bytes : List ℕ) (run : Run) (m : ℕ) (p : Point) (b : ℕ) (rest : List ℕ) → drop p.index bytes ≡ b ∷ rest →
+    goes_on run m b ≡ true → ((p.vs == 0) || may_cut run) ≡ true → Begun bytes run m p (past_byte b p) (b ∷ []) rest
 begun-first bytes run m p b rest e h cut = record { text = e; some = omega arith; all = and_from (goes_on run m b) true h refl; end = refl; cut = cut }
 
 -- and goes on with another
-begun-next : (bytes : List ℕ) (run : Run) (m : ℕ) (p q : Point) (ys : List ℕ) (b : ℕ) (rest : List ℕ) → Begun bytes run m p q ys (b ∷ rest) → goes_on run m b ≡ true → Begun bytes run m p (past_byte b q) (ys ++ b ∷ []) rest
+begun-next : (bytes : List ℕ) (run : Run) (m : ℕ) (p q : Point) (ys : List ℕ) (b : ℕ) (rest : List ℕ) →
+    Begun bytes run m p q ys (b ∷ rest) → goes_on run m b ≡ true →
+    Begun bytes run m p (past_byte b q) (ys ++ b ∷ []) rest
 begun-next bytes run m p q ys b rest h on = record {
   text = h.text ∙ sym (append_assoc ys (b ∷ []) rest);
   some = let size = length-append ys (b ∷ []) in let some = h.some in omega arith;
@@ -177,15 +188,18 @@ begun-next bytes run m p q ys b rest h on = record {
 }
 
 -- what stands behind it
-begun-left : (bytes : List ℕ) (run : Run) (m : ℕ) (p q : Point) (ys rest : List ℕ) → Begun bytes run m p q ys rest → drop q.index bytes ≡ rest
+begun-left : (bytes : List ℕ) (run : Run) (m : ℕ) (p q : Point) (ys rest : List ℕ) → Begun bytes run m p q ys rest →
+    drop q.index bytes ≡ rest
 begun-left bytes run m p q ys rest h = ap (λ (i : ℕ). drop i bytes) (ap (λ (r : Point). r.index) h.end ∙ past-index ys p) ∙ drop-past bytes p.index ys rest h.text
 
 -- what it is over
-begun-over : (bytes : List ℕ) (run : Run) (m : ℕ) (p q : Point) (ys rest : List ℕ) → Begun bytes run m p q ys rest → Over bytes p q ys
+begun-over : (bytes : List ℕ) (run : Run) (m : ℕ) (p q : Point) (ys rest : List ℕ) → Begun bytes run m p q ys rest →
+    Over bytes p q ys
 begun-over bytes run m p q ys rest h = over-front bytes p q ys rest h.text h.some h.end
 
 -- its piece
-begun-marks : (bytes : List ℕ) (name : Name) (m : ℕ) (p q : Point) (ys rest : List ℕ) → IsMarker name m → Begun bytes Marks m p q ys rest → piece_stands bytes (span name p q) ≡ true
+begun-marks : (bytes : List ℕ) (name : Name) (m : ℕ) (p q : Point) (ys rest : List ℕ) → IsMarker name m →
+    Begun bytes Marks m p q ys rest → piece_stands bytes (span name p q) ≡ true
 begun-marks bytes name m p q ys rest is h = over-stands bytes name p q ys (begun-over bytes Marks m p q ys rest h) (begins-whole name p (whole (p.vs == 0) refl h.cut)) (is ys h.some h.all)
   where
     whole : (x : Bool) → (p.vs == 0) ≡ x → (x || false) ≡ true → p.vs ≡ 0
@@ -193,7 +207,8 @@ begun-marks bytes name m p q ys rest is h = over-stands bytes name p q ys (begun
     whole false e h = cc
 
 -- the piece of whitespace
-begun-white : (bytes : List ℕ) (m : ℕ) (p q : Point) (ys rest : List ℕ) → Begun bytes White m p q ys rest → piece_stands bytes (span n.SpaceOrTab p q) ≡ true
+begun-white : (bytes : List ℕ) (m : ℕ) (p q : Point) (ys rest : List ℕ) → Begun bytes White m p q ys rest →
+    piece_stands bytes (span n.SpaceOrTab p q) ≡ true
 begun-white bytes m p q ys rest h = over-stands bytes n.SpaceOrTab p q ys (begun-over bytes White m p q ys rest h) h.cut h.all
 
 -- the other run
@@ -209,15 +224,19 @@ abbrev Left : List ℕ → Name → Run → ℕ → List ℕ → Point → Point
 Left bytes name run m xs p q = pieces_stand bytes (pieces_from (enter (run_name name run) p) (mark_runs name run m xs q)) ≡ true
 
 -- so it is in each run
-runs-left : (bytes : List ℕ) (name : Name) (run : Run) (m : ℕ) (xs rest ys : List ℕ) (p q : Point) → IsMarker name m → run ≢ Apart → is_white m ≡ false → AreMarks m xs → Begun bytes run m p q ys (xs ++ rest) → Left bytes name run m xs p q
+runs-left : (bytes : List ℕ) (name : Name) (run : Run) (m : ℕ) (xs rest ys : List ℕ) (p q : Point) → IsMarker name m →
+    run ≢ Apart → is_white m ≡ false → AreMarks m xs → Begun bytes run m p q ys (xs ++ rest) →
+    Left bytes name run m xs p q
 runs-left bytes name Apart m xs rest ys p q is ok apart marks h = absurd (ok refl)
 runs-left bytes name Marks m [] rest ys p q is ok apart marks h = and_from _ true (begun-marks bytes name m p q ys rest is h) refl
 runs-left bytes name White m [] rest ys p q is ok apart marks h = and_from _ true (begun-white bytes m p q ys rest h) refl
 runs-left bytes name Marks m (b ∷ xs) rest ys p q is ok apart marks h =
     go (b == m) refl (λ k. runs-left bytes name Marks m xs rest (ys ++ b ∷ []) p (past_byte b q) is ok apart marks.1 k) (λ k. runs-left bytes name White m xs rest (b ∷ []) q (past_byte b q) is (λ e. cc) apart marks.1 k)
   where
-    go : (x : Bool) → (b == m) ≡ x → (Begun bytes Marks m p (past_byte b q) (ys ++ b ∷ []) (xs ++ rest) → Left bytes name Marks m xs p (past_byte b q)) →
-        (Begun bytes White m q (past_byte b q) (b ∷ []) (xs ++ rest) → Left bytes name White m xs q (past_byte b q)) → Left bytes name Marks m (b ∷ xs) p q
+    go : (x : Bool) → (b == m) ≡ x →
+        (Begun bytes Marks m p (past_byte b q) (ys ++ b ∷ []) (xs ++ rest) → Left bytes name Marks m xs p (past_byte b q)) →
+        (Begun bytes White m q (past_byte b q) (b ∷ []) (xs ++ rest) → Left bytes name White m xs q (past_byte b q)) →
+        Left bytes name Marks m (b ∷ xs) p q
     go true e same next = rw e (same (begun-next bytes Marks m p q ys b (xs ++ rest) h e))
     go false e same next =
         let over : Over bytes p q ys = begun-over bytes Marks m p q ys (b ∷ xs ++ rest) h in
@@ -226,8 +245,10 @@ runs-left bytes name Marks m (b ∷ xs) rest ys p q is ok apart marks h =
 runs-left bytes name White m (b ∷ xs) rest ys p q is ok apart marks h =
     go (b == m) refl (λ k. runs-left bytes name White m xs rest (ys ++ b ∷ []) p (past_byte b q) is ok apart marks.1 k) (λ k. runs-left bytes name Marks m xs rest (b ∷ []) q (past_byte b q) is (λ e. cc) apart marks.1 k)
   where
-    go : (x : Bool) → (b == m) ≡ x → (Begun bytes White m p (past_byte b q) (ys ++ b ∷ []) (xs ++ rest) → Left bytes name White m xs p (past_byte b q)) →
-        (Begun bytes Marks m q (past_byte b q) (b ∷ []) (xs ++ rest) → Left bytes name Marks m xs q (past_byte b q)) → Left bytes name White m (b ∷ xs) p q
+    go : (x : Bool) → (b == m) ≡ x →
+        (Begun bytes White m p (past_byte b q) (ys ++ b ∷ []) (xs ++ rest) → Left bytes name White m xs p (past_byte b q)) →
+        (Begun bytes Marks m q (past_byte b q) (b ∷ []) (xs ++ rest) → Left bytes name Marks m xs q (past_byte b q)) →
+        Left bytes name White m (b ∷ xs) p q
     go true e same next =
         let over : Over bytes p q ys = begun-over bytes White m p q ys (b ∷ xs ++ rest) h in
         rw e (and_from (piece_stands bytes (span n.SpaceOrTab p q)) _ (begun-white bytes m p q ys (b ∷ xs ++ rest) h)
@@ -235,11 +256,13 @@ runs-left bytes name White m (b ∷ xs) rest ys p q is ok apart marks h =
     go false e same next = rw e (same (begun-next bytes White m p q ys b (xs ++ rest) h (other-run m b marks.0 e)))
 
 -- where a byte is the marker no tab is cut
-marker-whole : (p : Point) (m b : ℕ) → is_white m ≡ false → (b == m) ≡ true → ((p.vs == 0) || (b == 9)) ≡ true → ((p.vs == 0) || false) ≡ true
+marker-whole : (p : Point) (m b : ℕ) → is_white m ≡ false → (b == m) ≡ true → ((p.vs == 0) || (b == 9)) ≡ true →
+    ((p.vs == 0) || false) ≡ true
 marker-whole p m b apart e cut = grind (arith, nat_tests)
 
 -- All runs of some bytes stand.
-pub runs-stand : (bytes : List ℕ) (name : Name) (m : ℕ) (xs rest : List ℕ) (p : Point) → IsMarker name m → is_white m ≡ false → AreMarks m xs → drop p.index bytes ≡ xs ++ rest → CutsFirst p xs →
+pub runs-stand : (bytes : List ℕ) (name : Name) (m : ℕ) (xs rest : List ℕ) (p : Point) → IsMarker name m →
+    is_white m ≡ false → AreMarks m xs → drop p.index bytes ≡ xs ++ rest → CutsFirst p xs →
     pieces_stand bytes (pieces (mark_runs name Apart m xs p)) ≡ true
 runs-stand bytes name m [] rest p is apart marks e cut = refl
 runs-stand bytes name m (b ∷ xs) rest p is apart marks e cut = go (b == m) refl

@@ -22,7 +22,7 @@ use Rattle.markdown_blocks.proofs.RestFacts.{rest-no_ending, rest-same, spread-l
 -- Its bytes.
 
 -- a tab that is cut does not count where they are blank
-line-blank : (r : Rest) → is_blank (rest_line r) ≡ is_blank r.bytes
+pub line-blank : (r : Rest) → is_blank (rest_line r) ≡ is_blank r.bytes
 line-blank r = go r.spaces
   where
     go : (spaces : ℕ) → is_blank (cut_tab spaces ++ r.bytes) ≡ is_blank r.bytes

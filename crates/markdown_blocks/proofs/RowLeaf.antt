@@ -25,10 +25,12 @@ block_of (LeafRow l) r = Some ((leaf l).block r)
 block_of TextRow r = None
 
 -- its bytes in the text are those of its rest
-row-text : (options : ParseOptions) (bytes line : List ℕ) (row : Row) → (is : IsRow options bytes line row) → row_line bytes row ≡ rest_line is.rest
+row-text : (options : ParseOptions) (bytes line : List ℕ) (row : Row) → (is : IsRow options bytes line row) →
+    row_line bytes row ≡ rest_line is.rest
 row-text options bytes line row is = is.text ∙ is.line_is
 
-leaf-at : (options : ParseOptions) (bytes line : List ℕ) (row : Row) → (is : IsRow options bytes line row) → LineAt bytes is.rest (rest_line is.rest) row.first row.end
+leaf-at : (options : ParseOptions) (bytes line : List ℕ) (row : Row) → (is : IsRow options bytes line row) →
+    LineAt bytes is.rest (rest_line is.rest) row.first row.end
 leaf-at options bytes line row is = subst (λ (l : List ℕ). LineAt bytes is.rest l row.first row.end) is.line_is (line-at options bytes line row is)
 
 -- A line that is no text, by its kind.
@@ -36,8 +38,9 @@ leaf-at options bytes line row is = subst (λ (l : List ℕ). LineAt bytes is.re
 abbrev Facts : List ℕ → Row → Rest → RowKind → Type 0
 Facts bytes row r kind = LeafFacts bytes (block_of kind r) row.first row.end (leaf_unread bytes kind row) (leaf_done bytes kind row)
 
-pub row-facts : (options : ParseOptions) (bytes line : List ℕ) (row : Row) → (is : IsRow options bytes line row) → row.kind ≢ TextRow →
-    LeafFacts bytes (block_of row.kind is.rest) row.first row.end (leaf_unread bytes row.kind row) (leaf_done bytes row.kind row)
+pub row-facts : (options : ParseOptions) (bytes line : List ℕ) (row : Row) → (is : IsRow options bytes line row) →
+    row.kind ≢ TextRow → LeafFacts bytes (block_of row.kind is.rest) row.first row.end (leaf_unread bytes row.kind row)
+    (leaf_done bytes row.kind row)
 row-facts options bytes line row is other = go row.kind refl
   where
     go : (kind : RowKind) → row.kind ≡ kind → Facts bytes row is.rest row.kind
@@ -56,12 +59,14 @@ row-facts options bytes line row is other = go row.kind refl
 abbrev pub IsLeaf : List ℕ → Row → Type 0
 IsLeaf bytes row = (block : Option Block) × LeafFacts bytes block row.first row.end (leaf_unread bytes row.kind row) (leaf_done bytes row.kind row)
 
-pub row-leaf : (options : ParseOptions) (bytes line : List ℕ) (row : Row) → IsRow options bytes line row → row.kind ≢ TextRow → IsLeaf bytes row
+pub row-leaf : (options : ParseOptions) (bytes line : List ℕ) (row : Row) → IsRow options bytes line row →
+    row.kind ≢ TextRow → IsLeaf bytes row
 row-leaf options bytes line row is other = (block_of row.kind is.rest, row-facts options bytes line row is other)
 
 -- its text parts are read in the places of their chunks
-pub row-becomes : (options : ParseOptions) (bytes line : List ℕ) (row : Row) → IsRow options bytes line row → row.kind ≢ TextRow →
-    (wants : Content → Bool) (reads : Readings) → wants content.Text ≡ true → ReadsText bytes reads → Becomes wants reads (leaf_unread bytes row.kind row) (leaf_done bytes row.kind row)
+pub row-becomes : (options : ParseOptions) (bytes line : List ℕ) (row : Row) → IsRow options bytes line row →
+    row.kind ≢ TextRow → (wants : Content → Bool) (reads : Readings) → wants content.Text ≡ true →
+    ReadsText bytes reads → Becomes wants reads (leaf_unread bytes row.kind row) (leaf_done bytes row.kind row)
 row-becomes options bytes line row is other wants reads text read = go row.kind refl
   where
     By : RowKind → Type 0

@@ -8,6 +8,7 @@ use Rattle.md_engine.specs.declared.state.document.State.TheVariants as document
 use Rattle.md_engine.specs.declared.state.space_or_tab.State.{State as WhiteState}
 use Rattle.md_engine.specs.declared.state.space_or_tab.State.TheVariants as white
 use Rattle.md_engine.specs.declared.state.flow.State.{State as FlowState}
+use Rattle.md_engine.specs.declared.state.flow.State.TheVariants as leaf
 use Rattle.std.proofs.Common.{◌≡◌, ℕ, ◌&&◌, Bool, true, false, nat_eq, nat_lt, nat_le, Option, Some, None, length, refl}
 use Rattle.md_engine.specs.declared.event.Name.TheVariants as n
 use Rattle.md_engine.specs.declared.resolve.Name.TheVariants as r
@@ -88,6 +89,7 @@ containers-register document.FlowEnd w h = flow-end (closed w (stays w.flags) w.
 containers-register _ w h = h
 
 leaves-register : (state : FlowState) (w : World) → Registers w → Registers (flow.flow_own_transition state w).world
+leaves-register leaf.Start w h = h
 leaves-register _ w h = h
 
 chunk-registers : (state : ContentState) (w : World) → Registers w → Registers (chunk_transition (same_name r.Content) state w).world

@@ -1,74 +1,20 @@
--- What stands in a break and in an ATX heading keeps the grammar of events.
-use Rattle.std.proofs.Common.{◌≡◌, ℕ, Bool, true, false, cond, ◌&&◌, List, [], ◌∷◌, ◌++◌, length, take, refl, ap, sym, ◌∙◌, subst}
-use Rattle.std.specs.Prelude.{◌==◌, ◌+◌}
+-- What stands in an ATX heading keeps the grammar of events.
+use Rattle.std.proofs.Common.{◌≡◌, ℕ, Bool, true, false, ◌&&◌, List, [], ◌∷◌, ◌++◌, length, take, refl, ap, sym, ◌∙◌, subst}
+use Rattle.std.specs.Prelude.{◌+◌}
 use Rattle.std.specs.List.{AllPass}
-use Rattle.std.proofs.lemmas.Bool.{and_parts, eq-eqb, eqb-true}
+use Rattle.std.proofs.lemmas.Bool.{and_parts, eqb-true}
 use Rattle.md_engine.specs.declared.event.Event.{Event}
 use Rattle.md_engine.specs.declared.event.Name.TheVariants as n
 use Rattle.md_engine.specs.declared.event.Point.{Point}
-use Rattle.md_engine.specs.Meaning.{Cell}
-use Rattle.md_leaves.specs.BreakRule.{Apart, Marks, Run, White, runs}
 use Rattle.md_leaves.specs.HeadingRule as heading
 use Rattle.md_leaves.specs.HeadingTitle.{front_len, line_runs, text_of, title_of}
 use Rattle.md_leaves.proofs.TitleLemmas.{front-runs, hashes-cut, hashes-some, parts-drop, parts-take}
 use Rattle.md_leaves.proofs.TitleRuns.{hash-runs, is_hash, pass-first, runs-cut, white-runs, white-stops}
 use Rattle.md_leaves.proofs.TitleTexts.{Behind, Closed, Empty, Parted, Plain, Shape, parted}
-use Rattle.md_seam.specs.Ahead.{line_bytes, line_cells}
 use Rattle.md_seam.specs.Events.Grammar.{Expression, Nothing, behind, inside, may_end}
-use Rattle.md_seam.specs.Standard.Leaves.{is_rule}
-use Rattle.md_seam.specs.Events.Nested.{enter, exit}
 use Rattle.md_seam.specs.Events.Places.{past_text}
 use Rattle.md_seam.specs.Standard.Rest.{is_white, trim_start}
 use Rattle.md_seam.proofs.GrammarLemmas.{IsWord, Leads, leads-append, maybe, word-behind}
-
--- two words are one whichever is taken
-either-word : (text : Expression) (from : List Expression) (t : Bool) (xs ys : List Event) → IsWord text from xs → IsWord text from ys →
-    IsWord text from (cond t xs ys)
-either-word text from true xs ys h k = h
-either-word text from false xs ys h k = k
-
--- Breaks.
-
--- the run of markers and that of whitespace, and what is left of a break behind each
-abbrev run_of : Bool → Run
-run_of true = Marks
-run_of false = White
-
-abbrev behind_run : Bool → Expression
-behind_run true = behind n.ThematicBreakSequence (inside Nothing n.ThematicBreak)
-behind_run false = behind n.SpaceOrTab (behind n.ThematicBreakSequence (inside Nothing n.ThematicBreak))
-
--- in a run, what is left of the line
-runs-word : (text : Expression) (m : ℕ) (marks : Bool) (cells : List Cell) (p : Point) →
-    IsWord text (Nothing ∷ behind_run marks ∷ []) (runs (run_of marks) m cells p)
-runs-word text m true [] p = record { left = behind_run true; leads = λ outer. refl; ends = refl }
-runs-word text m false [] p = record { left = behind_run false; leads = λ outer. refl; ends = refl }
-runs-word text m true (c ∷ cs) p =
-    let on : IsWord text (Nothing ∷ behind_run false ∷ []) (runs White m cs c.after) = runs-word text m false cs c.after in
-    either-word text (Nothing ∷ behind_run true ∷ []) (c.byte == m) (runs Marks m cs c.after) (exit n.ThematicBreakSequence p ∷ enter n.SpaceOrTab p ∷ runs White m cs c.after) (runs-word text m true cs c.after)
-    (record { left = on.left; leads = on.leads; ends = on.ends })
-runs-word text m false (c ∷ cs) p =
-    let on : IsWord text (Nothing ∷ behind_run true ∷ []) (runs Marks m cs c.after) = runs-word text m true cs c.after in
-    either-word text (Nothing ∷ behind_run false ∷ []) (c.byte == m) (exit n.SpaceOrTab p ∷ enter n.ThematicBreakSequence p ∷ runs Marks m cs c.after) (runs White m cs c.after)
-    (record { left = on.left; leads = on.leads; ends = on.ends }) (runs-word text m false cs c.after)
-
--- A break, behind its indent.
-pub break-word : (text : Expression) (indented : Bool) (c : Cell) (cs : List Cell) (p : Point) → is_rule (line_bytes (c ∷ cs)) ≡ true →
-    IsWord text (maybe indented n.SpaceOrTab (inside text n.ThematicBreak) ∷ []) (runs Apart c.byte (line_cells (c ∷ cs)) p)
-break-word text indented c cs p h = go (c.byte == 10) refl
-  where
-    from : List Expression
-    from = maybe indented n.SpaceOrTab (inside text n.ThematicBreak) ∷ []
-
-    begin : (indented : Bool) → IsWord text (maybe indented n.SpaceOrTab (inside text n.ThematicBreak) ∷ []) (enter n.ThematicBreakSequence p ∷ runs Marks c.byte (line_cells cs) c.after)
-    begin true = let on : IsWord text (Nothing ∷ behind_run true ∷ []) (runs Marks c.byte (line_cells cs) c.after) = runs-word text c.byte true (line_cells cs) c.after in record { left = on.left; leads = on.leads; ends = on.ends }
-    begin false = let on : IsWord text (Nothing ∷ behind_run true ∷ []) (runs Marks c.byte (line_cells cs) c.after) = runs-word text c.byte true (line_cells cs) c.after in record { left = on.left; leads = on.leads; ends = on.ends }
-
-    go : (x : Bool) → (c.byte == 10) ≡ x → IsWord text from (runs Apart c.byte (line_cells (c ∷ cs)) p)
-    go true e = let bad : false ≡ true = rw e at h in cc
-    go false e = rw (e, eq-eqb c.byte c.byte refl) (begin indented)
-
--- Headings.
 
 -- whitespace
 white-leads : (text x : Expression) (white : List ℕ) (p : Point) → AllPass is_white white →

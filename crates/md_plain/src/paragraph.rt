@@ -71,7 +71,7 @@ fn push_definitions<'a>(
 }
 
 /// Closes a paragraph: its definitions, and then what remains, if anything does.
-#[tactic(auto, unfolding(md_seam::specs::State::shut_paragraph))]
+#[tactic(auto, unfolding(md_seam::specs::Standard::State::shut_paragraph))]
 pub fn shut_paragraph<'a>(
     alloc: Global,
     options: &ParseOptions,
@@ -129,7 +129,7 @@ fn is_run(marker: u8, bytes: &[u8]) -> bool
 }
 
 /// The depth of the heading that this line underlines (CommonMark 4.3).
-#[tactic(auto, unfolding(md_seam::specs::Leaves::underline_depth))]
+#[tactic(auto, unfolding(md_seam::specs::Standard::Leaves::underline_depth))]
 pub fn underline_depth(options: &ParseOptions, rest: &Rest) -> Option<u8>
     ensures { result ≡ leaves.underline_depth options.now (rest_meaning rest.now) }
 {
@@ -175,7 +175,7 @@ fn underlined_by<'a>(
 }
 
 /// A paragraph with an underline.
-#[tactic(auto, unfolding(md_seam::specs::Leaves::underlined))]
+#[tactic(auto, unfolding(md_seam::specs::Standard::Leaves::underlined))]
 pub fn underlined<'a>(
     alloc: Global,
     options: &ParseOptions,

@@ -66,7 +66,7 @@ fn spaced(alloc: Global, lines: &[&[u8]]) -> Result<Vec<u8>, Message>
 }
 
 /// The normal form of a label, given its lines. Bytes that are no UTF-8, which no label of a text has, are refused.
-#[tactic(auto, unfolding(md_seam::specs::Label::normal_form))]
+#[tactic(auto, unfolding(md_seam::specs::Standard::Label::normal_form))]
 pub fn normal_form(alloc: Global, lines: &[&[u8]]) -> Result<String, Message>
     ensures { IfOk result (λ form. string_bytes form ≡ label.normal_form (texts lines.now)) }
 {

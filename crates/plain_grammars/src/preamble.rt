@@ -93,7 +93,7 @@ fn front_by<'a, 'b>(
 }
 
 /// The frontmatter at the front of these lines, if the first is a fence.
-#[tactic(auto, unfolding(md_seam::specs::Preamble::front_of))]
+#[tactic(auto, unfolding(md_seam::specs::Standard::Preamble::front_of))]
 pub fn front_of<'a, 'b>(
     alloc: Global,
     options: &ParseOptions,

@@ -79,7 +79,7 @@ pub fn delimiter_columns(alloc: Global, row: &[u8]) -> Result<Option<usize>, Mes
 }
 
 /// Whether a line may be a head: it is not just a pipe with spaces and tabs around it.
-#[tactic(auto, unfolding(md_seam::specs::Table::is_head))]
+#[tactic(auto, unfolding(md_seam::specs::Standard::Table::is_head))]
 pub fn is_head(line: &[u8]) -> bool
     ensures { result ≡ table.is_head line.now }
 {

@@ -52,7 +52,8 @@ marks_of run m bs p = mark_runs n.ThematicBreakSequence run m bs p
 runs-quiet : (run : Run) (m : ℕ) (bs : List ℕ) (p : Point) → Roles Quiet (marks_of run m bs p)
 runs-quiet run m bs p = runs-each (Roles Quiet) n.ThematicBreakSequence tt more run m bs p
   where
-    more : (kind : Kind) (white : Bool) (p : Point) (es : List Event) → Roles Quiet es → Roles Quiet (run_event n.ThematicBreakSequence kind white p ∷ es)
+    more : (kind : Kind) (white : Bool) (p : Point) (es : List Event) → Roles Quiet es →
+        Roles Quiet (run_event n.ThematicBreakSequence kind white p ∷ es)
     more kind true p es h = (tt, h)
     more kind false p es h = (tt, h)
 
@@ -64,7 +65,8 @@ runs-unlinked run m bs p = runs-each NoLinks n.ThematicBreakSequence tt (λ kind
 runs-others : (run : Run) (m : ℕ) (bs : List ℕ) (p : Point) → AreOthers (marks_of run m bs p)
 runs-others run m bs p = runs-each AreOthers n.ThematicBreakSequence refl more run m bs p
   where
-    more : (kind : Kind) (white : Bool) (p : Point) (es : List Event) → AreOthers es → AreOthers (run_event n.ThematicBreakSequence kind white p ∷ es)
+    more : (kind : Kind) (white : Bool) (p : Point) (es : List Event) → AreOthers es →
+        AreOthers (run_event n.ThematicBreakSequence kind white p ∷ es)
     more kind true p es h = h
     more kind false p es h = h
 
@@ -72,16 +74,20 @@ runs-others run m bs p = runs-each AreOthers n.ThematicBreakSequence refl more r
 abbrev Set : List Event → Type 0
 Set es = (ys : List Event) → resolved (es ++ ys) ≡ es ++ resolved ys
 
+-- so resolvers pass its runs
 runs-set : (run : Run) (m : ℕ) (bs : List ℕ) (p : Point) → Set (marks_of run m bs p)
 runs-set run m bs p = runs-each Set n.ThematicBreakSequence (λ ys. refl) more run m bs p
   where
-    more : (kind : Kind) (white : Bool) (p : Point) (es : List Event) → Set es → Set (run_event n.ThematicBreakSequence kind white p ∷ es)
+    more : (kind : Kind) (white : Bool) (p : Point) (es : List Event) → Set es →
+        Set (run_event n.ThematicBreakSequence kind white p ∷ es)
     more Enter true p es h ys = ap (λ (l : List Event). enter n.SpaceOrTab p ∷ l) (h ys)
     more Enter false p es h ys = ap (λ (l : List Event). enter n.ThematicBreakSequence p ∷ l) (h ys)
     more Exit true p es h ys = ap (λ (l : List Event). exit n.SpaceOrTab p ∷ l) (h ys)
     more Exit false p es h ys = ap (λ (l : List Event). exit n.ThematicBreakSequence p ∷ l) (h ys)
 
-pub break-set : (line : List ℕ) (p : Point) (es : List Event) → resolved (break_line line p ++ es) ≡ break_line line p ++ resolved es
+-- and the whole break
+pub break-set : (line : List ℕ) (p : Point) (es : List Event) →
+    resolved (break_line line p ++ es) ≡ break_line line p ++ resolved es
 break-set line p es =
     let m : ℕ = first_byte (trim_start line) in
     let q : Point = past_text line p in
@@ -107,7 +113,8 @@ rule-marker m e ys some all = go (m == 42) refl (m == 45) refl (m == 95) refl e
     run : (c : ℕ) → (m == c) ≡ true → is_run 1 c ys ≡ true
     run c f = and_from (nat_le 1 (length ys)) (list_all (λ b. b == c) ys) least (subst (λ (d : ℕ). list_all (λ b. b == d) ys ≡ true) (eqb-true m c f) all)
 
-    go : (x : Bool) → (m == 42) ≡ x → (y : Bool) → (m == 45) ≡ y → (z : Bool) → (m == 95) ≡ z → (x || y || z) ≡ true → stands_over n.ThematicBreakSequence ys ≡ true
+    go : (x : Bool) → (m == 42) ≡ x → (y : Bool) → (m == 45) ≡ y → (z : Bool) → (m == 95) ≡ z → (x || y || z) ≡ true →
+        stands_over n.ThematicBreakSequence ys ≡ true
     go true f y g z h e = or_left (is_run 1 42 ys || is_run 1 45 ys) (is_run 1 95 ys) (or_left (is_run 1 42 ys) (is_run 1 45 ys) (run 42 f))
     go false f true g z h e = or_left (is_run 1 42 ys || is_run 1 45 ys) (is_run 1 95 ys) (or_right (is_run 1 42 ys) (is_run 1 45 ys) (run 45 g))
     go false f false g true h e = or_right (is_run 1 42 ys || is_run 1 45 ys) (is_run 1 95 ys) (run 95 h)
@@ -132,7 +139,8 @@ indent-marks : (m : ℕ) (line : List ℕ) → AreMarks m (trim_start line) → 
 indent-marks m [] h = tt
 indent-marks m (b ∷ line) h = go (is_white b) refl (indent-marks m line) h
   where
-    go : (x : Bool) → is_white b ≡ x → (AreMarks m (trim_start line) → AreMarks m line) → AreMarks m (drop (cond x (1 + prefix_len is_white line) 0) (b ∷ line)) → AreMarks m (b ∷ line)
+    go : (x : Bool) → is_white b ≡ x → (AreMarks m (trim_start line) → AreMarks m line) →
+        AreMarks m (drop (cond x (1 + prefix_len is_white line) 0) (b ∷ line)) → AreMarks m (b ∷ line)
     go false e rest h = h
     go true e rest h =
         let next : 1 + prefix_len is_white line ≡ suc (prefix_len is_white line) = omega arith in
@@ -174,7 +182,8 @@ abbrev behind_run : Bool → Expression
 behind_run true = behind n.ThematicBreakSequence (inside Nothing n.ThematicBreak)
 behind_run false = behind n.SpaceOrTab (behind n.ThematicBreakSequence (inside Nothing n.ThematicBreak))
 
-runs-word : (text : Expression) (m : ℕ) (marks : Bool) (bs : List ℕ) (p : Point) → IsWord text (Nothing ∷ behind_run marks ∷ []) (marks_of (run_of marks) m bs p)
+runs-word : (text : Expression) (m : ℕ) (marks : Bool) (bs : List ℕ) (p : Point) →
+    IsWord text (Nothing ∷ behind_run marks ∷ []) (marks_of (run_of marks) m bs p)
 runs-word text m true [] p = record { left = behind_run true; leads = λ outer. refl; ends = refl }
 runs-word text m false [] p = record { left = behind_run false; leads = λ outer. refl; ends = refl }
 runs-word text m true (b ∷ bs) p =
@@ -185,7 +194,8 @@ runs-word text m false (b ∷ bs) p =
     either (IsWord text (Nothing ∷ behind_run false ∷ [])) (b == m) _ _ (record { left = on.left; leads = on.leads; ends = on.ends }) (runs-word text m false bs (past_byte b p))
 
 -- in its indent
-indent-word : (text : Expression) (m : ℕ) (bs : List ℕ) (p : Point) → is_rule_marker m ≡ true → first_byte (trim_start bs) ≡ m →
+indent-word : (text : Expression) (m : ℕ) (bs : List ℕ) (p : Point) → is_rule_marker m ≡ true →
+    first_byte (trim_start bs) ≡ m →
     IsWord text (Nothing ∷ behind n.SpaceOrTab (inside text n.ThematicBreak) ∷ []) (marks_of White m bs p)
 indent-word text m [] p mark first = absurd (none m mark first)
   where
@@ -196,14 +206,17 @@ indent-word text m (b ∷ bs) p mark first = go (b == m) refl (indent-word text 
     stack : List Expression
     stack = Nothing ∷ behind n.SpaceOrTab (inside text n.ThematicBreak) ∷ []
 
-    go : (x : Bool) → (b == m) ≡ x → (first_byte (trim_start bs) ≡ m → IsWord text stack (marks_of White m bs (past_byte b p))) → IsWord text stack (marks_of White m (b ∷ bs) p)
+    go : (x : Bool) → (b == m) ≡ x →
+        (first_byte (trim_start bs) ≡ m → IsWord text stack (marks_of White m bs (past_byte b p))) →
+        IsWord text stack (marks_of White m (b ∷ bs) p)
     go true e more =
         let on = runs-word text m true bs (past_byte b p) in
         rw e (record { left = on.left; leads = on.leads; ends = on.ends })
     go false e more = rw e (more (first-behind b bs m first e))
 
 -- all of it
-break-word : (text : Expression) (m : ℕ) (bs : List ℕ) (p : Point) → is_rule_marker m ≡ true → first_byte (trim_start bs) ≡ m → IsWord text (inside text n.ThematicBreak ∷ []) (marks_of Apart m bs p)
+break-word : (text : Expression) (m : ℕ) (bs : List ℕ) (p : Point) → is_rule_marker m ≡ true →
+    first_byte (trim_start bs) ≡ m → IsWord text (inside text n.ThematicBreak ∷ []) (marks_of Apart m bs p)
 break-word text m [] p mark first = absurd (none m mark first)
   where
     none : (m : ℕ) → is_rule_marker m ≡ true → 0 ≡ m → ⊥
@@ -219,7 +232,8 @@ break-word text m (b ∷ bs) p mark first = go (b == m) refl
         rw e (record { left = on.left; leads = on.leads; ends = on.ends })
 
 -- The whole break.
-pub break-facts : (options : ParseOptions) (bytes : List ℕ) (r : Rest) (p q : Point) → break_leaf.starts options r ≡ true → LineAt bytes r (rest_line r) p q →
+pub break-facts : (options : ParseOptions) (bytes : List ℕ) (r : Rest) (p q : Point) →
+    break_leaf.starts options r ≡ true → LineAt bytes r (rest_line r) p q →
     LeafFacts bytes (Some Break) p q (break_line (rest_line r) p) (break_line (rest_line r) p)
 break-facts options bytes r p q starts at = subst (λ (x : Point). LeafFacts bytes (Some Break) p q (around n.ThematicBreak p x inside_of) (around n.ThematicBreak p x inside_of)) at.end facts
   where
@@ -273,7 +287,8 @@ break-facts options bytes r p q starts at = subst (λ (x : Point). LeafFacts byt
     ends : ending.Leads line_start behind_leaf (around n.ThematicBreak p q inside_of)
     ends = leaf-leads n.ThematicBreak p q inside_of refl (others-lead (in_leaf true) inside_of refl (runs-others Apart m line p))
 
-    facts : LeafFacts bytes (Some Break) p q (around n.ThematicBreak p q inside_of) (around n.ThematicBreak p q inside_of)
+    facts :
+        LeafFacts bytes (Some Break) p q (around n.ThematicBreak p q inside_of) (around n.ThematicBreak p q inside_of)
     facts = record {
       unread_nested = around-nested n.ThematicBreak p q inside_of nested;
       nested = around-nested n.ThematicBreak p q inside_of nested;

@@ -34,10 +34,12 @@ rule-first (m ∷ bytes) e =
     (and_parts (is_rule_marker m) (list_all (λ b. (b == m) || is_white b) bytes) both).0
 
 -- in front of it stands whitespace
-pub first-behind : (b : ℕ) (bs : List ℕ) (m : ℕ) → first_byte (trim_start (b ∷ bs)) ≡ m → (b == m) ≡ false → first_byte (trim_start bs) ≡ m
+pub first-behind : (b : ℕ) (bs : List ℕ) (m : ℕ) → first_byte (trim_start (b ∷ bs)) ≡ m → (b == m) ≡ false →
+    first_byte (trim_start bs) ≡ m
 first-behind b bs m first other = go (is_white b) first
   where
-    go : (x : Bool) → first_byte (drop (cond x (1 + prefix_len is_white bs) 0) (b ∷ bs)) ≡ m → first_byte (trim_start bs) ≡ m
+    go : (x : Bool) → first_byte (drop (cond x (1 + prefix_len is_white bs) 0) (b ∷ bs)) ≡ m →
+        first_byte (trim_start bs) ≡ m
     go true first =
         let next : 1 + prefix_len is_white bs ≡ suc (prefix_len is_white bs) = omega arith in
         ap (λ (i : ℕ). first_byte (drop i (b ∷ bs))) (sym next) ∙ first
@@ -45,19 +47,23 @@ first-behind b bs m first other = go (is_white b) first
 
 -- A rule.
 
+-- with true on the right a test is the same
 or_true : (x y : Bool) → (x || true) ≡ (y || true)
 or_true true true = refl
 or_true true false = refl
 or_true false true = refl
 or_true false false = refl
 
+-- a space is no marker
 marker-apart : (b : ℕ) → is_rule_marker b ≡ true → (32 == b) ≡ false
 marker-apart b e = grind (arith, nat_tests)
 
+-- what begins with a tab is no rule
 rule-tab : (line : Line) (n : ℕ) (p : Point) (cs : List Cell) → is_rule (bytes_of (tab_cells line n 9 p ++ cs)) ≡ false
 rule-tab line zero p cs = refl
 rule-tab line (suc n) p cs = refl
 
+-- nor is what begins with another byte
 rule-none : (b : ℕ) (bs : List ℕ) → is_rule_marker b ≡ false → is_rule (b ∷ bs) ≡ false
 rule-none b bs e = rw e refl
 
@@ -66,7 +72,8 @@ pub rule-spread : (line : Line) (bytes : List ℕ) (p : Point) → is_rule (byte
 rule-spread line [] p = refl
 rule-spread line (b ∷ bs) p = go (b == 9) refl (is_rule_marker b) refl
   where
-    go : (t : Bool) → (b == 9) ≡ t → (m : Bool) → is_rule_marker b ≡ m → is_rule (bytes_of (spread line (b ∷ bs) p)) ≡ is_rule (b ∷ bs)
+    go : (t : Bool) → (b == 9) ≡ t → (m : Bool) → is_rule_marker b ≡ m →
+        is_rule (bytes_of (spread line (b ∷ bs) p)) ≡ is_rule (b ∷ bs)
     go true e m k =
         let tab : b ≡ 9 = eqb-true b 9 e in
         subst (λ (c : ℕ). is_rule (bytes_of (spread line (c ∷ bs) p)) ≡ is_rule (c ∷ bs)) (sym tab) (rule-tab line (columns_more p) p (spread line bs (past_byte 9 p)))
@@ -90,7 +97,9 @@ white-no_rule (c ∷ cs) e = rw (white-no_ending c.byte e) (rule-none c.byte (li
     unmarked b e = grind (arith, nat_tests)
 
 -- it does by its cells if it does by its rest
-pub break-fits : (options : ParseOptions) (said : Line) (text behind : List ℕ) (r : Rest) (p : Point) (stop : List Cell) → RestAt text behind r p → NoEnding r.bytes → Stops stop → length (rest_cells said r p ++ stop) < 2 ^ 63 →
+pub break-fits :
+    (options : ParseOptions) (said : Line) (text behind : List ℕ) (r : Rest) (p : Point) (stop : List Cell) →
+    RestAt text behind r p → NoEnding r.bytes → Stops stop → length (rest_cells said r p ++ stop) < 2 ^ 63 →
     is_break options (rest_cells said r p ++ stop) ≡ break_leaf.starts options r
 break-fits options said text behind r p stop is h k short = go (has_small_indent options r) refl
   where

@@ -30,17 +30,20 @@ use Rattle.markdown_blocks.proofs.RestFacts.{rest-line_end, rest-no_ending, rest
 use Rattle.markdown_blocks.proofs.ThematicBreak.Kinds.{marker-black, rule-first, rule-spread}
 
 -- a tab lies in whitespace as a whole
-tab-white : (line : Line) (m k byte : ℕ) (p q : Point) (ys : List Cell) → (byte == m) ≡ false → (32 == m) ≡ false → break.runs break.White m (tab_cells line k byte p ++ ys) q ≡ break.runs break.White m ys (tab_end k p)
+tab-white : (line : Line) (m k byte : ℕ) (p q : Point) (ys : List Cell) → (byte == m) ≡ false → (32 == m) ≡ false →
+    break.runs break.White m (tab_cells line k byte p ++ ys) q ≡ break.runs break.White m ys (tab_end k p)
 tab-white line m zero byte p q ys e f = rw e (ap (break.runs break.White m ys) (tab_end-last p))
 tab-white line m (suc k) byte p q ys e f = rw e (tab-white line m k 32 (next_column p) (next_column p) ys f f ∙ ap (break.runs break.White m ys) (tab_end-next k p))
 
 -- behind another run it begins whitespace
-tab-apart : (line : Line) (m k : ℕ) (p : Point) (ys : List Cell) → (9 == m) ≡ false → break.runs break.Apart m (tab_cells line k 9 p ++ ys) p ≡ enter n.SpaceOrTab p ∷ break.runs break.White m (tab_cells line k 9 p ++ ys) p
+tab-apart : (line : Line) (m k : ℕ) (p : Point) (ys : List Cell) → (9 == m) ≡ false →
+    break.runs break.Apart m (tab_cells line k 9 p ++ ys) p ≡ enter n.SpaceOrTab p ∷ break.runs break.White m (tab_cells line k 9 p ++ ys) p
 tab-apart line m zero p ys e = rw e refl
 tab-apart line m (suc k) p ys e = rw e refl
 
 -- behind a run of markers
-tab-marks : (line : Line) (m k : ℕ) (p : Point) (ys : List Cell) → (9 == m) ≡ false → break.runs break.Marks m (tab_cells line k 9 p ++ ys) p ≡ exit n.ThematicBreakSequence p ∷ enter n.SpaceOrTab p ∷ break.runs break.White m (tab_cells line k 9 p ++ ys) p
+tab-marks : (line : Line) (m k : ℕ) (p : Point) (ys : List Cell) → (9 == m) ≡ false →
+    break.runs break.Marks m (tab_cells line k 9 p ++ ys) p ≡ exit n.ThematicBreakSequence p ∷ enter n.SpaceOrTab p ∷ break.runs break.White m (tab_cells line k 9 p ++ ys) p
 tab-marks line m zero p ys e = rw e refl
 tab-marks line m (suc k) p ys e = rw e refl
 
@@ -55,7 +58,9 @@ abbrev Same : Run → ℕ → List Cell → List ℕ → Point → Type 0
 Same run m ys bs p = break.runs (cell_run run) m ys p ≡ mark_runs n.ThematicBreakSequence run m bs p
 
 -- those of a tab
-tab-same : (run : Run) (line : Line) (m : ℕ) (p : Point) (ys : List Cell) (bs : List ℕ) → is_white m ≡ false → 1 ≤ p.column → Same White m ys bs (past_byte 9 p) → Same run m (tab_cells line (columns_more p) 9 p ++ ys) (9 ∷ bs) p
+tab-same : (run : Run) (line : Line) (m : ℕ) (p : Point) (ys : List Cell) (bs : List ℕ) → is_white m ≡ false →
+    1 ≤ p.column → Same White m ys bs (past_byte 9 p) →
+    Same run m (tab_cells line (columns_more p) 9 p ++ ys) (9 ∷ bs) p
 tab-same run line m p ys bs black one more = go run
   where
     tab : (9 == m) ≡ false
@@ -64,7 +69,8 @@ tab-same run line m p ys bs black one more = go run
     space : (32 == m) ≡ false
     space = grind (arith, nat_tests, black)
 
-    white : break.runs break.White m (tab_cells line (columns_more p) 9 p ++ ys) p ≡ mark_runs n.ThematicBreakSequence White m bs (past_byte 9 p)
+    white :
+        break.runs break.White m (tab_cells line (columns_more p) 9 p ++ ys) p ≡ mark_runs n.ThematicBreakSequence White m bs (past_byte 9 p)
     white = tab-white line m (columns_more p) 9 p p ys tab space ∙ ap (break.runs break.White m ys) (tab_end-stop p one) ∙ more
 
     go : (run : Run) → Same run m (tab_cells line (columns_more p) 9 p ++ ys) (9 ∷ bs) p
@@ -73,13 +79,15 @@ tab-same run line m p ys bs black one more = go run
     go White = rw tab white
 
 -- those of a byte
-byte-same : (run : Run) (line : Line) (m b : ℕ) (p : Point) (ys : List Cell) (bs : List ℕ) → is_white m ≡ false → 1 ≤ p.column → ((run : Run) → Same run m ys bs (past_byte b p)) → Same run m (byte_cells line b p ++ ys) (b ∷ bs) p
+byte-same : (run : Run) (line : Line) (m b : ℕ) (p : Point) (ys : List Cell) (bs : List ℕ) → is_white m ≡ false →
+    1 ≤ p.column → ((run : Run) → Same run m ys bs (past_byte b p)) → Same run m (byte_cells line b p ++ ys) (b ∷ bs) p
 byte-same run line m b p ys bs black one = go (b == 9) refl
   where
     P : ℕ → Type 0
     P c = ((run : Run) → Same run m ys bs (past_byte c p)) → Same run m (byte_cells line c p ++ ys) (c ∷ bs) p
 
-    whole : (run : Run) → ((run : Run) → Same run m ys bs (past_byte b p)) → Same run m (cell b (past_byte b p) line ∷ ys) (b ∷ bs) p
+    whole : (run : Run) → ((run : Run) → Same run m ys bs (past_byte b p)) →
+        Same run m (cell b (past_byte b p) line ∷ ys) (b ∷ bs) p
     whole Apart more = ap₂ (λ (xs zs : List Event). cond (b == m) (enter n.ThematicBreakSequence p ∷ xs) (enter n.SpaceOrTab p ∷ zs)) (more Marks) (more White)
     whole Marks more = ap₂ (λ (xs zs : List Event). cond (b == m) xs (exit n.ThematicBreakSequence p ∷ enter n.SpaceOrTab p ∷ zs)) (more Marks) (more White)
     whole White more = ap₂ (λ (xs zs : List Event). cond (b == m) (exit n.SpaceOrTab p ∷ enter n.ThematicBreakSequence p ∷ xs) zs) (more Marks) (more White)
@@ -89,7 +97,8 @@ byte-same run line m b p ys bs black one = go (b == 9) refl
     go false e = λ more. ap (λ (t : Bool). break.runs (cell_run run) m (cond t (tab_cells line (columns_more p) 9 p) (cell b (past_byte b p) line ∷ []) ++ ys) p) e ∙ whole run more
 
 -- those of a line
-spread-same : (run : Run) (line : Line) (m : ℕ) (bytes : List ℕ) (p : Point) → is_white m ≡ false → 1 ≤ p.column → Same run m (spread line bytes p) bytes p
+spread-same : (run : Run) (line : Line) (m : ℕ) (bytes : List ℕ) (p : Point) → is_white m ≡ false → 1 ≤ p.column →
+    Same run m (spread line bytes p) bytes p
 spread-same Apart line m [] p black one = refl
 spread-same Marks line m [] p black one = refl
 spread-same White line m [] p black one = refl
@@ -97,7 +106,8 @@ spread-same run line m (b ∷ bs) p black one =
     byte-same run line m b p (spread line bs (past_byte b p)) bs black one (λ (r : Run). spread-same r line m bs (past_byte b p) black (omega arith))
 
 -- those of the rest of a line
-rest-runs : (line : Line) (m : ℕ) (r : Rest) (p : Point) (stop : List Cell) → is_white m ≡ false → NoEnding r.bytes → Stops stop → 1 ≤ p.column → Cut r.spaces p →
+rest-runs : (line : Line) (m : ℕ) (r : Rest) (p : Point) (stop : List Cell) → is_white m ≡ false → NoEnding r.bytes →
+    Stops stop → 1 ≤ p.column → Cut r.spaces p →
     break.runs break.Apart m (line_cells (rest_cells line r p ++ stop)) p ≡ mark_runs n.ThematicBreakSequence Apart m (rest_line r) p
 rest-runs line m r p stop black h k one cut =
     rest-same (List Event) (λ (l : List Cell). break.runs break.Apart m (line_cells l) p) line same r p stop one cut
@@ -110,7 +120,8 @@ rest-runs line m r p stop black h k one cut =
     space : (32 == m) ≡ false
     space = grind (arith, nat_tests, black)
 
-    same : (at : Point) (cs : List Cell) → break.runs break.Apart m (line_cells (cell 32 at line ∷ cs)) p ≡ break.runs break.Apart m (line_cells (cell 9 at line ∷ cs)) p
+    same : (at : Point) (cs : List Cell) →
+        break.runs break.Apart m (line_cells (cell 32 at line ∷ cs)) p ≡ break.runs break.Apart m (line_cells (cell 9 at line ∷ cs)) p
     same at cs = rw (tab, space) refl
 
 -- The indent is the first run.
@@ -137,7 +148,8 @@ marked-white m c cs p mark e = rw (black c.byte e, e) refl
 
 -- so it is behind whitespace
 white-run : (m room : ℕ) (cells : List Cell) (p : Point) → is_rule_marker m ≡ true → Marked m (white_rest room cells) →
-    break.runs break.White m (line_cells cells) p ≡ exit n.SpaceOrTab (white_end room cells p) ∷ break.runs break.Apart m (line_cells (white_rest room cells)) (white_end room cells p)
+    break.runs break.White m (line_cells cells) p ≡ exit n.SpaceOrTab (white_end room cells p) ∷ break.runs break.Apart m (line_cells (white_rest room cells))
+    (white_end room cells p)
 white-run m room [] p mark h = absurd h
 white-run m zero (c ∷ cs) p mark h = marked-white m c cs p mark h
 white-run m (suc room) (c ∷ cs) p mark h = go (is_white c.byte) refl h (white-run m room cs c.after mark)
@@ -152,35 +164,44 @@ white-run m (suc room) (c ∷ cs) p mark h = go (is_white c.byte) refl h (white-
     go false e h more = marked-white m c cs p mark h
 
 -- the indent and the runs behind it are all runs of the line
-indent-runs : (m room : ℕ) (cells : List Cell) (p : Point) → 1 ≤ room → is_rule_marker m ≡ true → Marked m (white_rest room cells) →
-    cond (begins_white cells) (pair n.SpaceOrTab p (white_end room cells p)) [] ++ break.runs break.Apart m (line_cells (white_rest room cells)) (white_end room cells p) ≡ break.runs break.Apart m (line_cells cells) p
+indent-runs : (m room : ℕ) (cells : List Cell) (p : Point) → 1 ≤ room → is_rule_marker m ≡ true →
+    Marked m (white_rest room cells) → cond (begins_white cells)
+    (pair n.SpaceOrTab p (white_end room cells p)) [] ++ break.runs break.Apart m (line_cells (white_rest room cells))
+    (white_end room cells p) ≡ break.runs break.Apart m (line_cells cells) p
 indent-runs m zero cells p some mark h = absurd (omega arith)
 indent-runs m (suc room) [] p some mark h = absurd h
 indent-runs m (suc room) (c ∷ cs) p some mark h = go (is_white c.byte) refl h
   where
     go : (x : Bool) → is_white c.byte ≡ x → Marked m (cond x (white_rest room cs) (c ∷ cs)) →
-        cond x (pair n.SpaceOrTab p (cond x (white_end room cs c.after) p)) [] ++ break.runs break.Apart m (line_cells (cond x (white_rest room cs) (c ∷ cs))) (cond x (white_end room cs c.after) p) ≡ break.runs break.Apart m (line_cells (c ∷ cs)) p
+        cond x (pair n.SpaceOrTab p (cond x (white_end room cs c.after) p)) [] ++ break.runs break.Apart m (line_cells (cond x (white_rest room cs) (c ∷ cs)))
+        (cond x (white_end room cs c.after) p) ≡ break.runs break.Apart m (line_cells (c ∷ cs)) p
     go true e h = rw (white-no_ending c.byte e, white-other c.byte m e mark) (ap (λ (es : List Event). enter n.SpaceOrTab p ∷ es) (sym (white-run m room cs c.after mark h)))
     go false e h = refl
 
 -- The marker.
 
 -- a rule begins with it by its cells
-cells-marked : (cells : List Cell) (m : ℕ) → is_rule (line_bytes cells) ≡ true → first_byte (line_bytes cells) ≡ m → (first_cell cells ≡ m) × Marked m cells
+cells-marked : (cells : List Cell) (m : ℕ) → is_rule (line_bytes cells) ≡ true → first_byte (line_bytes cells) ≡ m →
+    (first_cell cells ≡ m) × Marked m cells
 cells-marked [] m e is = cc
 cells-marked (c ∷ cs) m e is = go (c.byte == 10) e is
   where
-    go : (x : Bool) → is_rule (bytes_of (cond x [] (c ∷ line_cells cs))) ≡ true → first_byte (bytes_of (cond x [] (c ∷ line_cells cs))) ≡ m → (c.byte ≡ m) × ((c.byte == m) ≡ true)
+    go : (x : Bool) → is_rule (bytes_of (cond x [] (c ∷ line_cells cs))) ≡ true →
+        first_byte (bytes_of (cond x [] (c ∷ line_cells cs))) ≡ m → (c.byte ≡ m) × ((c.byte == m) ≡ true)
     go true e is = cc
     go false e is = (is, eq-eqb c.byte m is)
 
-spread-first : (line : Line) (bytes : List ℕ) (p : Point) → is_rule bytes ≡ true → first_byte (bytes_of (spread line bytes p)) ≡ first_byte bytes
+spread-first : (line : Line) (bytes : List ℕ) (p : Point) → is_rule bytes ≡ true →
+    first_byte (bytes_of (spread line bytes p)) ≡ first_byte bytes
 spread-first line [] p e = cc
 spread-first line (m ∷ bytes) p e = ap (λ (l : List Cell). first_byte (bytes_of (l ++ spread line bytes (past_byte m p)))) (byte-one line m p (marker-black m (rule-first (m ∷ bytes) e)))
 
 -- The whole break.
-pub break-adds : (options : ParseOptions) (said : Line) (text behind : List ℕ) (r : Rest) (p : Point) (stop : List Cell) → RestAt text behind r p → NoEnding r.bytes → Stops stop → length (rest_cells said r p ++ stop) < 2 ^ 63 →
-    break_leaf.starts options r ≡ true → break_leaf.adds options (rest_cells said r p ++ stop) p ≡ break_leaf.added (rest_line r) p
+pub break-adds :
+    (options : ParseOptions) (said : Line) (text behind : List ℕ) (r : Rest) (p : Point) (stop : List Cell) →
+    RestAt text behind r p → NoEnding r.bytes → Stops stop → length (rest_cells said r p ++ stop) < 2 ^ 63 →
+    break_leaf.starts options r ≡ true →
+    break_leaf.adds options (rest_cells said r p ++ stop) p ≡ break_leaf.added (rest_line r) p
 break-adds options said text behind r p stop is h k short starts =
     ap₂ (λ (q : Point) (es : List Event). around n.ThematicBreak p q es) (rest-line_end said r p stop h k one is.cut) inside
   where
@@ -217,7 +238,9 @@ break-adds options said text behind r p stop is h k short starts =
     begins : (first_cell left ≡ m) × Marked m left
     begins = cells-marked left m (ap is_rule same ∙ rule-spread said (trim_start r.bytes) q ∙ rule) (ap first_byte same ∙ spread-first said (trim_start r.bytes) q rule)
 
-    inside : break_inside options cells p ≡ mark_runs n.ThematicBreakSequence Apart (first_byte (trim_start (rest_line r))) (rest_line r) p
+    inside :
+        break_inside options cells p ≡ mark_runs n.ThematicBreakSequence Apart (first_byte (trim_start (rest_line r)))
+        (rest_line r) p
     inside =
         ap (λ (c : ℕ). cond (begins_white cells) (pair n.SpaceOrTab p q) [] ++ break.runs break.Apart c (line_cells left) q) begins.0
         ∙ indent-runs m room cells p (small-some options) mark begins.1
@@ -226,7 +249,8 @@ break-adds options said text behind r p stop is h k short starts =
 
 -- No content stands in it.
 
-runs-no_content : (wants : Content → Bool) (run : break.Run) (m : ℕ) (cells : List Cell) (p : Point) → NoContent wants (break.runs run m cells p)
+runs-no_content : (wants : Content → Bool) (run : break.Run) (m : ℕ) (cells : List Cell) (p : Point) →
+    NoContent wants (break.runs run m cells p)
 runs-no_content wants break.Apart m [] p = tt
 runs-no_content wants break.Marks m [] p = (refl, refl, tt)
 runs-no_content wants break.White m [] p = (refl, refl, tt)
@@ -241,7 +265,8 @@ runs-no_content wants break.White m (c ∷ cs) p =
     let marks = runs-no_content wants break.Marks m cs c.after in
     either (NoContent wants) (c.byte == m) _ _ (refl, refl, (refl, refl, marks)) (runs-no_content wants break.White m cs c.after)
 
-pub break-no_content : (wants : Content → Bool) (options : ParseOptions) (cells : List Cell) (p : Point) → NoContent wants (break_leaf.adds options cells p)
+pub break-no_content : (wants : Content → Bool) (options : ParseOptions) (cells : List Cell) (p : Point) →
+    NoContent wants (break_leaf.adds options cells p)
 break-no_content wants options cells p =
     let q : Point = white_end (small_indent options) cells p in
     let left : List Cell = white_rest (small_indent options) cells in

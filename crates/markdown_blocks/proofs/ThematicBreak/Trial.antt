@@ -23,25 +23,29 @@ use Rattle.markdown_blocks.proofs.FromEnding.{from_ending-again, from_ending-shr
 use Rattle.markdown_blocks.proofs.LeafLaws.{Shrinks, cond-shrinks, shut_line}
 
 -- what stands in a break with no indent, and with one
-inside-none : (options : ParseOptions) (cells : List Cell) (p : Point) → begins_white cells ≡ false → break_inside options cells p ≡ runs Apart (first_cell cells) (line_cells cells) p
+inside-none : (options : ParseOptions) (cells : List Cell) (p : Point) → begins_white cells ≡ false →
+    break_inside options cells p ≡ runs Apart (first_cell cells) (line_cells cells) p
 inside-none options cells p e =
     let room = small_indent options in
     ap (λ (x : Bool). cond x (pair n.SpaceOrTab p (white_end room cells p)) [] ++ runs Apart (first_cell (white_rest room cells)) (line_cells (white_rest room cells)) (white_end room cells p)) e
     ∙ ap₂ (λ (r : List Cell) (q : Point). runs Apart (first_cell r) (line_cells r) q) (none-rest room cells e) (none-end room cells p e)
 
 inside-white : (options : ParseOptions) (cells : List Cell) (p : Point) → begins_white cells ≡ true →
-    break_inside options cells p ≡ pair n.SpaceOrTab p (white_end (small_indent options) cells p) ++ runs Apart (first_cell (white_rest (small_indent options) cells)) (line_cells (white_rest (small_indent options) cells)) (white_end (small_indent options) cells p)
+    break_inside options cells p ≡ pair n.SpaceOrTab p (white_end (small_indent options) cells p) ++ runs Apart (first_cell (white_rest (small_indent options) cells))
+    (line_cells (white_rest (small_indent options) cells)) (white_end (small_indent options) cells p)
 inside-white options cells p e =
     let room = small_indent options in
     ap (λ (x : Bool). cond x (pair n.SpaceOrTab p (white_end room cells p)) [] ++ runs Apart (first_cell (white_rest room cells)) (line_cells (white_rest room cells)) (white_end room cells p)) e
 
 -- at the marker a rule is taken to the end of the line, and else nothing is
-marked : (cells : List Cell) (h : Here) → is_rule (line_bytes cells) ≡ true → before_marker cells h ≡ broken Apart (first_cell cells) cells h
+marked : (cells : List Cell) (h : Here) → is_rule (line_bytes cells) ≡ true →
+    before_marker cells h ≡ broken Apart (first_cell cells) cells h
 unfolding before_marker
 marked [] h e = cc
 marked (c ∷ cs) h e = ap (λ (x : Bool). cond x (broken Apart c.byte (c ∷ cs) h) (Refuses (without_marker h.scratch) h.flags)) e
 
-unmarked : (cells : List Cell) (h : Here) → is_rule (line_bytes cells) ≡ false → before_marker cells h ≡ Refuses (without_marker h.scratch) h.flags
+unmarked : (cells : List Cell) (h : Here) → is_rule (line_bytes cells) ≡ false →
+    before_marker cells h ≡ Refuses (without_marker h.scratch) h.flags
 unfolding before_marker
 unmarked [] h e = refl
 unmarked (c ∷ cs) h e = ap (λ (x : Bool). cond x (broken Apart c.byte (c ∷ cs) h) (Refuses (without_marker h.scratch) h.flags)) e
@@ -50,7 +54,8 @@ unmarked (c ∷ cs) h e = ap (λ (x : Bool). cond x (broken Apart c.byte (c ∷ 
 regroup : (es rs : List Event) (a d : Event) → (es ++ a ∷ []) ++ rs ++ d ∷ [] ≡ es ++ (a ∷ rs ++ d ∷ [])
 regroup es rs a d = ap (λ (xs : List Event). xs ++ d ∷ []) (append_assoc es (a ∷ []) rs) ∙ append_assoc es (a ∷ rs) (d ∷ [])
 
-regroup-white : (es rs : List Event) (a b c d : Event) → (es ++ a ∷ []) ++ b ∷ c ∷ [] ++ rs ++ d ∷ [] ≡ es ++ (a ∷ b ∷ c ∷ rs ++ d ∷ [])
+regroup-white : (es rs : List Event) (a b c d : Event) →
+    (es ++ a ∷ []) ++ b ∷ c ∷ [] ++ rs ++ d ∷ [] ≡ es ++ (a ∷ b ∷ c ∷ rs ++ d ∷ [])
 regroup-white es rs a b c d = ap (λ (xs : List Event). xs ++ d ∷ []) (append_assoc (es ++ a ∷ []) (b ∷ c ∷ []) rs) ∙ regroup es (b ∷ c ∷ rs) a d
 
 -- a trial at rest ends at rest
@@ -61,7 +66,8 @@ rest-white : (s : Scratch) → IsRest s → without_marker (calmed s) ≡ s
 rest-white s e = ap (λ (t : Scratch). without_marker (calmed t)) e ∙ sym e
 
 -- A break takes its line,
-pub break-took : (options : ParseOptions) (cells : List Cell) (h : Here) → IsRest h.scratch → is_break options cells ≡ true →
+pub break-took : (options : ParseOptions) (cells : List Cell) (h : Here) → IsRest h.scratch →
+    is_break options cells ≡ true →
     break_at options cells h ≡ shut_line (around n.ThematicBreak h.point (line_end cells h.point) (break_inside options cells h.point)) cells h
 break-took options cells h is e = go (begins_white cells) refl
   where
@@ -87,7 +93,8 @@ break-took options cells h is e = go (begins_white cells) refl
     new : List Event → Point → Scratch → List Cell → Outcome
     new es x s rest = Accepts (record { events = es; point = x; scratch = s; flags = record h.flags { interrupt = false } }) rest
 
-    go : (x : Bool) → begins_white cells ≡ x → break_at options cells h ≡ shut_line (around n.ThematicBreak h.point (line_end cells h.point) (break_inside options cells h.point)) cells h
+    go : (x : Bool) → begins_white cells ≡ x →
+        break_at options cells h ≡ shut_line (around n.ThematicBreak h.point (line_end cells h.point) (break_inside options cells h.point)) cells h
     go true s =
         let at : Here = behind_white room cells (entered_here h) in
         let end : line_end left q ≡ p = white-line_end room cells h.point in
@@ -109,7 +116,8 @@ break-took options cells h is e = go (begins_white cells) refl
         ∙ ap₂ (λ (xs : List Event) (t : Scratch). new xs p t (from_ending cells)) same (rest-marker h.scratch is)
 
 -- and where none stands all is left as it was.
-pub break-refused : (options : ParseOptions) (cells : List Cell) (h : Here) → IsRest h.scratch → is_break options cells ≡ false → break_at options cells h ≡ Refuses h.scratch h.flags
+pub break-refused : (options : ParseOptions) (cells : List Cell) (h : Here) → IsRest h.scratch →
+    is_break options cells ≡ false → break_at options cells h ≡ Refuses h.scratch h.flags
 break-refused options cells h is e = by options.constructs.thematic_break refl
   where
     room : ℕ
@@ -118,7 +126,8 @@ break-refused options cells h is e = by options.constructs.thematic_break refl
     left : List Cell
     left = white_rest (small_indent options) cells
 
-    go : options.constructs.thematic_break ≡ true → is_rule (line_bytes left) ≡ false → (x : Bool) → begins_white cells ≡ x → break_at options cells h ≡ Refuses h.scratch h.flags
+    go : options.constructs.thematic_break ≡ true → is_rule (line_bytes left) ≡ false → (x : Bool) →
+        begins_white cells ≡ x → break_at options cells h ≡ Refuses h.scratch h.flags
     go on rule true s =
         at-white options cells h on s ∙ unmarked left (behind_white room cells (entered_here h)) rule
         ∙ ap (λ (t : Scratch). Refuses t h.flags) (rest-white h.scratch is)
@@ -138,7 +147,8 @@ unfolding before_marker
 before_marker-shrinks n [] h le = tt
 before_marker-shrinks n (c ∷ cs) h le = cond-shrinks n (is_rule (line_bytes (c ∷ cs))) _ _ (let less = from_ending-shrinks (c ∷ cs) in omega arith, from_ending-again (c ∷ cs)) tt
 
-pub break-shrinks : (options : ParseOptions) (cells : List Cell) (h : Here) → Shrinks (length cells) (break_at options cells h)
+pub break-shrinks : (options : ParseOptions) (cells : List Cell) (h : Here) →
+    Shrinks (length cells) (break_at options cells h)
 unfolding break_at
 break-shrinks options cells h =
     cond-shrinks (length cells) (not options.constructs.thematic_break) _ _ tt

@@ -11,6 +11,7 @@ use Rattle.md_seam.specs.Standard.Lines.{is_ending}
 use Rattle.md_seam.specs.Events.Places.{same_place}
 use Rattle.md_seam.specs.Standard.Rest.{is_blank}
 use Rattle.md_seam.specs.Standard.Texts.{split_lines}
+use Rattle.md_seam.specs.Standard.Ascii.{asterisk, backtick, carriage_return, dollar, equals_sign, hash, hyphen, line_feed, tab, tilde, underscore}
 
 -- Bytes.
 
@@ -26,7 +27,7 @@ is_one_of bytes (b ∷ c ∷ text) = false
 
 -- LF, CR or CR LF (CommonMark 2.1)
 abbrev pub is_line_ending : List ℕ → Bool
-is_line_ending text = bytes_eq text (10 ∷ []) || bytes_eq text (13 ∷ []) || bytes_eq text (13 ∷ 10 ∷ [])
+is_line_ending text = bytes_eq text (line_feed ∷ []) || bytes_eq text (carriage_return ∷ []) || bytes_eq text (carriage_return ∷ line_feed ∷ [])
 
 -- bytes of one line
 abbrev pub is_in_line : List ℕ → Bool
@@ -49,12 +50,12 @@ piece_rule n.ListItemValue = Some (λ text. nat_le (length text) 9 && list_all i
 piece_rule n.ListItemMarker = Some (is_one_of (codes "*+-.)"))
 piece_rule n.GfmFootnoteDefinitionLabelMarker = Some (is_one_of (codes "[]"))
 piece_rule n.GfmFootnoteDefinitionMarker = Some (is_one_of (codes "^"))
-piece_rule n.HeadingAtxSequence = Some (is_run 1 35)
-piece_rule n.HeadingSetextUnderlineSequence = Some (λ text. is_run 1 61 text || is_run 1 45 text)
-piece_rule n.ThematicBreakSequence = Some (λ text. is_run 1 42 text || is_run 1 45 text || is_run 1 95 text)
-piece_rule n.CodeFencedFenceSequence = Some (λ text. is_run 3 96 text || is_run 3 126 text)
+piece_rule n.HeadingAtxSequence = Some (is_run 1 hash)
+piece_rule n.HeadingSetextUnderlineSequence = Some (λ text. is_run 1 equals_sign text || is_run 1 hyphen text)
+piece_rule n.ThematicBreakSequence = Some (λ text. is_run 1 asterisk text || is_run 1 hyphen text || is_run 1 underscore text)
+piece_rule n.CodeFencedFenceSequence = Some (λ text. is_run 3 backtick text || is_run 3 tilde text)
 piece_rule n.CodeFlowChunk = Some is_in_line
-piece_rule n.MathFlowFenceSequence = Some (is_run 2 36)
+piece_rule n.MathFlowFenceSequence = Some (is_run 2 dollar)
 piece_rule n.MathFlowChunk = Some is_in_line
 piece_rule n.HtmlFlowData = Some is_in_line
 piece_rule n.DefinitionLabelMarker = Some (is_one_of (codes "[]"))
@@ -63,7 +64,7 @@ piece_rule n.DefinitionDestinationLiteralMarker = Some (is_one_of (codes "<>"))
 piece_rule n.DefinitionTitleMarker = Some (is_one_of (codes "\"'()"))
 piece_rule n.GfmTableCellDivider = Some (is_one_of (codes "|"))
 piece_rule n.GfmTableDelimiterMarker = Some (is_one_of (codes ":"))
-piece_rule n.GfmTableDelimiterFiller = Some (is_run 1 45)
+piece_rule n.GfmTableDelimiterFiller = Some (is_run 1 hyphen)
 piece_rule _ = None
 
 -- whether a piece of this name may be over a text

@@ -7,6 +7,7 @@ use Rattle.md_seam.specs.Standard.Lines.{begins_with}
 use Rattle.md_seam.specs.Standard.Rest.{Rest, is_white, is_blank, is_parted, indent, has_small_indent, lose, behind_indent, behind}
 use Rattle.md_seam.specs.Standard.State.{Container, InQuote, InItem, InFootnote}
 use Rattle.md_seam.specs.Standard.Leaves.{is_rule}
+use Rattle.md_seam.specs.Standard.Ascii.{asterisk, backslash, caret, colon, dot, greater_than, hyphen, left_bracket, plus, right_bracket, right_parenthesis}
 
 -- a container that continued or opened, and the rest of the line in it
 pub record Taken : Type 0 where
@@ -17,7 +18,7 @@ pub record Taken : Type 0 where
 unfoldable pub quote_taken : ParseOptions → Rest → Option Taken
 quote_taken options r =
     let marker = behind_indent r in
-    if has_small_indent options r && begins_with 62 marker.bytes
+    if has_small_indent options r && begins_with greater_than marker.bytes
     then Some (record { container = InQuote; rest = lose 1 (behind 1 marker) })
     else None
 
@@ -54,12 +55,12 @@ abbrev pub is_digit : ℕ → Bool
 is_digit b = nat_le 48 b && nat_le b 57
 
 abbrev pub is_bullet : ℕ → Bool
-is_bullet b = (b == 42) || (b == 43) || (b == 45)
+is_bullet b = (b == asterisk) || (b == plus) || (b == hyphen)
 
 -- the `.` or `)` behind digits
 abbrev pub marker_behind : List ℕ → List ℕ → Option Marker
 marker_behind digits [] = None
-marker_behind digits (b ∷ bytes) = if (b == 46) || (b == 41) then Some (record { digits = digits; byte = b }) else None
+marker_behind digits (b ∷ bytes) = if (b == dot) || (b == right_parenthesis) then Some (record { digits = digits; byte = b }) else None
 
 -- a bullet, or 1 to 9 digits and then `.` or `)`
 abbrev pub list_marker : List ℕ → Option Marker
@@ -117,21 +118,21 @@ with_label_byte b (Some l) = Some (record { label = b ∷ l.label; after = l.aft
 
 -- a backslash takes one of these
 abbrev pub is_label_mark : ℕ → Bool
-is_label_mark b = (b == 91) || (b == 92) || (b == 93)
+is_label_mark b = (b == left_bracket) || (b == backslash) || (b == right_bracket)
 
 -- the label up to the first `]` that no backslash takes; `escaped` says that a backslash comes before
 abbrev pub footnote_label : Bool → List ℕ → Option Labelled
 footnote_label escaped [] = None
 footnote_label escaped (b ∷ bytes) =
     if escaped && is_label_mark b then with_label_byte b (footnote_label false bytes)
-    else if b == 93 then Some (record { label = []; after = bytes })
-    else if is_white b || (b == 91) then None
-    else with_label_byte b (footnote_label (b == 92) bytes)
+    else if b == right_bracket then Some (record { label = []; after = bytes })
+    else if is_white b || (b == left_bracket) then None
+    else with_label_byte b (footnote_label (b == backslash) bytes)
 
 abbrev pub footnote_by : Rest → Option Labelled → Option Taken
 footnote_by from None = None
 footnote_by from (Some l) =
-    if nat_le 1 (length l.label) && nat_le (length l.label) 999 && begins_with 58 l.after
+    if nat_le 1 (length l.label) && nat_le (length l.label) 999 && begins_with colon l.after
     then Some (record { container = InFootnote l.label; rest = behind_indent (behind (length l.label + 4) from) })
     else None
 
@@ -139,7 +140,7 @@ footnote_by from (Some l) =
 unfoldable pub opens_footnote : ParseOptions → Rest → Option Taken
 opens_footnote options r =
     let from = behind_indent r in
-    if options.constructs.gfm_footnote_definition && has_small_indent options r && starts_with nat_eq from.bytes (91 ∷ 94 ∷ [])
+    if options.constructs.gfm_footnote_definition && has_small_indent options r && starts_with nat_eq from.bytes (left_bracket ∷ caret ∷ [])
     then footnote_by from (footnote_label false (drop 2 from.bytes))
     else None
 

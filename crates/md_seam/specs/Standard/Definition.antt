@@ -6,6 +6,7 @@ use Rattle.md_seam.specs.Standard.Rest.{is_blank, is_parted, trim_start}
 use Rattle.md_seam.specs.Standard.Lines.{begins_with}
 use Rattle.md_seam.specs.Standard.Bytes.{is_end, after, after_optional}
 use Rattle.md_seam.specs.Standard.Enclosed.{Closed, Open, Broken, enclosed, Lines, enclosed_lines}
+use Rattle.md_seam.specs.Standard.Ascii.{backslash, colon, double_quote, greater_than, left_bracket, left_parenthesis, less_than, right_bracket, right_parenthesis, single_quote, space}
 
 pub record Defined : Type 0 where
   -- the lines of the label, between the brackets
@@ -23,14 +24,14 @@ is_label lines = not (list_all is_blank lines) && nat_le (sum_by length lines) 9
 unfoldable pub label_at : List (List ℕ) → Option Lines
 label_at [] = None
 label_at (rest ∷ lines) =
-    if begins_with 91 rest
-    then elim (enclosed_lines 91 93 (after_optional 91 rest ∷ lines)) [ Some label ↦ (if is_label label.text then Some label else None) | None ↦ None ]
+    if begins_with left_bracket rest
+    then elim (enclosed_lines left_bracket right_bracket (after_optional left_bracket rest ∷ lines)) [ Some label ↦ (if is_label label.text then Some label else None) | None ↦ None ]
     else None
 
 -- what follows the `:` that is next
 abbrev pub after_colon : List (List ℕ) → Option (List (List ℕ))
 after_colon [] = None
-after_colon (rest ∷ lines) = if begins_with 58 rest then Some (after_optional 58 rest ∷ lines) else None
+after_colon (rest ∷ lines) = if begins_with colon rest then Some (after_optional colon rest ∷ lines) else None
 
 -- what follows spaces and tabs with at most one line ending
 abbrev pub after_gap : List (List ℕ) → List (List ℕ)
@@ -48,25 +49,25 @@ is_raw_byte b = (b == 0) || (nat_lt 32 b && not (b == 127))
 
 -- how many parentheses are open behind this byte
 abbrev pub depth_after : ℕ → ℕ → ℕ
-depth_after depth b = if b == 40 then depth + 1 else if b == 41 then depth - 1 else depth
+depth_after depth b = if b == left_parenthesis then depth + 1 else if b == right_parenthesis then depth - 1 else depth
 
 -- whether parentheses nest, so many open before; those that a backslash escapes are left out
 unfoldable pub balanced : ℕ → Bool → List ℕ → Bool
 balanced depth escaped [] = depth == 0
 balanced depth true (b ∷ bs) = balanced depth false bs
-balanced depth false (b ∷ bs) = not ((b == 41) && (depth == 0)) && balanced (depth_after depth b) (b == 92) bs
+balanced depth false (b ∷ bs) = not ((b == right_parenthesis) && (depth == 0)) && balanced (depth_after depth b) (b == backslash) bs
 
 -- the destination that is next (CommonMark 6.3)
 unfoldable pub destination_at : List ℕ → Option Destination
 destination_at line =
     let raw = take_while is_raw_byte line in
-    if begins_with 60 line then elim (enclosed 60 62 false (after_optional 60 line)) [ Closed text rest ↦ Some (record { text = text; rest = rest }) | Open ↦ None | Broken ↦ None ]
+    if begins_with less_than line then elim (enclosed less_than greater_than false (after_optional less_than line)) [ Closed text rest ↦ Some (record { text = text; rest = rest }) | Open ↦ None | Broken ↦ None ]
     else if not (is_end raw) && balanced 0 false raw then Some (record { text = raw; rest = after is_raw_byte line })
     else None
 
 -- the mark that closes a title which begins with this byte
 abbrev pub title_closer : ℕ → Option ℕ
-title_closer b = if (b == 34) || (b == 39) then Some b else if b == 40 then Some 41 else None
+title_closer b = if (b == double_quote) || (b == single_quote) then Some b else if b == left_parenthesis then Some right_parenthesis else None
 
 -- a text that nothing but spaces and tabs follows on its line, and the lines behind it
 abbrev pub alone : Option Lines → Option Lines

@@ -1,5 +1,6 @@
 -- Text up to a mark that a backslash can escape: labels, destinations, titles and cells.
 use Rattle.std.specs.Prelude.{ℕ, Bool, true, false, ◌==◌, if◌then◌else◌, List, [], ◌∷◌, Option, Some, None}
+use Rattle.md_seam.specs.Standard.Ascii.{backslash}
 
 -- A text on one line up to its closing mark.
 pub data Enclosed : Type 0 where
@@ -24,7 +25,7 @@ enclosed opener closer true (b ∷ bs) = with_byte b (enclosed opener closer fal
 enclosed opener closer false (b ∷ bs) =
     if b == closer then Closed [] bs
     else if b == opener then Broken
-    else with_byte b (enclosed opener closer (b == 92) bs)
+    else with_byte b (enclosed opener closer (b == backslash) bs)
 
 -- A text over lines: its lines, and what is still to come, first the rest of the line that closes it.
 pub record Lines : Type 0 where

@@ -6,6 +6,7 @@ use Rattle.std.specs.Str.{str_eq_ignore_ascii_case}
 use Rattle.md_seam.specs.Standard.Lines.{begins_with}
 use Rattle.md_seam.specs.Standard.Rest.{is_white, is_blank, is_parted, trim_start}
 use Rattle.md_seam.specs.Standard.Bytes.{after, begins, after_optional}
+use Rattle.md_seam.specs.Standard.Ascii.{backtick, colon, dot, double_quote, equals_sign, exclamation_mark, greater_than, hyphen, less_than, single_quote, slash, space, tab, underscore}
 
 -- The kinds 1 to 7 of the standard, in its order.
 pub data HtmlKind : Type 0 where
@@ -50,11 +51,11 @@ is_basic_name name = is_name_of basic_names name
 
 -- the bytes of a tag name (CommonMark 6.6)
 abbrev pub is_tag_byte : ℕ → Bool
-is_tag_byte b = is_ascii_alphanumeric b || (b == 45)
+is_tag_byte b = is_ascii_alphanumeric b || (b == hyphen)
 
 -- what may follow a name of kind 1: the end of the line, a space, a tab or `>`
 abbrev pub ends_name : List ℕ → Bool
-ends_name rest = is_parted rest || begins_with 62 rest
+ends_name rest = is_parted rest || begins_with greater_than rest
 
 -- whether kind 1 begins, after `<`
 unfoldable pub begins_raw : List ℕ → Bool
@@ -66,14 +67,14 @@ begins_basic rest = is_basic_name (take_while is_tag_byte rest) && (ends_name (a
 
 -- the first byte of an attribute's name, and the others (CommonMark 6.6)
 abbrev pub begins_attribute : ℕ → Bool
-begins_attribute b = is_ascii_alphabetic b || (b == 95) || (b == 58)
+begins_attribute b = is_ascii_alphabetic b || (b == underscore) || (b == colon)
 
 abbrev pub is_attribute_byte : ℕ → Bool
-is_attribute_byte b = is_ascii_alphanumeric b || (b == 95) || (b == 46) || (b == 58) || (b == 45)
+is_attribute_byte b = is_ascii_alphanumeric b || (b == underscore) || (b == dot) || (b == colon) || (b == hyphen)
 
 -- the bytes of a value without quotes: no space, tab, `"`, `'`, `=`, `<`, `>` or backtick (CommonMark 6.6)
 abbrev pub is_value_byte : ℕ → Bool
-is_value_byte b = not (is_white b || (b == 34) || (b == 39) || (b == 61) || (b == 60) || (b == 62) || (b == 96))
+is_value_byte b = not (is_white b || (b == double_quote) || (b == single_quote) || (b == equals_sign) || (b == less_than) || (b == greater_than) || (b == backtick))
 
 -- what follows the next such byte, if there is one
 abbrev pub after_next : ℕ → List ℕ → Option (List ℕ)
@@ -84,14 +85,14 @@ after_next byte (b ∷ bs) = if b == byte then Some bs else after_next byte bs
 unfoldable pub after_value : List ℕ → Option (List ℕ)
 after_value [] = None
 after_value (b ∷ bs) =
-    if (b == 34) || (b == 39) then after_next b bs
+    if (b == double_quote) || (b == single_quote) then after_next b bs
     else if is_value_byte b then Some (after is_value_byte bs)
     else None
 
 -- what follows the value of an attribute that may have one, after its name
 unfoldable pub after_assignment : List ℕ → Option (List ℕ)
 after_assignment rest =
-    if begins_with 61 (trim_start rest) then after_value (trim_start (after_optional 61 (trim_start rest))) else Some rest
+    if begins_with equals_sign (trim_start rest) then after_value (trim_start (after_optional equals_sign (trim_start rest))) else Some rest
 
 -- what follows an attribute: whitespace, a name, and perhaps `=` and a value
 unfoldable pub after_attribute : List ℕ → Option (List ℕ)
@@ -105,17 +106,17 @@ after_attributes (suc n) rest = elim (after_attribute rest) [ Some more ↦ afte
 
 -- whether `>` is next and then spaces and tabs to the end of the line
 abbrev pub closes_tag : List ℕ → Bool
-closes_tag rest = begins_with 62 rest && is_blank (after_optional 62 rest)
+closes_tag rest = begins_with greater_than rest && is_blank (after_optional greater_than rest)
 
 -- whether this is the rest of an opening tag after its name, with spaces and tabs to the end of the line
 unfoldable pub ends_opening : List ℕ → Bool
-ends_opening rest = closes_tag (after_optional 47 (trim_start (after_attributes (length rest) rest)))
+ends_opening rest = closes_tag (after_optional slash (trim_start (after_attributes (length rest) rest)))
 
 -- whether kind 7 begins, after `<`: a closing tag or an opening tag, and then spaces and tabs
 unfoldable pub begins_complete : List ℕ → Bool
 begins_complete [] = false
 begins_complete (b ∷ rest) =
-    if b == 47 then begins is_ascii_alphabetic rest && closes_tag (trim_start (after is_tag_byte rest))
+    if b == slash then begins is_ascii_alphabetic rest && closes_tag (trim_start (after is_tag_byte rest))
     else is_ascii_alphabetic b && ends_opening (after is_tag_byte rest)
 
 -- the kind that begins here, after `<`
@@ -124,16 +125,16 @@ kind_after rest =
     if begins_raw rest then Some Raw
     else if starts_with nat_eq rest (codes "!--") then Some Comment
     else if starts_with nat_eq rest (codes "?") then Some Instruction
-    else if starts_with nat_eq rest (codes "!") && begins is_ascii_alphabetic (after_optional 33 rest) then Some Declaration
+    else if starts_with nat_eq rest (codes "!") && begins is_ascii_alphabetic (after_optional exclamation_mark rest) then Some Declaration
     else if starts_with nat_eq rest (codes "![CDATA[") then Some Cdata
-    else if begins_basic (after_optional 47 rest) then Some Basic
+    else if begins_basic (after_optional slash rest) then Some Basic
     else if begins_complete rest then Some Complete
     else None
 
 -- the kind that a line begins, given from its `<` on
 unfoldable pub html_kind : List ℕ → Option HtmlKind
 html_kind [] = None
-html_kind (b ∷ rest) = if b == 60 then kind_after rest else None
+html_kind (b ∷ rest) = if b == less_than then kind_after rest else None
 
 -- whether these bytes come first, in any ASCII case
 abbrev pub starts_in_any_case : List ℕ → List ℕ → Bool

@@ -5,6 +5,7 @@ use Rattle.caseless.specs.Caseless.{default_case_fold}
 use Rattle.md_seam.specs.Standard.Rest.{is_white}
 use Rattle.md_seam.specs.Standard.Bytes.{is_end}
 use Rattle.md_seam.specs.Standard.Tree as t
+use Rattle.md_seam.specs.Standard.Ascii.{space}
 
 -- the words of a line
 abbrev pub words : List ℕ → List (List ℕ)
@@ -12,7 +13,7 @@ words line = filter (λ piece. not (is_end piece)) (slice_split is_white line)
 
 -- the lines as one, with a single space for each run of spaces, tabs and endings, and none at the ends
 abbrev pub spaced : List (List ℕ) → List ℕ
-spaced lines = join_with_byte 32 (flat_map words lines)
+spaced lines = join_with_byte space (flat_map words lines)
 
 -- the normal form of a label, given its lines
 unfoldable pub normal_form : List (List ℕ) → List ℕ

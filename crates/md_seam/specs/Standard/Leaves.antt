@@ -8,6 +8,7 @@ use Rattle.md_seam.specs.Standard.Rest.{Rest, is_white, is_blank, is_parted, run
 use Rattle.md_seam.specs.Standard.Html.{HtmlKind, Basic, Complete, html_kind, html_ends}
 use Rattle.md_seam.specs.Standard.Table.{delimiter_columns, row_cells, is_head}
 use Rattle.md_seam.specs.Standard.State.{Kept, Opening, Leaf, NoLeaf, OpenParagraph, OpenCode, OpenFence, OpenHtml, OpenTable, Spot, then_block, then_definitions, shut_paragraph, kept, texts, cut, fence_block}
+use Rattle.md_seam.specs.Standard.Ascii.{asterisk, backtick, dollar, equals_sign, hash, hyphen, pipe, tilde, underscore}
 
 -- what a leaf has come to with a line: it is open, or finished
 pub data Came : Type 0 where
@@ -33,7 +34,7 @@ is_free LazyText = false
 -- Thematic break (CommonMark 4.1).
 
 abbrev pub is_rule_marker : ℕ → Bool
-is_rule_marker b = (b == 42) || (b == 45) || (b == 95)
+is_rule_marker b = (b == asterisk) || (b == hyphen) || (b == underscore)
 
 -- three or more of one of `*`, `-` and `_`, with spaces and tabs between and after
 abbrev pub is_rule : List ℕ → Bool
@@ -50,7 +51,7 @@ break_at options r =
 
 -- without the `#` at the end
 abbrev pub without_closing : List ℕ → List ℕ
-without_closing text = take (length text - suffix_len (λ b. b == 35) text) text
+without_closing text = take (length text - suffix_len (λ b. b == hash) text) text
 
 -- what follows the opening run, without a closing run that is all of it or stands behind whitespace
 abbrev pub heading_text : List ℕ → List ℕ
@@ -68,7 +69,7 @@ heading_lines (b ∷ text) = (b ∷ text) ∷ []
 unfoldable pub heading_at : ParseOptions → Rest → Option Came
 heading_at options r =
     let text = trim_start r.bytes in
-    let depth = run_len 35 text in
+    let depth = run_len hash text in
     if options.constructs.heading_atx && has_small_indent options r && nat_le 1 depth && nat_le depth 6 && is_parted (drop depth text)
     then Some (Finished (Heading depth (heading_lines (heading_text (drop depth text)))))
     else None
@@ -94,15 +95,15 @@ code_goes_on lines r = if is_blank r.bytes || nat_le 4 (indent r) then Some (Ope
 -- backticks and tildes fence code, dollars fence math
 abbrev pub is_fence_marker : ParseOptions → ℕ → Bool
 is_fence_marker options m =
-    if m == 36 then options.constructs.math_flow
-    else options.constructs.code_fenced && ((m == 96) || (m == 126))
+    if m == dollar then options.constructs.math_flow
+    else options.constructs.code_fenced && ((m == backtick) || (m == tilde))
 
 abbrev pub least_size : ℕ → ℕ
-least_size m = if m == 36 then 2 else 3
+least_size m = if m == dollar then 2 else 3
 
 -- the rest of an opening fence holds none of its markers, unless these are tildes
 abbrev pub allows : ℕ → List ℕ → Bool
-allows m after = (m == 126) || not (list_any (λ b. b == m) after)
+allows m after = (m == tilde) || not (list_any (λ b. b == m) after)
 
 abbrev pub nonempty : List ℕ → Option (List ℕ)
 nonempty [] = None
@@ -120,8 +121,8 @@ opening m size columns text = record {
   marker = m;
   size = size;
   indent = columns;
-  info = if m == 36 then None else nonempty (first_word text);
-  meta = nonempty (if m == 36 then text else behind_word text);
+  info = if m == dollar then None else nonempty (first_word text);
+  meta = nonempty (if m == dollar then text else behind_word text);
 }
 
 abbrev pub fence_from : ParseOptions → ℕ → List ℕ → Option Came
@@ -216,7 +217,7 @@ unfoldable pub underline_depth : ParseOptions → Rest → Option ℕ
 underline_depth options r =
     let text = trim r.bytes in
     if options.constructs.heading_setext && has_small_indent options r
-    then if is_run 61 text then Some 1 else if is_run 45 text then Some 2 else None
+    then if is_run equals_sign text then Some 1 else if is_run hyphen text then Some 2 else None
     else None
 
 -- with one line more

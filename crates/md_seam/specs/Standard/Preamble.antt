@@ -5,6 +5,7 @@ use Rattle.md_engine.specs.declared.configuration.ParseOptions.{ParseOptions}
 use Rattle.md_seam.specs.Standard.Tree.{Block, Frontmatter}
 use Rattle.md_seam.specs.Standard.Lines.{lines_of}
 use Rattle.md_seam.specs.Standard.Rest.{Rest, is_blank, run_len}
+use Rattle.md_seam.specs.Standard.Ascii.{hyphen, plus}
 
 -- the bytes EF BB BF at the start of the text
 abbrev pub has_mark : List ℕ → Bool
@@ -23,7 +24,7 @@ is_front_fence m line = (run_len m line == 3) && is_blank (drop 3 line)
 
 -- the byte of the fence that this line is
 abbrev pub front_marker : List ℕ → Option ℕ
-front_marker line = if is_front_fence 45 line then Some 45 else if is_front_fence 43 line then Some 43 else None
+front_marker line = if is_front_fence hyphen line then Some hyphen else if is_front_fence plus line then Some plus else None
 
 -- the frontmatter of a text, and the lines after it
 pub record Front : Type 0 where

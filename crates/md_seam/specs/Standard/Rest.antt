@@ -3,6 +3,7 @@ use Rattle.std.specs.Prelude.{ℕ, zero, suc, ◌+◌, ◌-◌, ◌%◌, Bool, t
 use Rattle.std.specs.List.{list_all, prefix_len, suffix_len}
 use Rattle.md_engine.specs.declared.configuration.ParseOptions.{ParseOptions}
 use Rattle.md_seam.specs.Standard.Tree.{Line}
+use Rattle.md_seam.specs.Standard.Ascii.{space, tab}
 
 -- the column from 0 at which it begins, the virtual spaces there (columns left of a cut tab), and the bytes behind them
 pub record Rest : Type 0 where
@@ -12,7 +13,7 @@ pub record Rest : Type 0 where
 
 -- a space or a tab
 abbrev pub is_white : ℕ → Bool
-is_white b = (b == 32) || (b == 9)
+is_white b = (b == space) || (b == tab)
 
 -- only spaces and tabs
 abbrev pub is_blank : List ℕ → Bool
@@ -45,8 +46,8 @@ tab_columns column = 4 - column % 4
 abbrev pub white_columns : ℕ → List ℕ → ℕ
 white_columns column [] = 0
 white_columns column (b ∷ bytes) =
-    if b == 9 then tab_columns column + white_columns (column + tab_columns column) bytes
-    else if b == 32 then 1 + white_columns (column + 1) bytes
+    if b == tab then tab_columns column + white_columns (column + tab_columns column) bytes
+    else if b == space then 1 + white_columns (column + 1) bytes
     else 0
 
 -- the columns of its leading spaces and tabs
@@ -63,15 +64,15 @@ has_small_indent options r = is_small options (indent r)
 -- the byte of a tab of which so many columns are left, if any
 abbrev pub cut_tab : ℕ → List ℕ
 cut_tab zero = []
-cut_tab (suc columns) = 9 ∷ []
+cut_tab (suc columns) = tab ∷ []
 
 -- without one column of a space, of a tab or of what is left of a tab
 abbrev pub without_column : ℕ → ℕ → List ℕ → Rest
 without_column column (suc spaces) bytes = record { column = column + 1; spaces = spaces; bytes = bytes }
 without_column column zero [] = record { column = column; spaces = 0; bytes = [] }
 without_column column zero (b ∷ bytes) =
-    if b == 9 then record { column = column + 1; spaces = tab_columns column - 1; bytes = bytes }
-    else if b == 32 then record { column = column + 1; spaces = 0; bytes = bytes }
+    if b == tab then record { column = column + 1; spaces = tab_columns column - 1; bytes = bytes }
+    else if b == space then record { column = column + 1; spaces = 0; bytes = bytes }
     else record { column = column; spaces = 0; bytes = b ∷ bytes }
 
 -- without so many columns of whitespace, or as many as there are

@@ -6,6 +6,7 @@ use Rattle.md_seam.specs.Standard.Tree.{Line, Block, Quote, Item, Footnote, Code
 use Rattle.md_seam.specs.Standard.Rest.{Rest, is_blank, indent, trim_start}
 use Rattle.md_seam.specs.Standard.Html.{HtmlKind}
 use Rattle.md_seam.specs.Standard.Definition.{Defined, cut_definitions}
+use Rattle.md_seam.specs.Standard.Ascii.{dollar}
 
 -- an open container
 pub data Container : Type 0 where
@@ -93,7 +94,7 @@ without_trailing_blank lines = take (length lines - suffix_len (λ l. is_blank l
 
 -- fenced code or math, and whether it has a closing fence
 abbrev pub fence_block : Opening → List Line → Bool → Block
-fence_block o lines closed = if o.marker == 36 then Math o.meta lines closed else Fence o.marker o.info o.meta lines closed
+fence_block o lines closed = if o.marker == dollar then Math o.meta lines closed else Fence o.marker o.info o.meta lines closed
 
 -- with what the leaf comes to when it is closed
 abbrev pub then_leaf : ParseOptions → Blocks → Leaf → Blocks

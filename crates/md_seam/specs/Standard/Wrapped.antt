@@ -2,6 +2,7 @@
 use Rattle.std.specs.Prelude.{ℕ, List, [], ◌∷◌, ◌++◌, map}
 use Rattle.std.specs.List.{concat}
 use Rattle.md_seam.specs.Standard.Lines.{full_lines_of}
+use Rattle.md_seam.specs.Standard.Ascii.{greater_than, plus, space}
 
 -- the first prefix before the first line, the second before each other
 abbrev pub prefixed : List ℕ → List ℕ → List (List ℕ) → List (List ℕ)
@@ -10,8 +11,8 @@ prefixed first further (line ∷ lines) = (first ++ line) ∷ map (λ l. further
 
 -- `> ` before each line
 abbrev pub quoted : List ℕ → List ℕ
-quoted text = concat (prefixed (62 ∷ 32 ∷ []) (62 ∷ 32 ∷ []) (full_lines_of text))
+quoted text = concat (prefixed (greater_than ∷ space ∷ []) (greater_than ∷ space ∷ []) (full_lines_of text))
 
 -- `+ ` before the first line, and two spaces before each other
 abbrev pub itemised : List ℕ → List ℕ
-itemised text = concat (prefixed (43 ∷ 32 ∷ []) (32 ∷ 32 ∷ []) (full_lines_of text))
+itemised text = concat (prefixed (plus ∷ space ∷ []) (space ∷ space ∷ []) (full_lines_of text))
