@@ -8,15 +8,15 @@ use Rattle.md_engine.specs.declared.event.Point.{Point}
 use Rattle.md_content.specs.Joined.{content_behind}
 use Rattle.md_seam.specs.Events.Nested.{enter, exit}
 use Rattle.md_seam.specs.Standard.State.{Container, InFootnote, InItem, InQuote}
-use Rattle.md_seam.specs.Substituted.{is_prefix}
+use Rattle.md_seam.specs.Events.Prefix.{is_prefix}
 use Rattle.md_seam.specs.Events.Spelled.{FootnoteShape, ItemShape, OrderedShape, QuoteShape, Shape, UnorderedShape, Holds, role}
 use Rattle.md_seam.specs.Events.Tiles.{part_kind}
 use Rattle.md_seam.specs.Events.Endings.{on_line}
 use Rattle.md_seam.proofs.EndingsLemmas.{is_other}
-use Rattle.md_outline.specs.Outlined.{is_plain}
 use Rattle.markdown_blocks.specs.ContainerKinds.{container_name, shape_of}
 use Rattle.markdown_blocks.proofs.PartedFacts.{Still}
 use Rattle.markdown_blocks.proofs.PlainFacts.{Untold}
+use Rattle.md_outline.specs.Roles.{is_plain}
 
 -- events with names of prefixes or of containers, none of which begins a chunk
 abbrev pub is_front : Name → Bool

@@ -6,7 +6,8 @@ use Rattle.md_engine.specs.declared.tokenizer.Scratch.{Scratch}
 use Rattle.md_engine.specs.Meaning.{Accepts, Cell, Fails, Here, Outcome, Refuses}
 use Rattle.md_engine.specs.World.{Flags}
 use Rattle.md_containers.specs.QuoteRule.{quote_at}
-use Rattle.md_containers.proofs.PrefixShorter.{Shortens, quote-shortens}
+use Rattle.md_containers.proofs.QuoteShorter.{quote-shortens}
+use Rattle.md_containers.proofs.Shorter.{Shortens}
 use Rattle.md_content.specs.ChunkRule.{chunk_at, inside_chunk}
 use Rattle.md_leaves.specs.BlankRule.{blank_at}
 use Rattle.md_seam.proofs.FeedLines.{Stops}

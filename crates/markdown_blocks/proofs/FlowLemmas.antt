@@ -8,7 +8,8 @@ use Rattle.md_engine.specs.declared.tokenizer.Scratch.{Scratch}
 use Rattle.md_engine.specs.Meaning.{Accepts, Cell, Fails, Here, Outcome, Refuses}
 use Rattle.md_engine.specs.World.{Flags}
 use Rattle.md_containers.specs.QuoteRule.{quote_at}
-use Rattle.md_containers.proofs.PrefixShorter.{Shortens, prefix-shortens, quote-shortens}
+use Rattle.md_containers.proofs.QuoteShorter.{prefix-shortens, quote-shortens}
+use Rattle.md_containers.proofs.Shorter.{Shortens}
 use Rattle.md_content.specs.ChunkRule.{chunk_at, inside_chunk}
 use Rattle.md_leaves.specs.BlankRule.{blank_at}
 use Rattle.md_seam.specs.Ahead.{line_bytes}

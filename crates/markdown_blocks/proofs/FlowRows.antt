@@ -18,7 +18,7 @@ use Rattle.md_engine.specs.Ends.{ends_at, name_of, point_of, put}
 use Rattle.md_engine.specs.Meaning.{Accepts, Cell, Here, Outcome, Refuses}
 use Rattle.md_engine.specs.World.{closed_events}
 use Rattle.md_containers.specs.QuoteRule.{prefix_at, prefix_rest, quote_at, takes_prefix}
-use Rattle.md_containers.proofs.PrefixCells.{prefix-is, prefix-shorter, quote-is}
+use Rattle.md_containers.proofs.QuoteCells.{prefix-is, prefix-shorter, quote-is}
 use Rattle.md_content.specs.Chunks.{content_link}
 use Rattle.md_seam.specs.Ahead.{from_ending, line_bytes, line_end}
 use Rattle.md_seam.specs.Events.Nested.{enter, enter_link, exit, pair}

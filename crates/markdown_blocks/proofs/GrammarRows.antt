@@ -17,7 +17,8 @@ use Rattle.md_seam.specs.Events.Places.{same_place}
 use Rattle.md_seam.specs.Standard.Preamble.{has_mark}
 use Rattle.md_seam.specs.Standard.State.{Container}
 use Rattle.md_seam.proofs.FeedLines.{ending-some}
-use Rattle.md_seam.proofs.GrammarLemmas.{IsWord, Leads, keeps-blocks, keeps-marked, leads-append, leads-around, leads-pair, leads-rest, leads-unless, maybe, word-behind}
+use Rattle.md_seam.proofs.GrammarLemmas.{IsWord, Leads, keeps-blocks, leads-append, leads-around, leads-pair, leads-rest, leads-unless, maybe, word-behind}
+use Rattle.md_seam.proofs.MarkGrammar.{keeps-marked}
 use Rattle.markdown_blocks.specs.Change.{ends_of}
 use Rattle.markdown_blocks.specs.Document.{body_point, mark_end, mark_events}
 use Rattle.markdown_blocks.specs.Rows.{BlankRow, Group, Lines, Row, RowKind, Single, TextRow, behind_row, ending_events, ending_of, group_events, groups, groups_events, last_row, onto_groups, goes_on, read_lines, tail_events, LeafRow, leaf_done, leaf_unread}

@@ -11,7 +11,8 @@ use Rattle.md_seam.specs.Standard.State.{At, Container, Kept, Leaf, NoLeaf, Open
 use Rattle.md_seam.specs.Standard.Step.{all_continued, all_continued_by, entered, fresh_by, fresh_line, is_concrete, is_open_text, lazy_by, leaf_line, opened, spot_of, step, stopped, stopped_by, text_by, text_line, with_lazy}
 use Rattle.md_seam.specs.Standard.Tree.{Blocks, End}
 use Rattle.md_seam.proofs.ColumnLemmas.{opened_by, step_by}
-use Rattle.md_seam.proofs.ContainerLemmas.{LeavesFewer, opens-leaves}
+use Rattle.md_seam.proofs.ContainerLemmas.{opens-leaves}
+use Rattle.md_seam.proofs.TakenLemmas.{LeavesFewer}
 use Rattle.markdown_blocks.specs.Change.{Change, change_by, interrupts, is_none, open_behind, others_of}
 use Rattle.markdown_blocks.specs.Fronted.{Contained, Prefixed, contained, no_prefix, one_more, prefixes_new, prefixes_on}
 use Rattle.markdown_blocks.specs.Parsed.{IsBuilt}

@@ -14,7 +14,8 @@ use Rattle.md_seam.proofs.PlacesLemmas.{all-append}
 use Rattle.md_seam.proofs.PreambleLemmas.{mark-bytes, mark-length}
 use Rattle.md_seam.proofs.SpelledLemmas.{read-from, read-quiet}
 use Rattle.md_outline.specs.Between.{is_between}
-use Rattle.md_outline.specs.Outlined.{IsOutlined, are_parted, are_shallow, has_plain_name, tells_between}
+use Rattle.md_outline.specs.HeadingDepths.{are_shallow}
+use Rattle.md_outline.specs.Outlined.{IsOutlined, are_parted, has_plain_name, tells_between}
 use Rattle.markdown_blocks.specs.Document.{body_point, mark_end, mark_events}
 
 -- The text.

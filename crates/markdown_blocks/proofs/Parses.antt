@@ -21,7 +21,8 @@ use Rattle.md_seam.specs.Events.Spelled.{spelled}
 use Rattle.md_seam.specs.Substituted.{Readings, Substituted}
 use Rattle.md_seam.specs.Standard.Texts.{split_lines}
 use Rattle.md_seam.specs.Events.Tiles.{Tiles, parts, plain_lists, plain_read}
-use Rattle.md_outline.specs.Outlined.{IsOutlined, are_shallow}
+use Rattle.md_outline.specs.HeadingDepths.{are_shallow}
+use Rattle.md_outline.specs.Outlined.{IsOutlined}
 use Rattle.markdown_blocks.specs.BlockList.{block_list}
 use Rattle.markdown_blocks.specs.Document.{body_point, mark_events}
 use Rattle.markdown_blocks.specs.FlowReads.{FlowReads, text_cells, text_rows}

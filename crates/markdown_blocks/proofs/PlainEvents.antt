@@ -16,7 +16,7 @@ use Rattle.md_seam.specs.Events.Spelled.{Holds, Shape, byte_at, role, spelled}
 use Rattle.md_seam.specs.Standard.State.{Container}
 use Rattle.md_seam.proofs.SpelledLemmas.{Roles, roles-append}
 use Rattle.md_outline.specs.Between.{is_between}
-use Rattle.md_outline.specs.Outlined.{IsOutlined, are_shallow, is_plain, is_told, tells_between}
+use Rattle.md_outline.specs.Outlined.{IsOutlined, tells_between}
 use Rattle.markdown_blocks.specs.Change.{Change, ends_of}
 use Rattle.markdown_blocks.specs.Fronted.{contained, rest_from, rest_line}
 use Rattle.markdown_blocks.specs.Rows.{BlankRow, Group, Lines, Row, RowKind, Single, TextRow, behind_row, ending_events, group_events, groups, groups_events, is_text, last_row, read_lines, single_events_by, tail_events, LeafRow, ending_of, leaf_done, leaf_events}
@@ -33,6 +33,8 @@ use Rattle.markdown_blocks.proofs.ContainerFacts.{continues-facts, opens-facts}
 use Rattle.markdown_blocks.proofs.ContainerNames.{container-untold}
 use Rattle.markdown_blocks.proofs.PrefixFacts.{Opens}
 use Rattle.markdown_blocks.proofs.PrefixNames.{prefixes-roles, quiets-roles}
+use Rattle.md_outline.specs.Roles.{is_plain, is_told}
+use Rattle.md_outline.specs.HeadingDepths.{are_shallow}
 
 -- Containers.
 

@@ -13,7 +13,8 @@ use Rattle.md_seam.specs.Events.Nested.{around, enter, exit, pair}
 use Rattle.md_seam.specs.Events.Places.{past_byte, past_text, same_place}
 use Rattle.md_seam.specs.Events.Spelled.{IsQuiet, Role, role}
 use Rattle.md_seam.proofs.SpelledLemmas.{Quiet, Roles}
-use Rattle.md_outline.specs.Outlined.{has_plain_name, is_plain, is_told}
+use Rattle.md_outline.specs.Outlined.{has_plain_name}
+use Rattle.md_outline.specs.Roles.{is_plain, is_told}
 use Rattle.markdown_blocks.proofs.PartedFacts.{clear}
 
 -- whether a text begins or ends at such a point

@@ -11,7 +11,6 @@ use Rattle.md_seam.proofs.SpelledLemmas.{QuietOrPrefix, Roles}
 use Rattle.md_seam.proofs.EndingsLemmas.{AreOthers}
 use Rattle.md_seam.proofs.GrammarLemmas as grammar
 use Rattle.md_outline.specs.Between.{is_between}
-use Rattle.md_outline.specs.Outlined.{is_plain}
 use Rattle.markdown_blocks.specs.ContainerKinds.{container_name, shape_of}
 use Rattle.markdown_blocks.proofs.BetweenFacts.{AreBetween}
 use Rattle.markdown_blocks.proofs.PartsStand.{Inside}
@@ -20,6 +19,7 @@ use Rattle.markdown_blocks.proofs.PrefixNames.{AreFront, ArePrefixes, TakesPrefi
 use Rattle.markdown_blocks.proofs.SpanLemmas.{Nested_in}
 use Rattle.markdown_blocks.proofs.PieceFacts.{Stood}
 use Rattle.markdown_blocks.proofs.PartedFacts.{clear, PartsText}
+use Rattle.md_outline.specs.Roles.{is_plain}
 
 -- where it goes on, and where it opens
 pub record PrefixFacts (bytes : List ℕ) (p q : Point) (es : List Event) : Type 0 where

@@ -7,7 +7,7 @@ use Rattle.md_engine.specs.declared.event.Name.TheVariants as n
 use Rattle.md_seam.specs.Events.Spelled as spelled
 use Rattle.md_seam.specs.Events.Spelled.{IsQuiet, Role, role}
 use Rattle.md_seam.specs.Events.Tiles.{part_kind}
-use Rattle.md_seam.specs.Substituted.{is_prefix}
+use Rattle.md_seam.specs.Events.Prefix.{is_prefix}
 use Rattle.md_seam.specs.Events.Grammar.{Expression, behind}
 use Rattle.md_seam.proofs.SpelledLemmas.{QuietOrPrefix, Roles}
 use Rattle.markdown_blocks.proofs.PartFacts.{NoLinks, NoParts}

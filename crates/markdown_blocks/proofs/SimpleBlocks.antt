@@ -4,7 +4,7 @@ use Rattle.std.proofs.lemmas.Bool.{and_from}
 use Rattle.md_seam.specs.Standard.Grouped.{grouped, grouped_block, with_front}
 use Rattle.md_seam.specs.Standard.State.{then_block}
 use Rattle.md_seam.specs.Standard.Tree.{Block, Blocks, End, More, Paragraph, Quote}
-use Rattle.md_outline.specs.Outlined.{are_shallow, is_shallow}
+use Rattle.md_outline.specs.HeadingDepths.{are_shallow, is_shallow}
 
 pub record IsSimple (b : Block) : Type 0 where
   -- an outline can show it

@@ -17,7 +17,7 @@ use Rattle.md_seam.specs.Events.Spelled.{IsPrefix, IsQuiet, Reading, Role, Text,
 use Rattle.md_seam.specs.Standard.State.{Container, InQuote, Kept, kept, texts}
 use Rattle.md_seam.specs.Standard.Texts.{trim_each}
 use Rattle.md_seam.specs.Standard.Tree.{Paragraph}
-use Rattle.md_seam.proofs.BlocksLemmas.{read-paragraph}
+use Rattle.md_seam.proofs.ParagraphReads.{read-paragraph}
 use Rattle.md_seam.proofs.FeedLines.{slice-inside}
 use Rattle.md_seam.proofs.RestCells.{Cut}
 use Rattle.md_seam.proofs.SpelledLemmas.{Between, QuietOrEnding, Roles, roles-append, text-inline, text_after, text_after-append}

@@ -14,7 +14,8 @@ use Rattle.md_engine.specs.declared.event.Name.{Name}
 use Rattle.md_engine.specs.declared.event.Point.{Point}
 use Rattle.md_seam.specs.declared.inline.Chunk.{Chunk}
 use Rattle.md_seam.specs.Events.Nested.{around, enter, enter_link, exit}
-use Rattle.md_seam.specs.Substituted.{Readings, belongs, Substituted, chunk_of, chunks_behind, is_prefix, share, wanted, wanted_at}
+use Rattle.md_seam.specs.Substituted.{Readings, belongs, Substituted, chunk_of, chunks_behind, share, wanted, wanted_at}
+use Rattle.md_seam.specs.Events.Prefix.{is_prefix}
 use Rattle.markdown_blocks.specs.Rows.{Row, behind_row, chunks_of}
 use Rattle.markdown_blocks.specs.Unread.{linked_lines}
 use Rattle.markdown_blocks.proofs.EachEvent.{Each, each-append, each-drop, each-take}

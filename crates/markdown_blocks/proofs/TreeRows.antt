@@ -19,7 +19,6 @@ use Rattle.md_seam.specs.Standard.Step.{fresh_line, spot_of, step, steps}
 use Rattle.md_seam.specs.Standard.Texts.{split_lines}
 use Rattle.md_seam.specs.Standard.Tree.{Blocks, End, Paragraph, Quote}
 use Rattle.md_seam.proofs.LinesLemmas.{without_ending-onto}
-use Rattle.md_outline.specs.Outlined.{are_shallow}
 use Rattle.markdown_blocks.specs.Change.{change_by, interrupts, others_of}
 use Rattle.markdown_blocks.specs.ContainerKinds.{shape_of}
 use Rattle.markdown_blocks.specs.Document.{body_point, mark_end}
@@ -37,6 +36,7 @@ use Rattle.markdown_blocks.proofs.RowFacts as f
 use Rattle.markdown_blocks.proofs.SpelledRows.{spelled-rows}
 use Rattle.markdown_blocks.proofs.RegistryFound.{leaf-simple}
 use Rattle.markdown_blocks.proofs.SimpleBlocks.{AreSimple, grouped-blocks, shallow-blocks, simple-paragraph, simple-quote, simple-then}
+use Rattle.md_outline.specs.HeadingDepths.{are_shallow}
 
 -- Quotes alone are open.
 

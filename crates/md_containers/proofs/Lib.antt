@@ -1,5 +1,6 @@
 pub mod QuoteGoods
 pub mod QuoteSteps
 pub mod QuoteLines
-pub mod PrefixCells
-pub mod PrefixShorter
+pub mod QuoteCells
+pub mod QuoteShorter
+pub mod Shorter

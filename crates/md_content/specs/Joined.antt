@@ -5,7 +5,7 @@ use Rattle.md_engine.specs.declared.event.Name.{Name}
 use Rattle.md_engine.specs.declared.event.Name.TheVariants as n
 use Rattle.md_seam.specs.Events.Inline.{is_line_ending}
 use Rattle.md_seam.specs.Events.Nested.{is_enter, is_exit}
-use Rattle.md_seam.specs.Substituted.{is_prefix}
+use Rattle.md_seam.specs.Events.Prefix.{is_prefix}
 
 abbrev pub is_content : Name → Bool
 is_content n.Content = true

@@ -14,7 +14,7 @@ use Rattle.md_engine.proofs.StepOf.{Sees, ahead, cell_here, moves, passes}
 use Rattle.md_leaves.specs.Bom.{bom_ready, bom_transition, inside_code, mark_at, start_code}
 use Rattle.md_leaves.specs.BomRule.{HasBom, bom_at, inside_mark}
 use Rattle.md_leaves.specs.Heading.{without_size}
-use Rattle.md_leaves.proofs.BreakSteps.{sees-one}
+use Rattle.md_leaves.proofs.LeafSteps.{sees-one}
 use Rattle.md_seam.specs.Events.Nested.{enter, exit}
 use Rattle.md_seam.specs.Spaces.{IsRest, is_current}
 

@@ -1,21 +1,18 @@
 -- What is left of a break, cell by cell.
-use Rattle.std.proofs.Common.{◌≡◌, ℕ, zero, suc, ◌+◌, ◌≤◌, Bool, true, false, cond, nat_eq, List, [], ◌∷◌, ◌++◌, length, refl, sym, ◌∙◌, arith, append_assoc, append-nil, ap₂}
+use Rattle.std.proofs.Common.{◌≡◌, ℕ, ◌+◌, Bool, true, false, cond, nat_eq, List, [], ◌∷◌, ◌++◌, refl, sym, ◌∙◌, arith, append_assoc, append-nil}
 use Rattle.std.specs.Prelude.{count_by, nat_le}
 use Rattle.std.proofs.lemmas.Bool.{eqb-true}
 use Rattle.std.proofs.lemmas.Bool.Decides.{nat_tests}
 use Rattle.std.proofs.lemmas.List.Sums.{sum_by-cons}
-use Rattle.md_engine.specs.declared.event.Event.{Event}
 use Rattle.md_engine.specs.declared.event.Name.TheVariants.{SpaceOrTab, ThematicBreakSequence}
-use Rattle.md_engine.specs.declared.tokenizer.Scratch.{Scratch}
 use Rattle.md_engine.specs.Meaning.{Cell, Here, Refuses}
 use Rattle.md_leaves.specs.Break.{is_marker, without_marker}
 use Rattle.md_leaves.specs.BreakRule.{Apart, Marks, Run, White, at_break, before_marker, in_break, marks}
-use Rattle.md_seam.specs.Ahead.{line_bytes, white_end, white_rest}
+use Rattle.md_leaves.proofs.LeafSteps.{TakesWhite}
+use Rattle.md_seam.specs.Ahead.{line_bytes}
 use Rattle.md_seam.specs.Events.Nested.{enter, exit}
 use Rattle.md_seam.specs.Standard.Rest.{is_white}
-use Rattle.md_seam.specs.Spaces.{calmed}
 use Rattle.md_seam.proofs.AheadLemmas.{white-no_ending}
-use Rattle.md_seam.proofs.WhiteSteps.{behind_white}
 
 pub marks-none : (m : ℕ) → marks m [] ≡ 0
 unfolding marks
@@ -108,39 +105,14 @@ pub apart-mark : (c : Cell) (cs : List Cell) (h : Here) → nat_eq c.byte h.scra
 unfolding in_break
 apart-mark c cs h is e = rw (e, is) (simp append_assoc)
 
--- behind whitespace that ends
-unfoldable pub here_after : ℕ → List Cell → Here → Here
-here_after room cells h = record h { events = h.events ++ exit SpaceOrTab (white_end room cells h.point) ∷ []; point = white_end room cells h.point }
-
--- behind whitespace that was begun here, its events written in another way
-pub behind-joined : (room : ℕ) (cells : List Cell) (h : Here) → calmed h.scratch ≡ h.scratch →
-    here_after room cells (record h { events = h.events ++ enter SpaceOrTab h.point ∷ [] }) ≡ behind_white room cells h
-unfolding here_after
-behind-joined room cells h same =
-    ap₂ (λ (es : List Event) (t : Scratch). let r : Here = record h { events = es; point = white_end room cells h.point; scratch = t } in r) (append_assoc h.events (enter SpaceOrTab h.point ∷ []) _) (sym same)
-
-run-go_on : (room : ℕ) (c : Cell) (cs : List Cell) (h : Here) → is_white c.byte ≡ true →
-    at_break (white_rest room cs) (here_after room cs (record h { point = c.after })) ≡ at_break (white_rest (suc room) (c ∷ cs)) (here_after (suc room) (c ∷ cs) h)
-unfolding here_after
-run-go_on room c cs h s = rw s refl
-
-run-stop : (room : ℕ) (c : Cell) (cs : List Cell) (h : Here) → is_white c.byte ≡ false →
-    in_break Apart (c ∷ cs) (record h { events = h.events ++ exit SpaceOrTab h.point ∷ [] }) ≡ at_break (white_rest (suc room) (c ∷ cs)) (here_after (suc room) (c ∷ cs) h)
-unfolding here_after at_break
-run-stop room c cs h k = rw (k, k) refl
-
--- behind a run of whitespace, however long
-pub white-run : (room : ℕ) (cells : List Cell) (h : Here) → length cells ≤ room → is_white h.scratch.marker ≡ false →
-    in_break White cells h ≡ at_break (white_rest room cells) (here_after room cells h)
-unfolding at_break here_after
-white-run room [] h le apart = white-at_none h
-white-run zero (c ∷ cs) h le apart = absurd (omega arith)
-white-run (suc room) (c ∷ cs) h le apart = go (is_white c.byte) refl (white-run room cs (record h { point = c.after }) (omega arith) apart)
-  where
-    go : (x : Bool) → is_white c.byte ≡ x → in_break White cs (record h { point = c.after }) ≡ at_break (white_rest room cs) (here_after room cs (record h { point = c.after })) →
-        in_break White (c ∷ cs) h ≡ at_break (white_rest (suc room) (c ∷ cs)) (here_after (suc room) (c ∷ cs) h)
-    go true s ih = in_break-white c cs h (white-apart c.byte h.scratch.marker s apart) s (white-no_ending c.byte s) ∙ ih ∙ run-go_on room c cs h s
-    go false k ih = white-ends c cs h k ∙ run-stop room c cs h k
+-- a break takes whitespace byte by byte, where its marker is none
+pub takes-white : TakesWhite (λ s. is_white s.marker ≡ false) (in_break White) at_break
+unfolding at_break
+takes-white = record {
+  more = λ c cs h apart s. in_break-white c cs h (white-apart c.byte h.scratch.marker s apart) s (white-no_ending c.byte s);
+  stop = λ c cs h apart k. white-ends c cs h k ∙ rw k refl;
+  none = λ h apart. white-at_none h;
+}
 
 three-of : (n : ℕ) → nat_le 3 (0 + (1 + n)) ≡ nat_le 2 n
 three-of n = go (nat_le 2 n) refl

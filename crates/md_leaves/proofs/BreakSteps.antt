@@ -1,9 +1,8 @@
 -- Each state of a thematic break takes one step of its rule.
-use Rattle.std.proofs.Common.{◌≡◌, ℕ, Bool, true, false, ◌&&◌, nat_eq, List, [], ◌∷◌, ◌++◌, length, Option, Some, None, refl, sym, ◌∙◌, ap, arith, append-nil, add-zero}
+use Rattle.std.proofs.Common.{◌≡◌, ℕ, Bool, true, false, ◌&&◌, nat_eq, List, [], ◌∷◌, ◌++◌, Option, Some, None, refl, sym, ◌∙◌, ap, arith, append-nil, add-zero}
 use Rattle.std.specs.Prelude.{nat_le}
 use Rattle.std.proofs.lemmas.Bool.{eqb-true}
 use Rattle.md_engine.specs.declared.configuration.ParseOptions.{ParseOptions}
-use Rattle.md_engine.specs.declared.event.Event.{Event}
 use Rattle.md_engine.specs.declared.event.Name.TheVariants.{SpaceOrTab, ThematicBreak}
 use Rattle.md_engine.specs.declared.event.Name.TheVariants as parts
 use Rattle.md_engine.specs.declared.state.Name.TheVariants as n
@@ -19,23 +18,15 @@ use Rattle.md_engine.specs.World.{World, after}
 use Rattle.md_engine.proofs.StepOf.{Sees, ahead, begins, cell_here, moves, passes}
 use Rattle.md_leaves.specs.Break.{at_break_code, before_code, break_ready, break_transition, is_marker, sequence_code, start_code, without_marker}
 use Rattle.md_leaves.specs.BreakRule.{Apart, HasBreak, Marks, White, at_break, before_marker, break_at, in_break}
-use Rattle.md_leaves.proofs.BreakLemmas.{apart-mark, before-mark, before-other, in_break-mark, in_break-other, marker-no_ending, marker-no_white, marks-at_none, marks-end, marks-none, marks-white, white-run, behind-joined}
+use Rattle.md_leaves.proofs.BreakLemmas.{apart-mark, before-mark, before-other, in_break-mark, in_break-other, marker-no_ending, marker-no_white, marks-at_none, marks-end, marks-none, marks-white, takes-white}
 use Rattle.md_leaves.proofs.BreakGoods.{marked-calm}
+use Rattle.md_leaves.proofs.LeafSteps.{sees-one, white_frame, behind-joined, white-run}
 use Rattle.md_seam.specs.Ahead.{begins_white, white_rest}
 use Rattle.md_seam.specs.Events.Nested.{enter, exit}
 use Rattle.md_seam.specs.Standard.Rest.{is_white}
 use Rattle.md_seam.specs.Spaces.{IsRest, any_size, ends_line, is_current, sees_white, small_indent}
 use Rattle.md_seam.proofs.AheadLemmas.{small-some}
 use Rattle.md_seam.proofs.WhiteSteps.{begins-seen, behind_white, white-tried}
-
--- what is seen of a byte that passes a test
-pub sees-one : (feed : Feed) (w : World) (t : Option ℕ → Bool) → t None ≡ false → Sees feed w → t w.current ≡ true →
-    (b : ℕ) × (feed w.point ≡ cell_here feed w b ∷ feed (after w.setting w.point)) × (t (Some b) ≡ true)
-sees-one feed w t none s e = go w.current e s.next
-  where
-    go : (o : Option ℕ) → t o ≡ true → feed w.point ≡ ahead feed w o → (b : ℕ) × (feed w.point ≡ cell_here feed w b ∷ feed (after w.setting w.point)) × (t (Some b) ≡ true)
-    go None e k = let bad : true ≡ false = sym e ∙ none in cc
-    go (Some b) e k = (b, k, e)
 
 sees-other_white : (feed : Feed) (w : World) (m : ℕ) → Sees feed w → is_current m w.current ≡ false → sees_white w.current ≡ true →
     (b : ℕ) × (feed w.point ≡ cell_here feed w b ∷ feed (after w.setting w.point)) × (nat_eq b m ≡ false) × (is_white b ≡ true)
@@ -59,9 +50,6 @@ to-white : (cells : List Cell) (c : Cell) (cs : List Cell) (h : Here) → cells 
 to-white cells c cs h e s k = ap (λ (x : List Cell). in_break Marks x h) e ∙ marks-white c cs h s k
     ∙ ap (λ (x : List Cell). in_break White x (record h { events = h.events ++ exit parts.ThematicBreakSequence h.point ∷ [] ++ enter SpaceOrTab h.point ∷ [] })) (sym e)
 
-abbrev pub white_frame : State → World → List Event → Frame
-white_frame ok w events = record { ok = ok; nok = Nok; is_check = false; events_len = length events; point = w.point }
-
 sequence_steps : (B : Behaviour) (options : ParseOptions) (feed : Feed) (w : World) (x y : Bool) → HasBreak B options →
     Sees feed w → IsRest (without_marker w.scratch) → is_marker w.scratch.marker ≡ true →
     is_current w.scratch.marker w.current ≡ x → sees_white w.current ≡ y →
@@ -79,7 +67,7 @@ sequence_steps B options feed w false true has s r mark e f =
     begins B feed _ _ w (sequence_code w false true).world (exit parts.ThematicBreakSequence w.point ∷ []) frame refl refl
     (has.each its.Sequence _ _
     ∙ to-white (feed w.point) (cell_here feed w saw.0) (feed (after w.setting w.point)) (here w) saw.1 saw.3 saw.2
-    ∙ white-run any_size (feed w.point) (record h { events = h.events ++ enter SpaceOrTab h.point ∷ [] }) (omega (arith, s.short)) (marker-no_white w.scratch.marker mark)
+    ∙ white-run _ (in_break White) at_break any_size (feed w.point) (record h { events = h.events ++ enter SpaceOrTab h.point ∷ [] }) takes-white (marker-no_white w.scratch.marker mark) (omega (arith, s.short))
     ∙ ap (at_break (white_rest any_size (feed w.point))) (behind-joined any_size (feed w.point) h (marked-calm w.scratch r))
     ∙ sym (has.each its.AtBreak _ _)
     ∙ white-tried B feed frame h.events (feed w.point) h 0 any_size has.white (begins-seen feed w s ∙ f) (omega arith) (omega arith) refl)

@@ -1,6 +1,6 @@
 -- What is left of a heading, cell by cell.
-use Rattle.std.proofs.Common.{◌≡◌, ℕ, zero, suc, ◌+◌, ◌≤◌, Bool, true, false, cond, ◌&&◌, nat_eq, List, [], ◌∷◌, ◌++◌, length, refl, sym, ◌∙◌, ap, arith, append_assoc}
-use Rattle.std.specs.Prelude.{nat_le}
+use Rattle.std.proofs.Common.{◌≡◌, ℕ, suc, ◌+◌, ◌≤◌, Bool, true, false, cond, ◌&&◌, nat_eq, List, [], ◌∷◌, ◌++◌, refl, sym, ◌∙◌, ap, arith, append_assoc}
+use Rattle.std.specs.Prelude.{nat_le, ⊤}
 use Rattle.std.proofs.lemmas.Bool.{eqb-true}
 use Rattle.std.proofs.lemmas.Bool.Decides.{nat_tests}
 use Rattle.md_engine.specs.declared.event.Name.TheVariants.{SpaceOrTab, HeadingAtxSequence}
@@ -8,8 +8,8 @@ use Rattle.md_engine.specs.declared.tokenizer.Scratch.{Scratch}
 use Rattle.md_engine.specs.Meaning.{Cell, Here, Refuses}
 use Rattle.md_leaves.specs.Heading.{without_size}
 use Rattle.md_leaves.specs.HeadingRule.{Apart, Hashes, Run, White, at_break, before_opening, begun, closes, goes_on, in_heading, in_opening, is_heading, is_opening, opens}
-use Rattle.md_leaves.proofs.BreakLemmas.{here_after}
-use Rattle.md_seam.specs.Ahead.{begins_white, line_bytes, white_rest}
+use Rattle.md_leaves.proofs.LeafSteps.{TakesWhite}
+use Rattle.md_seam.specs.Ahead.{begins_white, line_bytes}
 use Rattle.md_seam.specs.Events.Nested.{enter, exit}
 use Rattle.md_seam.specs.Standard.Rest.{is_white, run_len}
 use Rattle.md_seam.proofs.AheadLemmas.{white-no_ending}
@@ -49,32 +49,19 @@ pub run-ends_none : (run : Run) (h : Here) → in_heading run [] h ≡ in_headin
 unfolding in_heading
 run-ends_none run h = simp append_assoc
 
--- behind whitespace that ends
-run-go_on : (room : ℕ) (c : Cell) (cs : List Cell) (h : Here) → is_white c.byte ≡ true →
-    at_break (white_rest room cs) (here_after room cs (record h { point = c.after })) ≡ at_break (white_rest (suc room) (c ∷ cs)) (here_after (suc room) (c ∷ cs) h)
-unfolding here_after
-run-go_on room c cs h s = rw s refl
-
-run-stop : (room : ℕ) (c : Cell) (cs : List Cell) (h : Here) → is_white c.byte ≡ false →
-    in_heading Apart (c ∷ cs) (record h { events = h.events ++ exit SpaceOrTab h.point ∷ [] }) ≡ at_break (white_rest (suc room) (c ∷ cs)) (here_after (suc room) (c ∷ cs) h)
-unfolding here_after at_break
-run-stop room c cs h k = rw (k, k) refl
-
-run-none : (room : ℕ) (h : Here) → in_heading Apart [] (record h { events = h.events ++ exit SpaceOrTab h.point ∷ [] }) ≡ at_break (white_rest room []) (here_after room [] h)
-unfolding here_after at_break
-run-none room h = refl
-
--- behind a run of whitespace, however long
-pub white-run : (room : ℕ) (cells : List Cell) (h : Here) → length cells ≤ room → in_heading White cells h ≡ at_break (white_rest room cells) (here_after room cells h)
-white-run room [] h le = run-ends_none White h ∙ run-none room h
-white-run zero (c ∷ cs) h le = absurd (omega arith)
-white-run (suc room) (c ∷ cs) h le = go (is_white c.byte) refl (nat_eq c.byte 10) refl (white-run room cs (record h { point = c.after }) (omega arith))
+-- a heading takes whitespace byte by byte
+pub takes-white : TakesWhite (λ s. ⊤) (in_heading White) at_break
+unfolding at_break
+takes-white = record {
+  more = λ c cs h is s. run-more White c cs h s (white-no_ending c.byte s);
+  stop = λ c cs h is k. go c cs h k (nat_eq c.byte 10) refl ∙ rw k refl;
+  none = λ h is. run-ends_none White h;
+}
   where
-    go : (x : Bool) → is_white c.byte ≡ x → (y : Bool) → nat_eq c.byte 10 ≡ y → in_heading White cs (record h { point = c.after }) ≡ at_break (white_rest room cs) (here_after room cs (record h { point = c.after })) →
-        in_heading White (c ∷ cs) h ≡ at_break (white_rest (suc room) (c ∷ cs)) (here_after (suc room) (c ∷ cs) h)
-    go true s y e ih = run-more White c cs h s (white-no_ending c.byte s) ∙ ih ∙ run-go_on room c cs h s
-    go false s true e ih = run-ends_line White c cs h e ∙ run-stop room c cs h s
-    go false s false e ih = run-ends White c cs h s e ∙ run-stop room c cs h s
+    go : (c : Cell) (cs : List Cell) (h : Here) → is_white c.byte ≡ false → (y : Bool) → nat_eq c.byte 10 ≡ y →
+        in_heading White (c ∷ cs) h ≡ in_heading Apart (c ∷ cs) (record h { events = h.events ++ exit SpaceOrTab h.point ∷ [] })
+    go c cs h k true e = run-ends_line White c cs h e
+    go c cs h k false e = run-ends White c cs h k e
 
 -- whitespace behind a run is the next run
 pub apart-white : (c : Cell) (cs : List Cell) (h : Here) → is_white c.byte ≡ true → in_heading Apart (c ∷ cs) h ≡ in_heading White (c ∷ cs) (record h { events = h.events ++ enter SpaceOrTab h.point ∷ [] })

@@ -22,9 +22,8 @@ use Rattle.md_engine.specs.World.{World, after}
 use Rattle.md_engine.proofs.StepOf.{Sees, ahead, begins, cell_here, moves, passes}
 use Rattle.md_leaves.specs.Heading.{at_break_code, before_code, behind_part, data_code, heading_link, heading_ready, heading_transition, sees_text, sequence_further_code, sequence_open_code, start_code, without_size}
 use Rattle.md_leaves.specs.HeadingRule.{Apart, HasHeading, Hashes, Run, Text, White, at_break, before_opening, begun, closes, goes_on, heading_at, in_heading, in_opening, opens}
-use Rattle.md_leaves.proofs.BreakLemmas.{behind-joined}
-use Rattle.md_leaves.proofs.BreakSteps.{sees-one, white_frame}
-use Rattle.md_leaves.proofs.HeadingLemmas.{apart-none, apart-white, before-hash, before-other, opening-ends, opening-full, opening-more, opening-none, opening-text, opening-white, run-begins, run-ends, run-ends_line, run-ends_none, run-more, white-no_hash, white-run}
+use Rattle.md_leaves.proofs.LeafSteps.{sees-one, white_frame, behind-joined, white-run}
+use Rattle.md_leaves.proofs.HeadingLemmas.{apart-none, apart-white, before-hash, before-other, opening-ends, opening-full, opening-more, opening-none, opening-text, opening-white, run-begins, run-ends, run-ends_line, run-ends_none, run-more, white-no_hash, takes-white}
 use Rattle.md_seam.specs.Ahead.{begins_white, white_rest}
 use Rattle.md_seam.specs.Events.Nested.{enter, exit}
 use Rattle.md_seam.specs.Standard.Rest.{is_white}
@@ -131,7 +130,7 @@ behind_steps B options feed from w name t true has s r e same =
     let frame : Frame = white_frame (Next (n.HeadingAtx its.AtBreak)) w h.events in
     begins B feed from _ w (behind_part (record w { events = h.events; scratch = t }) true).world (exit name w.point ∷ []) frame refl refl
     (same ∙ white-here feed w h s e
-    ∙ white-run any_size (feed w.point) (record h { events = h.events ++ enter SpaceOrTab h.point ∷ [] }) (omega (arith, s.short))
+    ∙ white-run _ (in_heading White) at_break any_size (feed w.point) (record h { events = h.events ++ enter SpaceOrTab h.point ∷ [] }) takes-white tt (omega (arith, s.short))
     ∙ ap (at_break (white_rest any_size (feed w.point))) (behind-joined any_size (feed w.point) h (ap calmed r ∙ sym r))
     ∙ sym (has.each its.AtBreak _ _)
     ∙ white-tried B feed frame h.events (feed w.point) h 1 any_size has.white (begins-seen feed w s ∙ e) (omega arith) (omega arith) refl)

@@ -15,4 +15,5 @@ pub mod HeadingWalkLemmas
 pub mod TitleRuns
 pub mod TitleTexts
 pub mod TitleLemmas
-pub mod GrammarLeaves
+pub mod HeadingGrammar
+pub mod LeafSteps

@@ -1,2 +1,8 @@
+pub mod HeadingDepths
+pub mod HeadingLemmas
+pub mod LeafLemmas
+pub mod OutlineDepths
+pub mod OutlineLemmas
+pub mod ParagraphPieces
+pub mod RoleLemmas
 pub mod TextCuts
-pub mod Sketches

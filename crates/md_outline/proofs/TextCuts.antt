@@ -24,7 +24,7 @@ use Rattle.md_seam.proofs.PlainSteps.{range-none}
 use Rattle.md_seam.proofs.PreambleLemmas.{mark-bytes}
 use Rattle.md_seam.proofs.TextsLemmas.{split-byte}
 use Rattle.md_outline.specs.Between.{is_between}
-use Rattle.md_outline.specs.Sketched.{after_ending, full_entries, line_len, text_entries}
+use Rattle.md_outline.specs.TextLines.{after_ending, full_entries, line_len, text_entries}
 
 -- behind a byte of ASCII
 boundary-behind : (bytes : List ℕ) (i : ℕ) → IsUtf8 bytes → 0 < i → i ≤ length bytes → get_or bytes (i - 1) 0 < 128 → IsCharBoundary bytes i

@@ -1,3 +1,9 @@
 pub mod Between
+pub mod HeadingDepths
+pub mod HeadingState
+pub mod LeafStates
 pub mod Outlined
-pub mod Sketched
+pub mod OutlineSteps
+pub mod ParagraphState
+pub mod Roles
+pub mod TextLines

@@ -1,5 +1,5 @@
 -- What an outline shows: the blocks that the events of paragraphs, headings, breaks and block quotes spell out.
-use Rattle.std.specs.Prelude.{◌≡◌, ℕ, Bool, true, false, ◌||◌, ◌&&◌, nat_le, not, List, [], ◌∷◌, slice_range, Option, Some, None, option_map}
+use Rattle.std.specs.Prelude.{◌≡◌, ℕ, Bool, true, false, ◌||◌, ◌&&◌, not, List, [], ◌∷◌, slice_range, Option, Some, None, option_map}
 use Rattle.std.specs.List.{list_all}
 use Rattle.std.specs.Str.{IsUtf8}
 use Rattle.md_engine.specs.declared.event.Event.{Event}
@@ -12,51 +12,20 @@ use Rattle.md_seam.specs.Events.Nested.{Balanced}
 use Rattle.md_seam.specs.Standard.Outline.{entries_of, outline}
 use Rattle.md_seam.specs.Events.Places.{last_line}
 use Rattle.md_seam.specs.Standard.Rest.{is_blank}
-use Rattle.md_seam.specs.Events.Spelled.{AsHeading, AsMarkers, AsParagraph, Holds, IsEnding, IsPrefix, IsQuiet, OfBreak, OfHeadingAtx, Opens, QuoteShape, Role, Tells, byte_at, role, spelled}
+use Rattle.md_seam.specs.Events.Spelled.{AsParagraph, IsEnding, IsPrefix, IsQuiet, Role, Tells, byte_at, role, spelled}
 use Rattle.md_seam.specs.Standard.Texts.{split_lines}
-use Rattle.md_seam.specs.Standard.Tree.{Block, Blocks, End, Footnote, Heading, Item, ListOf, More, Quote}
 use Rattle.md_outline.specs.Between.{is_between}
+use Rattle.md_outline.specs.HeadingDepths.{are_shallow}
+use Rattle.md_outline.specs.Roles.{is_plain, is_told}
 use Rattle.md_outline.specs.declared.outline.Span.{Span}
 
--- the roles of breaks, headings, paragraphs and block quotes, and of what the tree does not show
-abbrev pub is_plain : Role → Bool
-is_plain (Holds QuoteShape) = true
-is_plain IsPrefix = true
-is_plain (Opens OfBreak) = true
-is_plain (Opens OfHeadingAtx) = true
-is_plain (Tells AsParagraph) = true
-is_plain (Tells AsHeading) = true
-is_plain (Tells AsMarkers) = true
-is_plain IsEnding = true
-is_plain IsQuiet = true
-is_plain _ = false
-
--- what a text is read from
-abbrev pub is_told : Role → Bool
-is_told (Tells purpose) = true
-is_told _ = false
-
--- whether an event is of such a block, or of what the tree does not show
+-- whether an event is of such a block (`is_plain`), or of what the tree does not show
 abbrev pub has_plain_name : Event → Bool
 has_plain_name e = is_plain (role e.name)
 
 -- whether a text begins between characters here, behind a tab that is cut
 abbrev pub tells_between : List ℕ → Event → Bool
 tells_between bytes e = not (is_told (role e.name)) || is_between bytes (byte_at e.point)
-
--- whether no heading is deeper than 6 (CommonMark 4.2)
-abbrev mutual
-  pub is_shallow : Block → Bool
-  is_shallow (Heading depth lines) = nat_le depth 6
-  is_shallow (Quote blocks) = are_shallow blocks
-  is_shallow (ListOf marker items) = are_shallow items
-  is_shallow (Item marker digits blocks) = are_shallow blocks
-  is_shallow (Footnote label blocks) = are_shallow blocks
-  is_shallow _ = true
-
-  pub are_shallow : Blocks → Bool
-  are_shallow End = true
-  are_shallow (More block blocks) = is_shallow block && are_shallow blocks
 
 -- Container prefixes in a text: they part it into pieces, which an outline shows one by one. So each line of the text has to
 -- lie in one piece.

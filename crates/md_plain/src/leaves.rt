@@ -11,7 +11,7 @@ ghost use Rattle.plain_grammars.specs.Trees.{meaning, line_meanings};
 ghost use Rattle.plain_grammars.specs.Kinds.{kind_meaning};
 ghost use Rattle.md_plain.specs.States.{opening_meaning, came_meaning, came_option, against_meaning, leaf_meaning, went_option, HandsBack};
 
-use crate::state::{ParagraphContext, Came, Leaf, Opening};
+use crate::state::{Came, Leaf, Opening, ParagraphContext};
 use md_engine::configuration::ParseOptions;
 use md_engine::message::Message;
 use plain_grammars::bytes::{is_blank, is_parted, is_white, run_len, trim, trim_end, trim_start};
@@ -132,7 +132,10 @@ fn code_at<'a>(
 ) -> Result<Option<Came<'a>>, Message>
     ensures { IfOk result (λ o. came_option o ≡ leaves.code_at options.now (against_meaning against) (rest_meaning rest.now)) }
 {
-    if !options.constructs.code_indented || against != ParagraphContext::NoText || rest.indent() < 4 {
+    if !options.constructs.code_indented
+        || against != ParagraphContext::NoText
+        || rest.indent() < 4
+    {
         return Ok(None);
     }
     let mut lines = Vec::new(alloc);
@@ -348,7 +351,9 @@ pub fn goes_on<'a>(
                 Ok(Transition::Ends(Leaf::Code(lines)))
             }
         }
-        Leaf::Fence(opening, lines) => Ok(Transition::On(fence_goes_on(options, &opening, lines, rest)?)),
+        Leaf::Fence(opening, lines) => Ok(Transition::On(fence_goes_on(
+            options, &opening, lines, rest,
+        )?)),
         Leaf::Html(kind, lines) => {
             if (kind == HtmlKind::Basic || kind == HtmlKind::Complete) && is_blank(rest.bytes) {
                 Ok(Transition::Ends(Leaf::Html(kind, lines)))
@@ -357,7 +362,9 @@ pub fn goes_on<'a>(
             }
         }
         Leaf::Table(delimiter, mut rows) => {
-            if is_blank(rest.bytes) || starts(alloc, options, ParagraphContext::NoText, rest)?.is_some() {
+            if is_blank(rest.bytes)
+                || starts(alloc, options, ParagraphContext::NoText, rest)?.is_some()
+            {
                 Ok(Transition::Ends(Leaf::Table(delimiter, rows)))
             } else {
                 memory::push(&mut rows, row_cells(alloc, rest.bytes)?)?;

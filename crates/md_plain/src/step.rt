@@ -16,7 +16,7 @@ use crate::leaves::{Transition, goes_on, starts};
 use crate::paragraph::{
     head_cells, kept, shut_paragraph, underline_depth, underlined, with_line, with_table,
 };
-use crate::state::{ParagraphContext, Came, Frame, Kept, Leaf, Path, Spot, Taken};
+use crate::state::{Came, Frame, Kept, Leaf, ParagraphContext, Path, Spot, Taken};
 use md_engine::configuration::ParseOptions;
 use md_engine::message::Message;
 use plain_grammars::blocks::push_block;
@@ -226,7 +226,10 @@ fn takes_lazy<'a>(
 {
     match leaf {
         Leaf::Paragraph(_) => {
-            Ok(!is_blank(rest.bytes) && starts(alloc, options, ParagraphContext::LazyText, rest)?.is_none())
+            Ok(
+                !is_blank(rest.bytes)
+                    && starts(alloc, options, ParagraphContext::LazyText, rest)?.is_none(),
+            )
         }
         _ => Ok(false),
     }

@@ -6,11 +6,9 @@ use Rattle.md_engine.specs.declared.event.Event.{Event}
 use Rattle.md_engine.specs.declared.event.Name.{Name}
 use Rattle.md_engine.specs.declared.event.Name.TheVariants as n
 use Rattle.md_seam.specs.Standard.Tree as t
-use Rattle.md_seam.specs.Standard.Texts.{trim_each}
 use Rattle.md_seam.specs.Events.Nested.{exit, around, pair}
-use Rattle.md_seam.specs.Events.Spelled.{Reading, Text, OpenLeaf, LeafKind, OfBreak, Shape, Role, Holds, Opens, Tells, Purpose, AsParagraph, AsLine, role, add_block, block_of, block_around, finished, left, fresh, begun, byte_at, columns_left, text_to, noted, next_line, on_leaf, at_ending, told, told_at, read_enter, read_exit, read}
-use Rattle.md_seam.proofs.TextsLemmas.{IsOfLines, split-lines}
-use Rattle.md_seam.proofs.SpelledLemmas.{Roles, Quiet, Between, read-append, read-quiet, read-text, text_after}
+use Rattle.md_seam.specs.Events.Spelled.{Reading, Text, OpenLeaf, LeafKind, Shape, Role, Holds, Opens, Tells, Purpose, AsLine, role, add_block, block_of, block_around, finished, left, fresh, begun, byte_at, columns_left, text_to, noted, next_line, on_leaf, at_ending, told, told_at, read_enter, read_exit, read}
+use Rattle.md_seam.proofs.SpelledLemmas.{Roles, Between, read-append, read-text, text_after}
 
 -- events between an enter and its exit
 pub read-around : (bytes : List ℕ) (r : Reading) (name : Name) (p q : Point) (inside : List Event) →
@@ -26,11 +24,6 @@ read-leaf bytes r name kind p q inside leaf is_leaf none found =
     ∙ ap (λ (x : Role). read_exit bytes x q (read bytes (read_enter bytes x p r) inside)) is_leaf
     ∙ ap (λ (x : Reading). finished x.leaf x) found
     ∙ ap (λ (x : Option OpenLeaf). add_block (block_of leaf) (record r { leaf = x })) (sym none)
-
--- The events of a thematic break are read as a break.
-pub read-break : (bytes : List ℕ) (r : Reading) (p q : Point) (inside : List Event) → r.leaf ≡ None → Roles Quiet inside → read bytes r (around n.ThematicBreak p q inside) ≡ add_block t.Break r
-read-break bytes r p q inside none quiet =
-    read-leaf bytes r n.ThematicBreak OfBreak p q inside (fresh OfBreak) refl none (read-quiet bytes (record r { leaf = Some (fresh OfBreak) }) inside quiet)
 
 -- A container, by what was read in it.
 pub read-container : (bytes : List ℕ) (r : Reading) (name : Name) (shape named : Shape) (p q : Point) (inside : List Event) (blocks : t.Blocks) →
@@ -53,14 +46,6 @@ read-told bytes r name purpose p q inside tells none between =
     ∙ ap (λ (x : Role). read_exit bytes x q (read bytes (read_enter bytes x p r) inside)) tells
     ∙ ap (λ (x : Reading). told_at bytes purpose q x.text x) (read-text bytes (record r { text = Some (begun p) }) (begun p) inside refl between)
     ∙ ap (λ (x : Option Text). told purpose (record { spaces = text.spaces; text = text_to bytes q.index text }) (record r { text = x })) (sym none)
-
--- A paragraph is read as the lines of its text, which is cut at its container prefixes.
-pub read-paragraph : (bytes : List ℕ) (r : Reading) (p q : Point) (inside : List Event) (lines : List (List ℕ)) →
-    r.text ≡ None → Roles Between inside → IsOfLines lines (text_to bytes q.index (text_after bytes (begun p) inside)) →
-    read bytes r (around n.Paragraph p q inside) ≡ add_block (t.Paragraph (trim_each lines)) r
-read-paragraph bytes r p q inside lines none between is =
-    read-told bytes r n.Paragraph AsParagraph p q inside refl none between
-    ∙ ap (λ (x : List (List ℕ)). add_block (t.Paragraph (trim_each x)) r) (split-lines lines (text_to bytes q.index (text_after bytes (begun p) inside)) is)
 
 -- A line ending in a leaf block opens its next line, where the text goes on.
 pub read-ending : (bytes : List ℕ) (r : Reading) (p q : Point) (leaf : OpenLeaf) → r.text ≡ None → r.leaf ≡ Some leaf → nat_lt q.index (length bytes) ≡ true → read bytes r (pair n.LineEnding p q) ≡ record r { leaf = Some (next_line leaf) }

@@ -16,7 +16,8 @@ use Rattle.md_seam.specs.Standard.Step.{all_continued, all_continued_by, opened,
 use Rattle.md_seam.specs.Standard.Tree.{Blocks, End, More, Quote}
 use Rattle.md_seam.specs.Standard.Wrapped.{prefixed, quoted}
 use Rattle.md_seam.proofs.ColumnLemmas.{NoTab, opened_by, step-any, step_by}
-use Rattle.md_seam.proofs.ContainerLemmas.{LeavesFewer, opens-leaves}
+use Rattle.md_seam.proofs.ContainerLemmas.{opens-leaves}
+use Rattle.md_seam.proofs.TakenLemmas.{LeavesFewer}
 use Rattle.md_seam.proofs.QuotedLines.{NoTabs, lines_of-quoted, no_tab-lines, quote_line, some-line}
 
 -- a bound on the containers that is not below the bytes does not matter

@@ -9,7 +9,8 @@ use Rattle.md_engine.specs.declared.event.Content.{Content}
 use Rattle.md_engine.specs.declared.event.Event.{Event}
 use Rattle.md_engine.specs.Place.{IsPlaced}
 use Rattle.md_seam.specs.Parts.{AreChunks, ArePlaced, IsChunk}
-use Rattle.md_seam.specs.Substituted.{Begun, Readings, Substituted, chunk_of, chunks_behind, chunks_from, is_prefix, share, wanted}
+use Rattle.md_seam.specs.Substituted.{Begun, Readings, Substituted, chunk_of, chunks_behind, chunks_from, share, wanted}
+use Rattle.md_seam.specs.Events.Prefix.{is_prefix}
 
 -- The chunks of a part.
 

@@ -1,5 +1,5 @@
 -- Linked parts, and the events that stand in their places once they are read.
-use Rattle.std.specs.Prelude.{◌≡◌, ℕ, zero, suc, Bool, true, false, nat_lt, nat_le, if◌then◌else◌, List, [], ◌∷◌, ◌++◌, length, take, drop, Option, Some, None}
+use Rattle.std.specs.Prelude.{◌≡◌, ℕ, zero, suc, Bool, nat_lt, nat_le, if◌then◌else◌, List, [], ◌∷◌, ◌++◌, length, take, drop, Option, Some, None}
 use Rattle.std.specs.Option.{is_some}
 use Rattle.std.specs.List.{prefix_len}
 use Rattle.md_engine.specs.declared.event.Content.{Content}
@@ -7,20 +7,12 @@ use Rattle.md_engine.specs.declared.event.Event.{Event}
 use Rattle.md_engine.specs.declared.event.Kind.{Kind}
 use Rattle.md_engine.specs.declared.event.Kind.TheVariants.{Enter, Exit}
 use Rattle.md_engine.specs.declared.event.Link.{Link}
-use Rattle.md_engine.specs.declared.event.Name.{Name}
-use Rattle.md_engine.specs.declared.event.Name.TheVariants as n
 use Rattle.md_seam.specs.declared.inline.Chunk.{Chunk}
+use Rattle.md_seam.specs.Events.Prefix.{is_prefix}
 
 -- what a reader may give for a part: of which content it is, and its chunks
 abbrev pub Readings : Type 1
 Readings = Content → List Chunk → List Event → Type 0
-
--- whether a name belongs to a container prefix, which may stand between two chunks of a part
-abbrev pub is_prefix : Name → Bool
-is_prefix n.SpaceOrTab = true
-is_prefix n.BlockQuotePrefix = true
-is_prefix n.BlockQuoteMarker = true
-is_prefix _ = false
 
 abbrev pub wanted_link : (Content → Bool) → Option Link → Option Content
 wanted_link wants None = None

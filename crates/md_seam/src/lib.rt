@@ -5,6 +5,7 @@
 pub mod inline;
 pub mod outline;
 pub mod plain;
+pub mod prefix;
 pub mod slice;
 pub mod space_or_tab;
 pub mod subtokenize;

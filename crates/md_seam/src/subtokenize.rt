@@ -7,9 +7,10 @@ ghost use Rattle.std.specs.Prelude.{◌≡◌, ℕ, ◌+◌, ◌-◌, ◌<◌, �
 ghost use Rattle.std.specs.List.{prefix_len};
 ghost use Rattle.md_engine.specs.declared.event.Content.{Content};
 ghost use Rattle.md_seam.specs.Parts.{AreChunks, ArePlaced};
-ghost use Rattle.md_seam.specs.Substituted.{Begun, Readings, Substituted, belongs, chunk_of, chunks_from, is_prefix, share, wanted};
+ghost use Rattle.md_seam.specs.Substituted.{Begun, Readings, Substituted, belongs, chunk_of, chunks_from, share, wanted};
 
 use crate::inline::Chunk;
+pub use crate::prefix::is_prefix;
 use md_engine::event::{Content, Event, Kind, Name};
 use md_engine::message::Message;
 use std::alloc::Global;
@@ -44,16 +45,6 @@ struct Found {
     /// How many chunks of the part are left.
     chunks: usize,
     ghost within: { placed ≤ length events.items },
-}
-
-/// Whether this belongs to a container prefix, which may stand between two lines of a part.
-pub fn is_prefix(name: Name) -> bool
-    ensures { result ≡ is_prefix name }
-{
-    matches!(
-        name,
-        Name::SpaceOrTab | Name::BlockQuotePrefix | Name::BlockQuoteMarker
-    )
 }
 
 /// What the chunk that begins here holds, if one does that is wanted.

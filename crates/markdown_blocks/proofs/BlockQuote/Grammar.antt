@@ -6,10 +6,11 @@ use Rattle.md_engine.specs.declared.event.Point.{Point}
 use Rattle.md_seam.specs.Events.Grammar.{Expression, behind, behind_block, blocks, inside}
 use Rattle.md_seam.specs.Events.Nested.{enter, exit, pair}
 use Rattle.md_seam.specs.Events.Places.{same_place}
-use Rattle.md_seam.proofs.GrammarLemmas.{Leads, leads-prefix}
+use Rattle.md_seam.proofs.GrammarLemmas.{Leads}
 use Rattle.md_seam.proofs.EndingsLemmas.{AreOthers}
 use Rattle.markdown_blocks.proofs.FrontFacts.{IsPrefix}
 use Rattle.markdown_blocks.proofs.PrefixNames.{TakesPrefixes}
+use Rattle.md_seam.proofs.QuoteGrammar.{leads-prefix}
 
 -- no ending stands in it, and no begin or end of a leaf
 pub prefix-others : (bytes : List ℕ) (p q : Point) (es : List Event) → IsPrefix bytes p q es → AreOthers es

@@ -7,7 +7,6 @@ use Rattle.md_engine.specs.declared.event.Point.{Point}
 use Rattle.md_leaves.specs.HeadingRule.{is_heading}
 use Rattle.md_leaves.specs.HeadingText.{linked_text}
 use Rattle.md_leaves.specs.HeadingTitle.{title_of, unread_title}
-use Rattle.md_leaves.proofs.GrammarLeaves.{title-word}
 use Rattle.md_seam.specs.declared.inline.Chunk.{Chunk}
 use Rattle.md_seam.specs.Events.Grammar.{Expression, behind_block, blocks, plain_text, unread_text}
 use Rattle.md_seam.specs.Events.Inline.{plain_chunk}
@@ -16,6 +15,7 @@ use Rattle.md_seam.specs.Standard.Rest.{trim_start}
 use Rattle.md_seam.proofs.GrammarLemmas.{IsWord, Leads, leads-around, maybe}
 use Rattle.markdown_blocks.specs.Leaf.HeadingAtx.{heading_around, read_text, read_title}
 use Rattle.markdown_blocks.proofs.ChunkFacts.{chunk-word}
+use Rattle.md_leaves.proofs.HeadingGrammar.{title-word}
 
 -- what stands there is a text, or nothing
 abbrev IsHeadingText : Expression → List Event → Type 0

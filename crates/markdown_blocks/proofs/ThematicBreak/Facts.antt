@@ -18,7 +18,6 @@ use Rattle.md_seam.specs.Events.Places.{past_byte, past_text}
 use Rattle.md_seam.specs.Standard.Leaves.{is_rule, is_rule_marker}
 use Rattle.md_seam.specs.Standard.Rest.{Rest, is_white, trim_start}
 use Rattle.md_seam.specs.Standard.Tree.{Break}
-use Rattle.md_seam.proofs.BlocksLemmas.{read-break}
 use Rattle.md_seam.proofs.EndingsLemmas as ending
 use Rattle.md_seam.proofs.EndingsLemmas.{AreOthers, behind_leaf, in_leaf, leaf-leads, others-lead}
 use Rattle.md_seam.proofs.GrammarLemmas.{IsWord, leads-around}
@@ -41,6 +40,7 @@ use Rattle.markdown_blocks.proofs.PlainFacts.{plain-around, plain-quiet}
 use Rattle.markdown_blocks.proofs.RestFacts.{rest-trim}
 use Rattle.markdown_blocks.proofs.SpanLemmas.{Nested_in, around-nested, either}
 use Rattle.markdown_blocks.proofs.ThematicBreak.Kinds.{first-behind, marker-black, rule-first}
+use Rattle.md_seam.proofs.BreakReads.{read-break}
 
 -- its runs
 abbrev marks_of : Run → ℕ → List ℕ → Point → List Event

@@ -11,6 +11,7 @@ use Rattle.md_seam.specs.declared.inline.PartKind.{PartKind}
 use Rattle.md_seam.specs.declared.inline.PartKind.TheVariants as k
 use Rattle.md_seam.specs.declared.inline.Chunk.{Chunk}
 use Rattle.md_seam.specs.Standard.Rest.{is_blank}
+use Rattle.md_seam.specs.Events.Prefix.{is_prefix}
 use Rattle.md_seam.specs.Events.Places.{first_point, are_placed, same_place}
 use Rattle.md_seam.specs.Events.Nested.{Nested, is_exit}
 use Rattle.md_seam.specs.Events.Pieces.{pieces_stand}
@@ -42,10 +43,7 @@ part_kind _ = None
 -- What may stand inside a text part beside the enters of its chunks: their exits, container prefixes, and spaces and tabs.
 abbrev pub stands_in_part : Kind → Name → Bool
 stands_in_part Exit n.Data = true
-stands_in_part kind n.SpaceOrTab = true
-stands_in_part kind n.BlockQuotePrefix = true
-stands_in_part kind n.BlockQuoteMarker = true
-stands_in_part kind _ = false
+stands_in_part kind name = is_prefix name
 
 abbrev pub is_data : Name → Bool
 is_data n.Data = true

@@ -1,22 +1,13 @@
 -- The prefix of a quote is refused, or takes a cell at least.
-use Rattle.std.proofs.Common.{ℕ, ◌<◌, ◌≤◌, Bool, true, false, cond, nat_eq, List, [], ◌∷◌, length, arith}
+use Rattle.std.proofs.Common.{ℕ, ◌<◌, ◌≤◌, nat_eq, List, [], ◌∷◌, length, arith}
 use Rattle.md_engine.specs.declared.configuration.ParseOptions.{ParseOptions}
-use Rattle.md_engine.specs.Meaning.{Accepts, Cell, Fails, Here, Outcome, Refuses}
+use Rattle.md_engine.specs.Meaning.{Cell, Here}
 use Rattle.md_containers.specs.QuoteRule.{at_marker, behind_marker, prefix_at, quote_at}
+use Rattle.md_containers.proofs.Shorter.{Shortens, cond-shortens}
 use Rattle.md_seam.specs.Ahead.{begins_white}
 use Rattle.md_seam.specs.Standard.Rest.{is_white}
 use Rattle.md_seam.specs.Spaces.{small_indent}
 use Rattle.md_seam.proofs.RestCells.{white-length}
-
--- fewer cells are left than these, or it is refused
-abbrev pub Shortens : ℕ → Outcome → Type 0
-Shortens n (Accepts h rest) = length rest < n
-Shortens n (Refuses s g) = Unit {0}
-Shortens n Fails = ⊥
-
-cond-shortens : (n : ℕ) (x : Bool) (a b : Outcome) → Shortens n a → Shortens n b → Shortens n (cond x a b)
-cond-shortens n true a b p q = p
-cond-shortens n false a b p q = q
 
 behind_marker-shortens : (n : ℕ) (cells : List Cell) (h : Here) → length cells < n → Shortens n (behind_marker cells h)
 unfolding behind_marker

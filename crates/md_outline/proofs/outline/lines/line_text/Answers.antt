@@ -2,7 +2,7 @@ use Rattle.std.proofs.Common.{◌≡◌, ◌∙◌, drop, sym, ap, subst}
 use Rattle.std.specs.Str.{IsUtf8}
 use Rattle.md_seam.specs.Standard.Rest.{trim_start}
 use Rattle.md_outline.proofs.TextCuts.{text-lent, utf8-trim}
-use Rattle.md_outline.proofs.outline.line_text.Goals as goal
+use Rattle.md_outline.proofs.outline.lines.line_text.Goals as goal
 
 pub returns : goal.returns
 returns c = λ u.

@@ -1,7 +1,7 @@
 use Rattle.md_seam.specs.Standard.Outline.{entries_of}
-use Rattle.md_outline.proofs.Sketches.{on_ok-map}
+use Rattle.md_outline.proofs.OutlineLemmas.{on_ok-map}
 use Rattle.md_outline.proofs.TextCuts.{lines-all}
-use Rattle.md_outline.proofs.outline.push_lines.Goals as goal
+use Rattle.md_outline.proofs.outline.lines.push_lines.Goals as goal
 
 pub returns : goal.returns
 returns c =

@@ -1,7 +1,7 @@
 use Rattle.std.proofs.Common.{◌∙◌, sym}
 use Rattle.md_seam.specs.Standard.Outline.{entries_of}
 use Rattle.md_outline.proofs.TextCuts.{lines-end, lines-next}
-use Rattle.md_outline.proofs.outline.push_full_lines.Goals as goal
+use Rattle.md_outline.proofs.outline.lines.push_full_lines.Goals as goal
 
 pub rest-preserved : goal.rest-preserved
 rest-preserved c = λ u.

@@ -3,8 +3,8 @@ use Rattle.std.specs.Str.{IsUtf8}
 use Rattle.md_seam.specs.Standard.Outline.{entries_of}
 use Rattle.md_seam.specs.Events.Places.{last_line}
 use Rattle.md_seam.specs.Standard.Texts.{split_lines}
-use Rattle.md_outline.specs.Sketched.{full_entries}
-use Rattle.md_outline.proofs.outline.push_full_lines.Given as goal
+use Rattle.md_outline.specs.TextLines.{full_entries}
+use Rattle.md_outline.proofs.outline.lines.push_full_lines.Given as goal
 
 abbrev pub invariant-rest : goal.invariant-rest
 invariant-rest l =

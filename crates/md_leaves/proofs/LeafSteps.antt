@@ -1,0 +1,59 @@
+-- What the steps of leaves share: what is seen of a byte, and a run of whitespace that is taken byte by byte.
+use Rattle.std.proofs.Common.{◌≡◌, ℕ, Bool, true, false, List, [], ◌∷◌, ◌++◌, length, Option, Some, None, refl, sym, ◌∙◌, arith, zero, suc, ◌+◌, ◌≤◌, append_assoc, ap₂}
+use Rattle.md_engine.specs.declared.event.Event.{Event}
+use Rattle.md_engine.specs.declared.event.Name.TheVariants.{SpaceOrTab}
+use Rattle.md_engine.specs.declared.state.State.{State}
+use Rattle.md_engine.specs.declared.state.State.TheVariants.{Nok}
+use Rattle.md_engine.specs.declared.tokenizer.Frame.{Frame}
+use Rattle.md_engine.specs.declared.tokenizer.Scratch.{Scratch}
+use Rattle.md_engine.specs.Meaning.{Cell, Feed, Here, Outcome}
+use Rattle.md_engine.specs.World.{World, after}
+use Rattle.md_engine.proofs.StepOf.{Sees, ahead, cell_here}
+use Rattle.md_seam.specs.Ahead.{white_rest, white_end}
+use Rattle.md_seam.specs.Events.Nested.{enter, exit}
+use Rattle.md_seam.specs.Standard.Rest.{is_white}
+use Rattle.md_seam.specs.Spaces.{calmed}
+use Rattle.md_seam.proofs.WhiteSteps.{behind_white}
+
+-- what is seen of a byte that passes a test
+pub sees-one : (feed : Feed) (w : World) (t : Option ℕ → Bool) → t None ≡ false → Sees feed w → t w.current ≡ true →
+    (b : ℕ) × (feed w.point ≡ cell_here feed w b ∷ feed (after w.setting w.point)) × (t (Some b) ≡ true)
+sees-one feed w t none s e = go w.current e s.next
+  where
+    go : (o : Option ℕ) → t o ≡ true → feed w.point ≡ ahead feed w o → (b : ℕ) × (feed w.point ≡ cell_here feed w b ∷ feed (after w.setting w.point)) × (t (Some b) ≡ true)
+    go None e k = let bad : true ≡ false = sym e ∙ none in cc
+    go (Some b) e k = (b, k, e)
+
+abbrev pub white_frame : State → World → List Event → Frame
+white_frame ok w events = record { ok = ok; nok = Nok; is_check = false; events_len = length events; point = w.point }
+
+-- behind whitespace that ends
+unfoldable pub here_after : ℕ → List Cell → Here → Here
+here_after room cells h = record h { events = h.events ++ exit SpaceOrTab (white_end room cells h.point) ∷ []; point = white_end room cells h.point }
+
+-- behind whitespace that was begun here, its events written in another way
+pub behind-joined : (room : ℕ) (cells : List Cell) (h : Here) → calmed h.scratch ≡ h.scratch →
+    here_after room cells (record h { events = h.events ++ enter SpaceOrTab h.point ∷ [] }) ≡ behind_white room cells h
+unfolding here_after
+behind-joined room cells h same =
+    ap₂ (λ (es : List Event) (t : Scratch). let r : Here = record h { events = es; point = white_end room cells h.point; scratch = t } in r) (append_assoc h.events (enter SpaceOrTab h.point ∷ []) _) (sym same)
+
+-- A rule that takes whitespace byte by byte while its scratch passes a test, and what is left behind it.
+pub record TakesWhite (P : Scratch → Type 0) (inside behind : List Cell → Here → Outcome) : Type 0 where
+  pub more : (c : Cell) (cs : List Cell) (h : Here) → P h.scratch → is_white c.byte ≡ true → inside (c ∷ cs) h ≡ inside cs (record h { point = c.after })
+  pub stop : (c : Cell) (cs : List Cell) (h : Here) → P h.scratch → is_white c.byte ≡ false →
+      inside (c ∷ cs) h ≡ behind (c ∷ cs) (record h { events = h.events ++ exit SpaceOrTab h.point ∷ [] })
+  pub none : (h : Here) → P h.scratch → inside [] h ≡ behind [] (record h { events = h.events ++ exit SpaceOrTab h.point ∷ [] })
+
+-- behind a run of whitespace, however long
+pub white-run : (P : Scratch → Type 0) (inside behind : List Cell → Here → Outcome) (room : ℕ) (cells : List Cell) (h : Here) →
+    TakesWhite P inside behind → P h.scratch → length cells ≤ room → inside cells h ≡ behind (white_rest room cells) (here_after room cells h)
+unfolding here_after
+white-run P inside behind room [] h takes is le = takes.none h is
+white-run P inside behind zero (c ∷ cs) h takes is le = absurd (omega arith)
+white-run P inside behind (suc room) (c ∷ cs) h takes is le = go (is_white c.byte) refl (white-run P inside behind room cs (record h { point = c.after }) takes is (omega arith))
+  where
+    go : (x : Bool) → is_white c.byte ≡ x → inside cs (record h { point = c.after }) ≡ behind (white_rest room cs) (here_after room cs (record h { point = c.after })) →
+        inside (c ∷ cs) h ≡ behind (white_rest (suc room) (c ∷ cs)) (here_after (suc room) (c ∷ cs) h)
+    go true s on = takes.more c cs h is s ∙ on ∙ rw s refl
+    go false k on = takes.stop c cs h is k ∙ rw k refl

@@ -1,0 +1,95 @@
+-- As many containers are open behind some events as names are.
+use Rattle.std.proofs.Common.{◌≡◌, ℕ, ◌+◌, ◌-◌, Bool, true, false, cond, List, [], ◌∷◌, length, refl, ◌∙◌, ap, arith}
+use Rattle.std.specs.Prelude.{Option, Some, None, nat_lt}
+use Rattle.md_engine.specs.declared.event.Event.{Event}
+use Rattle.md_engine.specs.declared.event.Kind.{Kind}
+use Rattle.md_engine.specs.declared.event.Kind.TheVariants.{Enter, Exit}
+use Rattle.md_engine.specs.declared.event.Name.{Name}
+use Rattle.md_engine.specs.declared.event.Point.{Point}
+use Rattle.md_seam.specs.Events.Nested.{Balanced, Fits, Matches, open_after, open_behind}
+use Rattle.md_seam.specs.Events.Spelled.{AsDigits, AsFootnoteLabel, AsItemMarker, Purpose, Role, on_shape, role, told_at, Around, AsParagraph, Holds, IsEnding, OpenLeaf, Opens, Reading, Shape, Tells, Text, at_ending, finished, left, next_line, on_leaf, read, read_by, read_enter, read_exit, unread}
+
+-- how many containers are open
+abbrev pub depth_of : List Around → ℕ
+depth_of [] = 0
+depth_of (around ∷ outer) = depth_of outer + 1
+
+-- The containers that are open are those whose names are.
+
+abbrev deeper : Role → ℕ → ℕ
+deeper (Holds shape) n = n + 1
+deeper _ n = n
+
+abbrev shallower : Role → ℕ → ℕ
+shallower (Holds shape) n = n - 1
+shallower _ n = n
+
+abbrev held : List Name → ℕ
+held [] = 0
+held (name ∷ names) = deeper (role name) (held names)
+
+shallower-deeper : (x : Role) (n : ℕ) → shallower x (deeper x n) ≡ n
+shallower-deeper (Holds shape) n = omega arith
+shallower-deeper _ n = refl
+
+depth-enter : (bytes : List ℕ) (x : Role) (p : Point) (r : Reading) → depth_of (read_enter bytes x p r).outer ≡ deeper x (depth_of r.outer)
+depth-enter bytes (Holds shape) p r = refl
+depth-enter bytes _ p r = refl
+
+depth-left : (outer : List Around) (r : Reading) → r.outer ≡ outer → depth_of (left outer r).outer ≡ depth_of outer - 1
+depth-left [] r e = ap depth_of e
+depth-left (around ∷ outer) r e = omega arith
+
+depth-finished : (leaf : Option OpenLeaf) (r : Reading) → depth_of (finished leaf r).outer ≡ depth_of r.outer
+depth-finished None r = refl
+depth-finished (Some leaf) r = refl
+
+depth-ending : (bytes : List ℕ) (p : Point) (text : Option Text) (r : Reading) → depth_of (at_ending bytes p text r).outer ≡ depth_of r.outer
+depth-ending bytes p (Some text) r = refl
+depth-ending bytes p None r = go (nat_lt p.index (length bytes))
+  where
+    go : (x : Bool) → depth_of (cond x (on_leaf next_line r) r).outer ≡ depth_of r.outer
+    go true = refl
+    go false = refl
+
+depth-shape : (f : Shape → Shape) (outer : List Around) → depth_of (on_shape f outer) ≡ depth_of outer
+depth-shape f [] = refl
+depth-shape f (around ∷ outer) = refl
+
+depth-told : (bytes : List ℕ) (x : Purpose) (p : Point) (text : Option Text) (r : Reading) → depth_of (told_at bytes x p text r).outer ≡ depth_of r.outer
+depth-told bytes x p None r = refl
+depth-told bytes AsDigits p (Some text) r = depth-shape _ r.outer
+depth-told bytes AsItemMarker p (Some text) r = depth-shape _ r.outer
+depth-told bytes AsFootnoteLabel p (Some text) r = depth-shape _ r.outer
+depth-told bytes AsParagraph p (Some text) r = refl
+depth-told bytes _ p (Some text) r = refl
+
+depth-exit : (bytes : List ℕ) (x : Role) (p : Point) (r : Reading) → depth_of (read_exit bytes x p r).outer ≡ shallower x (depth_of r.outer)
+depth-exit bytes (Holds shape) p r = depth-left r.outer r refl
+depth-exit bytes (Opens kind) p r = depth-finished r.leaf r
+depth-exit bytes (Tells x) p r = depth-told bytes x p r.text r
+depth-exit bytes IsEnding p r = depth-ending bytes p r.text r
+depth-exit bytes _ p r = refl
+
+depth-step : (bytes : List ℕ) (kind : Kind) (name : Name) (p : Point) (r : Reading) (names : List Name) → Fits names kind name → depth_of r.outer ≡ held names →
+    depth_of (read_by bytes kind (role name) p r).outer ≡ held (open_behind names kind name)
+depth-step bytes Enter name p r names f e = depth-enter bytes (role name) p r ∙ ap (deeper (role name)) e
+depth-step bytes Exit name p r [] f e = absurd f
+depth-step bytes Exit name p r (innermost ∷ names) f e =
+    depth-exit bytes (role name) p r
+    ∙ ap (shallower (role name)) (e ∙ ap (λ (n : Name). deeper (role n) (held names)) f)
+    ∙ shallower-deeper (role name) (held names)
+
+depth-all : (bytes : List ℕ) (events : List Event) (r : Reading) (names : List Name) → Matches names events → depth_of r.outer ≡ held names →
+    depth_of (read bytes r events).outer ≡ held (open_after names events)
+depth-all bytes [] r names m e = e
+depth-all bytes (x ∷ events) r names m e =
+    depth-all bytes events (read_by bytes x.kind (role x.name) x.point r) (open_behind names x.kind x.name) m.1 (depth-step bytes x.kind x.name x.point r names m.0 e)
+
+none-open : (outer : List Around) → depth_of outer ≡ 0 → outer ≡ []
+none-open [] h = refl
+none-open (around ∷ outer) h = let no : ⊥ = omega (arith, h) in absurd no
+
+-- where events are balanced, no container is open behind them
+pub all-closed : (bytes : List ℕ) (events : List Event) → Balanced events → (read bytes unread events).outer ≡ []
+all-closed bytes events b = none-open (read bytes unread events).outer (depth-all bytes events unread [] b.matches refl ∙ ap held b.closed)

@@ -1,0 +1,130 @@
+// The lines of a text, as an outline shows them.
+
+ghost use Rattle.std.specs.Prelude.{◌≡◌, ◌≤◌, ◌+◌, ◌-◌, ◌∷◌, [], ◌++◌, length, slice_range, IfOk, OnOk};
+ghost use Rattle.std.specs.List.{prefix_len};
+ghost use Rattle.std.specs.Str.{IsUtf8};
+ghost use Rattle.md_seam.specs.Standard.Outline.{entries_of, entry_with};
+ghost use Rattle.md_seam.specs.Standard.Rest.{is_white, trim_start};
+ghost use Rattle.md_seam.specs.Standard.Texts.{split_lines};
+ghost use Rattle.md_seam.specs.Events.Places.{last_line};
+ghost use Rattle.md_outline.specs.TextLines.{after_ending, full_entries, line_len, text_entries};
+
+use md_engine::message::Message;
+use md_seam::outline::{OutlineLine, Word};
+use std::str;
+
+/// One more. A number that is no `usize` is one of which no memory holds so many.
+pub fn next(number: usize) -> Result<usize, Message>
+    ensures { IfOk result (λ n. n ≡ number + 1) }
+{
+    number.checked_add(1).ok_or(Message)
+}
+
+/// Whether this is a space or a tab.
+pub fn is_space_or_tab(byte: u8) -> bool
+    ensures { result ≡ is_white byte }
+{
+    byte == b' ' || byte == b'\t'
+}
+
+/// How many spaces and tabs stand at the front.
+pub fn white_len(bytes: &[u8]) -> usize
+    ensures value { result ≡ prefix_len is_white bytes.now }
+    ensures bound { result ≤ length bytes.now }
+{
+    bytes
+        .iter()
+        .take_while(|byte| is_space_or_tab(**byte))
+        .count()
+}
+
+/// How many bytes stand before the first line ending.
+pub fn first_line_len(text: &[u8]) -> usize
+    ensures value { result ≡ line_len text.now }
+    ensures bound { result ≤ length text.now }
+{
+    text.iter()
+        .take_while(|byte| **byte != b'\n' && **byte != b'\r')
+        .count()
+}
+
+/// What follows the line ending that comes first: LF, CR or CR LF.
+pub fn behind_ending(bytes: &[u8]) -> &[u8]
+    ensures value { result.now ≡ after_ending bytes.now }
+    ensures bound { length result.now ≤ length bytes.now - 1 }
+{
+    match bytes {
+        [b'\r', b'\n', rest @ ..] | [_, rest @ ..] => rest,
+        [] => bytes,
+    }
+}
+
+/// The bytes from one place to another, as far as the text goes.
+pub fn part(bytes: &[u8], first: usize, end: usize) -> &[u8]
+    ensures { result.now ≡ slice_range bytes.now first end }
+{
+    let end = end.min(bytes.len());
+    if first < end { &bytes[first..end] } else { &[] }
+}
+
+/// The text of a line after the spaces and tabs in front of it. A text is cut only beside bytes of ASCII, so that each line
+/// is UTF-8.
+pub fn line_text(line: &[u8]) -> &str
+    ensures { IsUtf8 line.now → result.now ≡ trim_start line.now }
+{
+    let (_, rest) = line.split_at(white_len(line));
+    str::from_utf8(rest).unwrap_or("")
+}
+
+/// Adds a line to an outline.
+pub fn push<'a>(
+    lines: &mut Vec<OutlineLine<'a>>,
+    depth: usize,
+    word: Word,
+    text: &'a str,
+) -> Result<(), Message>
+    ensures { OnOk result (entries_of lines.new.items ≡ entries_of lines.old.items ++ entry_with depth word text.now ∷ []) }
+{
+    let line = OutlineLine {
+        depth,
+        word,
+        spaces: 0,
+        text,
+    };
+    match lines.push(line) {
+        Ok(()) => Ok(()),
+        Err(_) => Err(Message),
+    }
+}
+
+/// Adds the lines of a text that have an ending, and answers what stands behind the last ending.
+pub fn push_full_lines<'a>(
+    lines: &mut Vec<OutlineLine<'a>>,
+    depth: usize,
+    text: &'a [u8],
+) -> Result<&'a [u8], Message>
+    ensures rest { IfOk result (λ rest. IsUtf8 text.now → IsUtf8 rest.now × (rest.now ≡ last_line (split_lines text.now))) }
+    ensures lines { OnOk result (IsUtf8 text.now → entries_of lines.new.items ≡ entries_of lines.old.items ++ full_entries depth text.now) }
+{
+    let mut left = text;
+    'rest: loop {
+        let (line, ending) = left.split_at(first_line_len(left));
+        if ending.is_empty() {
+            return Ok(left);
+        }
+        push(lines, depth, Word::Line, line_text(line))?;
+        left = behind_ending(ending);
+    }
+}
+
+/// Adds the lines of a text.
+pub fn push_lines<'a>(
+    lines: &mut Vec<OutlineLine<'a>>,
+    depth: usize,
+    text: &'a [u8],
+) -> Result<(), Message>
+    ensures { OnOk result (IsUtf8 text.now → entries_of lines.new.items ≡ entries_of lines.old.items ++ text_entries depth text.now) }
+{
+    let rest = push_full_lines(lines, depth, text)?;
+    push(lines, depth, Word::Line, line_text(rest))
+}
