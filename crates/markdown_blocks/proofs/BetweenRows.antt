@@ -1,4 +1,4 @@
--- The events of a text stand between its characters, where only quotes, headings and breaks are on.
+-- The events of a text stand between its characters, where only constructs that are built are on.
 use Rattle.std.proofs.Common.{◌≡◌, ◌≢◌, ℕ, ◌+◌, ◌-◌, Bool, true, false, List, [], ◌∷◌, ◌++◌, refl, sym, subst}
 use Rattle.std.specs.Prelude.{Option, Some, None}
 use Rattle.md_engine.specs.declared.configuration.ParseOptions.{ParseOptions}
@@ -7,7 +7,6 @@ use Rattle.md_engine.specs.declared.event.Name.{Name}
 use Rattle.md_engine.specs.declared.event.Name.TheVariants as n
 use Rattle.md_engine.specs.declared.event.Point.{Point}
 use Rattle.md_content.specs.Chunks.{content_link}
-use Rattle.md_leaves.specs.HeadingRule.{opens}
 use Rattle.md_seam.specs.Events.Inline.{line_end, plain_chunk}
 use Rattle.md_seam.specs.Events.Nested.{around, enter, enter_link, exit}
 use Rattle.md_seam.specs.Standard.State.{Container}
@@ -23,7 +22,6 @@ use Rattle.markdown_blocks.proofs.RowLeaf.{row-facts}
 use Rattle.markdown_blocks.proofs.RowFacts.{AreRows, IsLine, IsRow, behind_line}
 use Rattle.markdown_blocks.proofs.BetweenFacts.{AreBetween, around-between, between-append, between-end, between-more, between-pair, chunk-between, ending-before, ending-behind}
 use Rattle.markdown_blocks.specs.ContainerKinds.{container_name}
-use Rattle.markdown_blocks.proofs.ContainerFacts.{continues-facts, opens-facts}
 
 -- Bytes of ASCII.
 
@@ -75,16 +73,14 @@ tail-between bytes name row end behind = between-append bytes (ends_of row.leave
 -- and what stands in front of a line
 pub fronts-between : (bytes : List ℕ) (opens : List Container) (p q : Point) (front : List Event) → is_between bytes p.index ≡ true → LinePrefix bytes opens p q front → AreBetween bytes front × (is_between bytes q.index ≡ true)
 fronts-between bytes _ p _ _ from (Behind _) = (refl, from)
-fronts-between bytes opens p r _ from (Goes c _ _ q _ es fs is more) =
-    let here = (continues-facts bytes c p q es is).common.between from in
+fronts-between bytes opens p r _ from (Goes _ _ q _ es fs is more) =
+    let here = is.common.between from in
     let rest = fronts-between bytes opens q r fs here.1 more in
     (between-append bytes es fs here.0 rest.0, rest.1)
 fronts-between bytes _ p r _ from (Begins c opens _ q _ es fs is more) =
-    let here = (opens-facts bytes c p q es is).common.between from in
+    let here = is.common.between from in
     let rest = fronts-between bytes opens q r fs here.1 more in
     (between-more bytes (enter (container_name c) p) (es ++ fs) from (between-append bytes es fs here.0 rest.0), rest.1)
-
--- Headings.
 
 -- Groups.
 

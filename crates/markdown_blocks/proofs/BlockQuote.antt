@@ -1,6 +1,10 @@
--- Block quotes: what stands in front of their lines.
+-- Block quotes.
 pub mod Pieces
 pub mod Parted
 pub mod Grammar
 pub mod Facts
 pub mod Registers
+pub mod Collected
+pub mod Cells
+pub mod Fronts
+pub mod Tree

@@ -1,31 +1,19 @@
--- The containers of a line by its bytes: those that go on are those that were open, and each that opens is a quote yet.
-use Rattle.std.proofs.Common.{◌≡◌, ◌+◌, Bool, true, false, cond, ◌&&◌, List, [], ◌∷◌, ◌++◌, length, map, refl, ap, sym, ◌∙◌, append-nil}
+-- The containers of a line by its bytes: those that go on are those that were open.
+use Rattle.std.proofs.Common.{◌≡◌, ◌+◌, Bool, true, false, List, [], ◌∷◌, ◌++◌, length, map, refl, ap, sym, ◌∙◌, append-nil}
 use Rattle.std.specs.Prelude.{Option, Some, None}
 use Rattle.std.proofs.lemmas.List.{length-append, length-map}
-use Rattle.std.specs.Option.{option_or}
 use Rattle.md_engine.specs.declared.configuration.ParseOptions.{ParseOptions}
-use Rattle.md_seam.specs.Standard.Containers.{Taken, continues, footnote_continues, item_continues, opens, opens_footnote, opens_item, opens_quote, quote_taken}
-use Rattle.md_seam.specs.Standard.Lines.{begins_with}
-use Rattle.md_seam.specs.Standard.Rest.{Rest, behind, behind_indent, has_small_indent, lose}
+use Rattle.md_seam.specs.Standard.Containers.{Taken, continues, opens}
+use Rattle.md_seam.specs.Standard.Rest.{Rest}
 use Rattle.md_seam.specs.Events.Spelled.{Shape}
-use Rattle.md_seam.specs.Standard.State.{Container, InFootnote, InItem, InQuote}
+use Rattle.md_seam.specs.Standard.State.{Container}
 use Rattle.markdown_blocks.specs.Change.{change_by, interrupts, is_none, others_of}
 use Rattle.markdown_blocks.specs.ContainerKinds.{shape_of}
 use Rattle.markdown_blocks.specs.Fronted.{Prefixed, contained, no_prefix, one_more, prefixes_new, prefixes_on}
-use Rattle.markdown_blocks.specs.Parsed.{IsBuilt}
 use Rattle.markdown_blocks.specs.Rows.{RowKind, is_lazy, line_kind}
+use Rattle.markdown_blocks.proofs.ContainerNames.{continues-shape}
 
 -- What the events tell of a container does not change while it is open.
-
-when-shape : (x : Bool) (u t : Taken) → cond x (Some u) None ≡ Some t → shape_of t.container ≡ shape_of u.container
-when-shape true u t e = let same : u ≡ t = cc in sym (ap (λ (x : Taken). shape_of x.container) same)
-when-shape false u t e = cc
-
-pub continues-shape : (options : ParseOptions) (c : Container) (r : Rest) (t : Taken) → continues options c r ≡ Some t → shape_of t.container ≡ shape_of c
-unfolding quote_taken item_continues footnote_continues
-continues-shape options InQuote r t e = when-shape _ _ t e
-continues-shape options (InItem digits marker width starts_blank) r t e = when-shape _ _ t e
-continues-shape options (InFootnote label) r t e = when-shape _ _ t e
 
 -- those that went on, and the others behind them
 on-shapes : (options : ParseOptions) (cs : List Container) (r : Rest) → map shape_of ((prefixes_on options cs r).containers ++ others_of cs (prefixes_on options cs r).containers) ≡ map shape_of cs
@@ -84,44 +72,3 @@ pub lazy-opens : (going : Bool) (opens : List Container) (kind : RowKind) → is
 lazy-opens going [] kind e = refl
 lazy-opens true (c ∷ cs) kind e = cc
 lazy-opens false (c ∷ cs) kind e = cc
-
--- Quotes alone open yet.
-
-item-off : (options : ParseOptions) (interrupting : Bool) (r : Rest) → options.constructs.list_item ≡ false → opens_item options interrupting r ≡ None
-unfolding opens_item
-item-off options interrupting r off = rw off refl
-
-footnote-off : (options : ParseOptions) (r : Rest) → options.constructs.gfm_footnote_definition ≡ false → opens_footnote options r ≡ None
-unfolding opens_footnote
-footnote-off options r off = rw off refl
-
-pub quote-alone : (options : ParseOptions) (interrupting : Bool) (r : Rest) → IsBuilt options → opens options interrupting r ≡ opens_quote options r
-quote-alone options interrupting r built =
-    ap (λ (o : Option Taken). option_or (opens_quote options r) (option_or o (opens_footnote options r))) (item-off options interrupting r built.list_item)
-    ∙ ap (λ (o : Option Taken). option_or (opens_quote options r) o) (footnote-off options r built.gfm_footnote_definition)
-    ∙ go (opens_quote options r)
-  where
-    go : (o : Option Taken) → option_or o None ≡ o
-    go None = refl
-    go (Some t) = refl
-
--- what a quote's prefix takes of a line is a quote
-abbrev pub IsQuoteTaken : Option Taken → Type 0
-IsQuoteTaken None = Unit {0}
-IsQuoteTaken (Some t) = t.container ≡ InQuote
-
-taken-quote : (options : ParseOptions) (r : Rest) → IsQuoteTaken (quote_taken options r)
-unfolding quote_taken
-taken-quote options r = go (has_small_indent options r && begins_with 62 (behind_indent r).bytes)
-  where
-    go : (x : Bool) → IsQuoteTaken (cond x (Some (record { container = InQuote; rest = lose 1 (behind 1 (behind_indent r)) })) None)
-    go true = refl
-    go false = tt
-
-pub opens-quote : (options : ParseOptions) (r : Rest) → IsQuoteTaken (opens_quote options r)
-unfolding opens_quote
-opens-quote options r = go options.constructs.block_quote
-  where
-    go : (x : Bool) → IsQuoteTaken (cond x (quote_taken options r) None)
-    go true = taken-quote options r
-    go false = tt

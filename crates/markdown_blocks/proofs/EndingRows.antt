@@ -24,14 +24,13 @@ use Rattle.markdown_blocks.specs.ContainerKinds.{container_name}
 use Rattle.markdown_blocks.specs.Change.{ends_of}
 use Rattle.markdown_blocks.specs.Document.{body_point, mark_end, mark_events}
 use Rattle.markdown_blocks.specs.Rows.{BlankRow, Group, Lines, Row, RowKind, Single, TextRow, behind_row, ending_events, goes_on, group_events, groups, groups_events, last_row, onto_groups, read_lines, tail_events, LeafRow, ending_of, leaf_done, leaf_unread}
-use Rattle.markdown_blocks.specs.Unread.{linked_lines, titled_group, titled_groups}
+use Rattle.markdown_blocks.specs.Unread.{linked_lines, listed_group, listed_groups}
 use Rattle.markdown_blocks.proofs.FrontFacts.{Behind, Begins, LinePrefix, Goes}
 use Rattle.markdown_blocks.proofs.GroupLemmas.{AreGroups, EndsBeforeGroups, HasFront, IsParagraph, IsSingle, groups-are, line_end-alone, rows-end, text-some}
 use Rattle.markdown_blocks.proofs.JoinedLemmas.{EachEnds, EachNoContent, ending-is}
 use Rattle.markdown_blocks.proofs.RowFacts.{AreRows, IsRow}
 use Rattle.markdown_blocks.proofs.RowLeaf.{row-facts, block_of}
 use Rattle.markdown_blocks.proofs.LeafFacts.{spot_behind}
-use Rattle.markdown_blocks.proofs.ContainerFacts.{continues-facts, opens-facts}
 use Rattle.markdown_blocks.proofs.ContainerNames.{container-other}
 
 -- Events that are no ending, and no begin or end of a leaf.
@@ -44,9 +43,9 @@ container-others c e same = and_from (is_other (on_line e.name)) true (ap (λ (n
 fronts-others : (bytes : List ℕ) (opens : List Container) (p q : Point) (es : List Event) →
     LinePrefix bytes opens p q es → AreOthers es
 fronts-others bytes opens p q es (Behind at) = refl
-fronts-others bytes opens first last es (Goes c same p q r xs ys is more) = others-append xs ys (continues-facts bytes c p q xs is).common.others (fronts-others bytes same q r ys more)
+fronts-others bytes opens first last es (Goes same p q r xs ys is more) = others-append xs ys is.common.others (fronts-others bytes same q r ys more)
 fronts-others bytes opens first last es (Begins c below p q r xs ys is more) =
-    others-append (enter (container_name c) p ∷ []) (xs ++ ys) (container-others c (enter (container_name c) p) refl) (others-append xs ys (opens-facts bytes c p q xs is).common.others (fronts-others bytes below q r ys more))
+    others-append (enter (container_name c) p ∷ []) (xs ++ ys) (container-others c (enter (container_name c) p) refl) (others-append xs ys is.common.others (fronts-others bytes below q r ys more))
 
 -- the ends of containers
 ends-others : (cs : List Container) (p : Point) → AreOthers (ends_of cs p)
@@ -152,10 +151,10 @@ groups_with leaf text (group ∷ gs) = group_with leaf text group ++ groups_with
 
 -- before text parts are read, and once they are
 unread-with : (bytes : List ℕ) (gs : List Group) →
-    groups_with (leaf_unread bytes) (linked_lines n.Data text_link) gs ≡ titled_groups bytes gs
+    groups_with (leaf_unread bytes) (linked_lines n.Data text_link) gs ≡ listed_groups bytes gs
 unread-with bytes [] = refl
-unread-with bytes (Single row ∷ gs) = ap (λ (l : List Event). titled_group bytes (Single row) ++ l) (unread-with bytes gs)
-unread-with bytes (Lines row rows ∷ gs) = ap (λ (l : List Event). titled_group bytes (Lines row rows) ++ l) (unread-with bytes gs)
+unread-with bytes (Single row ∷ gs) = ap (λ (l : List Event). listed_group bytes (Single row) ++ l) (unread-with bytes gs)
+unread-with bytes (Lines row rows ∷ gs) = ap (λ (l : List Event). listed_group bytes (Lines row rows) ++ l) (unread-with bytes gs)
 
 read-with : (bytes : List ℕ) (gs : List Group) →
     groups_with (leaf_done bytes) (read_lines bytes) gs ≡ groups_events bytes gs
@@ -264,9 +263,9 @@ endings-with options bytes lines rows leaf text events within same are quiet =
 -- The endings of a text stand before its text parts are read,
 pub blocks-endings : (options : ParseOptions) (bytes : List ℕ) (lines : List (List ℕ)) (rows : List Row) →
     AreRows options bytes [] false (body_point bytes) lines rows → EachNoContent rows →
-    endings_stand (mark_events bytes ++ titled_groups bytes (groups rows)) ≡ true
+    endings_stand (mark_events bytes ++ listed_groups bytes (groups rows)) ≡ true
 blocks-endings options bytes lines rows are quiet =
-    endings-with options bytes lines rows (leaf_unread bytes) (linked_lines n.Data text_link) (titled_groups bytes (groups rows))
+    endings-with options bytes lines rows (leaf_unread bytes) (linked_lines n.Data text_link) (listed_groups bytes (groups rows))
     (record { leaves = λ line row is other. (row-facts options bytes line row is other).unread_ending; texts = linked-filling options bytes }) (unread-with bytes (groups rows)) are quiet
 
 -- and once they are.

@@ -11,10 +11,11 @@ use Rattle.md_engine.specs.declared.event.Event.{Event}
 use Rattle.md_engine.specs.declared.event.Name.{Name}
 use Rattle.md_engine.specs.declared.event.Name.TheVariants as n
 use Rattle.md_engine.specs.declared.event.Point.{Point}
-use Rattle.md_engine.specs.declared.tokenizer.Container.{Container as Known}
-use Rattle.md_engine.specs.declared.tokenizer.ContainerKind.{ContainerKind}
-use Rattle.md_engine.specs.declared.tokenizer.ContainerKind.TheVariants as kind
-use Rattle.md_engine.specs.Ends.{ends_at, name_of, point_of, put}
+use Rattle.md_engine.specs.declared.tokenizer.container.Container.{Container as Known}
+use Rattle.md_engine.specs.declared.tokenizer.container.ContainerKind.{ContainerKind}
+use Rattle.md_engine.specs.declared.tokenizer.container.ContainerKind.TheVariants as kind
+use Rattle.md_engine.specs.ContainerName.{name_of}
+use Rattle.md_engine.specs.Ends.{ends_at, point_of, put}
 use Rattle.md_engine.specs.Meaning.{Accepts, Cell, Here, Outcome, Refuses}
 use Rattle.md_engine.specs.World.{closed_events}
 use Rattle.md_containers.specs.QuoteRule.{prefix_at, prefix_rest, quote_at, takes_prefix}

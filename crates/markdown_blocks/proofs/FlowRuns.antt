@@ -1,6 +1,6 @@
 -- What a whole run of flow comes to, as a function of the text.
 use Rattle.std.proofs.Common.{◌≡◌, ◌^◌, ◌<◌, ◌≤◌, ℕ, Bool, false, true, refl, sym, ◌∙◌, ap, arith, subst, List, []}
-use Rattle.md_engine.specs.declared.resolve.Name.{Name as ResolveName}
+use Rattle.md_engine.specs.declared.resolve.name.Name.{Name as ResolveName}
 use Rattle.md_engine.specs.declared.state.State.{State}
 use Rattle.md_engine.specs.declared.state.State.TheVariants.{Error, Ok, Nok, Next, Retry}
 use Rattle.md_engine.specs.Found.{Found}

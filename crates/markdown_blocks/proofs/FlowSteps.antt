@@ -11,17 +11,14 @@ use Rattle.md_engine.specs.declared.event.Point.{Point}
 use Rattle.md_engine.specs.Meaning.{Cell}
 use Rattle.md_engine.specs.TextFeed.{text_feed}
 use Rattle.md_engine.specs.World.{World}
-use Rattle.md_containers.specs.QuoteRule.{behind_events, indent_events, marker_events, prefix_events, takes_prefix}
 use Rattle.md_content.specs.ContentReads.{content_events, content_readings, is_data_end, paragraph_over, part_world, settled, wants_content}
 use Rattle.md_content.specs.Joined.{goes_on, is_content, joined}
 use Rattle.md_content.specs.Paragraph.{text_link}
 use Rattle.md_content.specs.ParagraphRule.{line_events}
 use Rattle.md_seam.specs.declared.inline.Chunk.{Chunk}
-use Rattle.md_seam.specs.Ahead.{begins_white, from_ending, line_end, point_after, white_end, white_rest}
+use Rattle.md_seam.specs.Ahead.{begins_white, from_ending, line_end, point_after}
 use Rattle.md_seam.specs.Events.Nested.{enter_link, exit, pair, is_exit}
-use Rattle.md_seam.specs.Standard.Rest.{is_white}
-use Rattle.md_seam.specs.Spaces.{small_indent}
-use Rattle.md_seam.specs.Standard.State.{Container, InFootnote, InItem, InQuote}
+use Rattle.md_seam.specs.Standard.State.{Container}
 use Rattle.md_seam.specs.Substituted.{Readings, Substituted}
 use Rattle.markdown_blocks.specs.Change.{interrupts, open_behind, others_of}
 use Rattle.markdown_blocks.specs.FlowReads.{has_text}
@@ -37,58 +34,9 @@ use Rattle.markdown_blocks.proofs.SubstitutedLemmas.{keeps, keeps-each}
 use Rattle.markdown_blocks.proofs.ContentFacts.{NoContent, no_content-append, no_content-unwanted, nothing}
 use Rattle.markdown_blocks.proofs.PrefixNames.{AreFront, front-append}
 use Rattle.markdown_blocks.specs.Passed.{Passed}
-use Rattle.markdown_blocks.specs.Containers.BlockQuote.{quote_new, quote_on}
+use Rattle.markdown_blocks.proofs.RegistryContainers.{PassesFront, goes-front, opens-front}
 
 -- What stands in front of a line that flow reads.
-
--- whitespace that may stand there
-white-front : (x : Bool) (p q : Point) → AreFront (cond x (pair n.SpaceOrTab p q) [])
-white-front true p q = (refl, refl, (refl, refl, tt))
-white-front false p q = tt
-
--- behind the marker of a quote
-behind-front : (cells : List Cell) (p : Point) → AreFront (behind_events cells p)
-behind-front [] p = (refl, refl, tt)
-behind-front (c ∷ cs) p = go (is_white c.byte)
-  where
-    go : (x : Bool) → AreFront (cond x (pair n.SpaceOrTab p c.after ++ exit n.BlockQuotePrefix c.after ∷ []) (exit n.BlockQuotePrefix p ∷ []))
-    go true = (refl, refl, (refl, refl, (refl, refl, tt)))
-    go false = (refl, refl, tt)
-
--- from the marker on
-marker-front : (cells : List Cell) (p : Point) → AreFront (marker_events cells p)
-marker-front [] p = tt
-marker-front (c ∷ cs) p = (refl, refl, (refl, refl, (refl, refl, behind-front cs c.after)))
-
--- the prefix of a quote
-quote-front : (options : ParseOptions) (cells : List Cell) (p : Point) → AreFront (prefix_events options cells p)
-quote-front options cells p =
-    let q : Point = white_end (small_indent options) cells p in
-    let rest : List Cell = white_rest (small_indent options) cells in
-    front-append (indent_events options cells p) (marker_events rest q) (white-front (begins_white cells) p q) (marker-front rest q)
-
--- a container that goes on or opens, if one does
-abbrev PassesFront : Option Passed → Type 0
-PassesFront None = Unit {0}
-PassesFront (Some t) = AreFront t.events
-
--- one that goes on
-goes-front : (options : ParseOptions) (c : Container) (cells : List Cell) (p : Point) → PassesFront (goes_at options c cells p)
-goes-front options InQuote cells p = go (takes_prefix options cells)
-  where
-    go : (x : Bool) → PassesFront (cond x (Some (quote_on options cells p)) None)
-    go true = quote-front options cells p
-    go false = tt
-goes-front options (InItem digits marker width starts_blank) cells p = tt
-goes-front options (InFootnote label) cells p = tt
-
--- one that opens
-opens-front : (options : ParseOptions) (interrupting : Bool) (cells : List Cell) (p : Point) → PassesFront (opens_at options interrupting cells p)
-opens-front options interrupting cells p = go (options.constructs.block_quote && takes_prefix options cells)
-  where
-    go : (x : Bool) → PassesFront (cond x (Some (quote_new options cells p)) None)
-    go true = (refl, refl, quote-front options cells p)
-    go false = tt
 
 -- the events of what stands there
 abbrev events_of : Front → List Event

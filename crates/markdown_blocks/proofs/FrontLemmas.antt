@@ -12,10 +12,9 @@ use Rattle.md_seam.specs.Standard.State.{Container}
 use Rattle.md_seam.proofs.NestedLemmas.{at_or_before-refl, at_or_before-trans, balanced-append, balanced-matches, balanced-none, balanced-open, forward-last, matches-append, open_after-append}
 use Rattle.md_seam.proofs.SpelledLemmas.{Roles, roles-append}
 use Rattle.markdown_blocks.specs.Change.{ends_of}
-use Rattle.markdown_blocks.proofs.FrontFacts.{Begins, Behind, LinePrefix, Goes, IsPrefix}
+use Rattle.markdown_blocks.proofs.FrontFacts.{Begins, Behind, LinePrefix, Goes}
 use Rattle.markdown_blocks.proofs.SpanLemmas.{Spans, spans-append}
 use Rattle.markdown_blocks.proofs.ContainerNames.{names-shapes, open_names, shape_names}
-use Rattle.markdown_blocks.proofs.ContainerFacts.{continues-facts, opens-facts}
 use Rattle.markdown_blocks.proofs.PrefixNames.{prefixes-roles, quiets-roles}
 use Rattle.markdown_blocks.specs.ContainerKinds.{container_name, shape_of}
 
@@ -28,9 +27,9 @@ use Rattle.markdown_blocks.specs.ContainerKinds.{container_name, shape_of}
 -- they go forward, from the begin of the line to its rest
 pub fronts-spans : (bytes : List ℕ) (opens : List Container) (p q : Point) (front : List Event) → LinePrefix bytes opens p q front → Spans p q front
 fronts-spans bytes _ p _ _ (Behind _) = (tt, at_or_before-refl p)
-fronts-spans bytes opens p r _ (Goes c _ _ q _ es fs is more) = spans-append p q r es fs (continues-facts bytes c p q es is).common.nested.1 (fronts-spans bytes opens q r fs more)
+fronts-spans bytes opens p r _ (Goes _ _ q _ es fs is more) = spans-append p q r es fs is.common.nested.1 (fronts-spans bytes opens q r fs more)
 fronts-spans bytes _ p r _ (Begins c opens _ q _ es fs is more) =
-    let spans : Spans p r (es ++ fs) = spans-append p q r es fs (opens-facts bytes c p q es is).common.nested.1 (fronts-spans bytes opens q r fs more) in
+    let spans : Spans p r (es ++ fs) = spans-append p q r es fs is.common.nested.1 (fronts-spans bytes opens q r fs more) in
     ((at_or_before-refl p, spans.0), spans.1)
 
 pub fronts-order : (bytes : List ℕ) (opens : List Container) (p q : Point) (front : List Event) → LinePrefix bytes opens p q front → IsTrue (at_or_before p q)
@@ -41,17 +40,17 @@ fronts-order bytes opens p q front is =
 -- where no container begins, they nest
 pub fronts-balanced : (bytes : List ℕ) (opens : List Container) (p q : Point) (front : List Event) → LinePrefix bytes opens p q front → opens ≡ [] → Balanced front
 fronts-balanced bytes _ p _ _ (Behind _) e = balanced-none
-fronts-balanced bytes opens p r _ (Goes c _ _ q _ es fs is more) e = balanced-append es fs (continues-facts bytes c p q es is).common.nested.0 (fronts-balanced bytes opens q r fs more e)
+fronts-balanced bytes opens p r _ (Goes _ _ q _ es fs is more) e = balanced-append es fs is.common.nested.0 (fronts-balanced bytes opens q r fs more e)
 fronts-balanced bytes _ p r _ (Begins c opens _ q _ es fs is more) e = cc
 
 -- What is read of what stands in front of a line is quiet, a prefix or a container, and so are the ends of containers.
 
 pub fronts-roles : (P : Role → Type 0) (bytes : List ℕ) (opens : List Container) (p q : Point) (front : List Event) → P IsQuiet → P spelled.IsPrefix → ((c : Container) → P (role (container_name c))) → LinePrefix bytes opens p q front → Roles P front
 fronts-roles P bytes _ p _ _ quiet prefix holds (Behind _) = tt
-fronts-roles P bytes opens p r _ quiet prefix holds (Goes c _ _ q _ es fs is more) =
-    roles-append P es fs (prefixes-roles P es quiet prefix (continues-facts bytes c p q es is).names) (fronts-roles P bytes opens q r fs quiet prefix holds more)
+fronts-roles P bytes opens p r _ quiet prefix holds (Goes _ _ q _ es fs is more) =
+    roles-append P es fs (prefixes-roles P es quiet prefix is.names) (fronts-roles P bytes opens q r fs quiet prefix holds more)
 fronts-roles P bytes _ p r _ quiet prefix holds (Begins c opens _ q _ es fs is more) =
-    (holds c, roles-append P es fs (quiets-roles P es quiet prefix (opens-facts bytes c p q es is).roles) (fronts-roles P bytes opens q r fs quiet prefix holds more))
+    (holds c, roles-append P es fs (quiets-roles P es quiet prefix is.roles) (fronts-roles P bytes opens q r fs quiet prefix holds more))
 
 pub ends-roles : (P : Role → Type 0) (cs : List Container) (p : Point) → ((c : Container) → P (role (container_name c))) → Roles P (ends_of cs p)
 ends-roles P [] p holds = tt
@@ -84,13 +83,13 @@ turns-append a b c xs ys h k = record {
 -- what stands in front of a line opens the containers that begin in it
 pub fronts-turn : (bytes : List ℕ) (opens : List Container) (names : List Name) (p q : Point) (front : List Event) → LinePrefix bytes opens p q front → Turns names (open_names opens ++ names) front
 fronts-turn bytes _ names p _ _ (Behind _) = turns-balanced names [] balanced-none
-fronts-turn bytes opens names p r _ (Goes c _ _ q _ es fs is more) =
-    turns-append names names (open_names opens ++ names) es fs (turns-balanced names es (continues-facts bytes c p q es is).common.nested.0) (fronts-turn bytes opens names q r fs more)
+fronts-turn bytes opens names p r _ (Goes _ _ q _ es fs is more) =
+    turns-append names names (open_names opens ++ names) es fs (turns-balanced names es is.common.nested.0) (fronts-turn bytes opens names q r fs more)
 fronts-turn bytes _ names p r _ (Begins c opens _ q _ es fs is more) =
     let name : Name = container_name c in
     subst (λ (l : List Name). Turns names l (enter name p ∷ es ++ fs)) (sym (append_assoc (open_names opens) (name ∷ []) names))
     (turns-append names (name ∷ names) (open_names opens ++ name ∷ names) (enter name p ∷ []) (es ++ fs) (record { matches = (tt, tt); opened = refl })
-    (turns-append (name ∷ names) (name ∷ names) (open_names opens ++ name ∷ names) es fs (turns-balanced (name ∷ names) es (opens-facts bytes c p q es is).common.nested.0) (fronts-turn bytes opens (name ∷ names) q r fs more)))
+    (turns-append (name ∷ names) (name ∷ names) (open_names opens ++ name ∷ names) es fs (turns-balanced (name ∷ names) es is.common.nested.0) (fronts-turn bytes opens (name ∷ names) q r fs more)))
 
 -- containers end
 pub ends-turn : (cs : List Container) (names : List Name) (p : Point) → Turns (open_names cs ++ names) names (ends_of cs p)

@@ -15,7 +15,6 @@ use Rattle.markdown_blocks.proofs.FrontFacts.LinePrefix.{Begins, Behind, Goes}
 use Rattle.markdown_blocks.proofs.ContainerNames.{begin-stops, container-front, is_front}
 use Rattle.markdown_blocks.proofs.PrefixNames.{names-no_parts, names-unlinked, AreFront, ArePrefixes, front-append, prefixes-append, prefixes-front}
 use Rattle.markdown_blocks.proofs.PartFacts.{NoLinks, NoParts}
-use Rattle.markdown_blocks.proofs.ContainerFacts.{continues-facts, opens-facts}
 use Rattle.markdown_blocks.specs.ContainerKinds.{container_name}
 
 -- what stands in front of a line are prefixes and begins of containers
@@ -27,13 +26,13 @@ HasFront bytes row = (p : Point) × LinePrefix bytes row.change.opens p row.firs
 -- where no container begins there are prefixes alone
 pub fronts-prefixes : (bytes : List ℕ) (opens : List Container) (p q : Point) (es : List Event) → opens ≡ [] → LinePrefix bytes opens p q es → ArePrefixes es
 fronts-prefixes bytes opens p q es none (Behind r) = tt
-fronts-prefixes bytes opens p q es none (Goes c same first mid last xs ys is more) = prefixes-append xs ys (continues-facts bytes c first mid xs is).names (fronts-prefixes bytes same mid last ys none more)
+fronts-prefixes bytes opens p q es none (Goes same first mid last xs ys is more) = prefixes-append xs ys is.names (fronts-prefixes bytes same mid last ys none more)
 fronts-prefixes bytes opens p q es none (Begins c below first mid last xs ys is more) = cc
 
 pub fronts-are : (bytes : List ℕ) (opens : List Container) (p q : Point) (es : List Event) → LinePrefix bytes opens p q es → AreFront es
 fronts-are bytes opens p q es (Behind r) = tt
-fronts-are bytes opens p q es (Goes c same first mid last xs ys is more) = front-append xs ys (prefixes-front xs (continues-facts bytes c first mid xs is).names) (fronts-are bytes same mid last ys more)
-fronts-are bytes opens p q es (Begins c below first mid last xs ys is more) = (container-front c, refl, front-append xs ys (opens-facts bytes c first mid xs is).names (fronts-are bytes below mid last ys more))
+fronts-are bytes opens p q es (Goes same first mid last xs ys is more) = front-append xs ys (prefixes-front xs is.names) (fronts-are bytes same mid last ys more)
+fronts-are bytes opens p q es (Begins c below first mid last xs ys is more) = (container-front c, refl, front-append xs ys is.names (fronts-are bytes below mid last ys more))
 
 -- so are the ends of containers
 pub ends-are : (cs : List Container) (p : Point) → AreFront (ends_of cs p)
@@ -60,8 +59,8 @@ prefixes-content (e ∷ xs) ys h = ap (λ (x : Bool). cond x (content_behind (xs
 
 pub fronts-stop : (bytes : List ℕ) (opens : List Container) (p q : Point) (es : List Event) → (ys : List Event) → is_none opens ≡ false → LinePrefix bytes opens p q es → content_behind (es ++ ys) ≡ false
 fronts-stop bytes opens p q es ys some (Behind r) = cc
-fronts-stop bytes opens p q es ys some (Goes c same first mid last xs fs is more) =
-    ap content_behind (append_assoc xs fs ys) ∙ prefixes-content xs (fs ++ ys) (continues-facts bytes c first mid xs is).names ∙ fronts-stop bytes same mid last fs ys some more
+fronts-stop bytes opens p q es ys some (Goes same first mid last xs fs is more) =
+    ap content_behind (append_assoc xs fs ys) ∙ prefixes-content xs (fs ++ ys) is.names ∙ fronts-stop bytes same mid last fs ys some more
 fronts-stop bytes opens p q es ys some (Begins c below first mid last xs fs is more) = begin-stops c first ((xs ++ fs) ++ ys)
 
 -- Nothing of them is read later, and none begins or ends a text part.

@@ -4,7 +4,6 @@ use Rattle.md_engine.specs.declared.event.Event.{Event}
 use Rattle.md_engine.specs.declared.event.Point.{Point}
 use Rattle.md_seam.specs.Standard.State.{Container}
 use Rattle.markdown_blocks.proofs.FrontFacts.{Behind, Begins, LinePrefix, Goes}
-use Rattle.markdown_blocks.proofs.ContainerFacts.{continues-facts, opens-facts}
 use Rattle.markdown_blocks.proofs.SpanLemmas.{Spans, order-grows}
 use Rattle.md_seam.proofs.NestedLemmas.{at_or_before-trans, forward-last}
 use Rattle.md_seam.specs.Events.Nested.{last_point}
@@ -15,10 +14,10 @@ spans-grow p q es h = order-grows p q (at_or_before-trans p (last_point p es) q 
 -- a point does not come behind where the front ends
 pub fronts-grow : (bytes : List ℕ) (opens : List Container) (p q : Point) (es : List Event) → LinePrefix bytes opens p q es → p.index ≤ q.index
 fronts-grow bytes opens p q es (Behind at) = omega arith
-fronts-grow bytes opens p q es (Goes c same first mid last xs ys is more) = let one = spans-grow first mid xs (continues-facts bytes c first mid xs is).common.nested.1 in let further = fronts-grow bytes same mid last ys more in omega arith
-fronts-grow bytes opens p q es (Begins c below first mid last xs ys is more) = let one = spans-grow first mid xs (opens-facts bytes c first mid xs is).common.nested.1 in let further = fronts-grow bytes below mid last ys more in omega arith
+fronts-grow bytes opens p q es (Goes same first mid last xs ys is more) = let one = spans-grow first mid xs is.common.nested.1 in let further = fronts-grow bytes same mid last ys more in omega arith
+fronts-grow bytes opens p q es (Begins c below first mid last xs ys is more) = let one = spans-grow first mid xs is.common.nested.1 in let further = fronts-grow bytes below mid last ys more in omega arith
 
 pub fronts-line : (bytes : List ℕ) (opens : List Container) (p q : Point) (es : List Event) → LinePrefix bytes opens p q es → q.line ≡ p.line
 fronts-line bytes opens p q es (Behind at) = refl
-fronts-line bytes opens p q es (Goes c same first mid last xs ys is more) = fronts-line bytes same mid last ys more ∙ (continues-facts bytes c first mid xs is).common.line
-fronts-line bytes opens p q es (Begins c below first mid last xs ys is more) = fronts-line bytes below mid last ys more ∙ (opens-facts bytes c first mid xs is).common.line
+fronts-line bytes opens p q es (Goes same first mid last xs ys is more) = fronts-line bytes same mid last ys more ∙ is.common.line
+fronts-line bytes opens p q es (Begins c below first mid last xs ys is more) = fronts-line bytes below mid last ys more ∙ is.common.line

@@ -1,158 +1,30 @@
 -- The containers of a line that flow reads are those of its bytes: which go on and open, what stands in front of the line, and what is
 -- left of it.
-use Rattle.std.proofs.Common.{◌≡◌, ℕ, zero, suc, ◌^◌, ◌<◌, ◌≤◌, Bool, true, false, cond, ◌&&◌, List, [], ◌∷◌, ◌++◌, length, drop, Option, Some, None, refl, sym, ap, ap₂, ◌∙◌, subst, arith, append_assoc}
+use Rattle.std.proofs.Common.{◌≡◌, ℕ, zero, suc, ◌^◌, ◌<◌, ◌≤◌, Bool, true, false, List, [], ◌∷◌, ◌++◌, length, Option, Some, None, refl, sym, ap, ap₂, ◌∙◌, subst, arith, append_assoc}
 use Rattle.md_engine.specs.declared.configuration.ParseOptions.{ParseOptions}
 use Rattle.md_engine.specs.declared.event.Event.{Event}
-use Rattle.md_engine.specs.declared.event.Name.TheVariants as n
 use Rattle.md_engine.specs.declared.event.Point.{Point}
 use Rattle.md_engine.specs.declared.tokenizer.Line.{Line}
 use Rattle.md_engine.specs.Meaning.{Cell}
-use Rattle.md_containers.specs.QuoteRule.{prefix_end, prefix_events, prefix_rest, takes_prefix}
-use Rattle.md_containers.proofs.QuoteLines.{HasPrefix, PrefixIs, prefix-agrees, quote-container, quote-no_ending}
-use Rattle.md_seam.specs.Standard.Containers.{Taken, continues, opens, opens_quote, quote_taken}
-use Rattle.md_seam.specs.Events.Nested.{enter}
+use Rattle.md_seam.specs.Standard.Containers.{Taken, continues, opens}
 use Rattle.md_seam.specs.Standard.Rest.{Rest}
-use Rattle.md_seam.specs.Standard.State.{Container, InQuote}
+use Rattle.md_seam.specs.Standard.State.{Container}
 use Rattle.md_seam.proofs.ContainerLemmas.{opens-leaves}
 use Rattle.md_seam.proofs.FeedLines.{Stops}
 use Rattle.md_seam.proofs.RestCells.{RestAt, past_rest, rest_cells}
 use Rattle.md_seam.proofs.TextsLemmas.{NoEnding}
 use Rattle.markdown_blocks.specs.Change.{change_by, interrupts, open_behind, others_of}
-use Rattle.markdown_blocks.specs.ContainerKinds.{container_name}
-use Rattle.markdown_blocks.specs.Containers.BlockQuote.{quote_new, quote_on}
 use Rattle.markdown_blocks.specs.Fronted.{Contained, Prefixed, contained, contained_behind, contained_by, contained_of, no_prefix, one_more, prefixes_new, prefixes_on}
 use Rattle.markdown_blocks.specs.Parsed.{IsBuilt}
 use Rattle.markdown_blocks.specs.Passed.{Passed}
 use Rattle.markdown_blocks.specs.Registry.{goes_at, opens_at}
 use Rattle.markdown_blocks.specs.Rows.{Front, Held, held_at, held_behind, held_by, in_front, is_lazy, line_kind, new_front, no_front, row_kind, went_front}
-use Rattle.markdown_blocks.proofs.ContainedLemmas.{change-opens, quote-alone}
-use Rattle.markdown_blocks.proofs.FrontFacts.{Behind, Begins, LinePrefix, Goes, IsContinuationPrefix, IsOpeningPrefix}
+use Rattle.markdown_blocks.proofs.ContainedLemmas.{change-opens}
+use Rattle.markdown_blocks.proofs.FrontFacts.{Behind, Begins, LinePrefix, Goes}
 use Rattle.markdown_blocks.proofs.RowKinds.{kind-rest}
-
--- The containers that flow reads; there are only quotes yet.
-
-abbrev pub IsRead : Container → Type 0
-IsRead InQuote = Unit {0}
-IsRead container = ⊥
-
-abbrev pub AreRead : List Container → Type 0
-AreRead [] = Unit {0}
-AreRead (c ∷ cs) = IsRead c × AreRead cs
-
-read-append : (cs ds : List Container) → AreRead cs → AreRead ds → AreRead (cs ++ ds)
-read-append [] ds h k = k
-read-append (c ∷ cs) ds h k = (h.0, read-append cs ds h.1 k)
-
-read-drop : (n : ℕ) (cs : List Container) → AreRead cs → AreRead (drop n cs)
-read-drop zero cs h = h
-read-drop (suc n) [] h = tt
-read-drop (suc n) (c ∷ cs) h = read-drop n cs h.1
-
--- One container.
-
--- what a container leaves of a line, by the cells of the line and by its bytes
-record HasPassed (line : Line) (text past : List ℕ) (end : Point) (stop cells : List Cell) (passed : Passed) (taken : Taken) : Type 0 where
-  container : passed.container ≡ taken.container
-  read : IsRead passed.container
-  fed : passed.cells ≡ rest_cells line taken.rest passed.point ++ stop
-  stands : RestAt text past taken.rest passed.point
-  ends : past_rest taken.rest passed.point ≡ end
-  no_ending : NoEnding taken.rest.bytes
-  shorter : length passed.cells ≤ length cells
-
--- of one that goes on: this stands in front of its content
-record HasFurther (line : Line) (text past : List ℕ) (p end : Point) (stop cells : List Cell) (passed : Passed) (taken : Taken) : Type 0 where
-  passes : HasPassed line text past end stop cells passed taken
-  further : IsContinuationPrefix text passed.container p passed.point passed.events
-
--- of one that opens: this stands behind its begin; it takes a cell
-record HasOpening (line : Line) (text past : List ℕ) (p end : Point) (stop cells : List Cell) (passed : Passed) (taken : Taken) : Type 0 where
-  passes : HasPassed line text past end stop cells passed taken
-  inside : List Event
-  events : passed.events ≡ enter (container_name passed.container) p ∷ inside
-  opening : IsOpeningPrefix text passed.container p passed.point inside
-  fewer : length passed.cells < length cells
-
--- a container goes on, or opens, by the cells of a line where it does by its bytes
-abbrev Agree : (Passed → Taken → Type 0) → Option Passed → Option Taken → Type 0
-Agree Has None None = Unit {0}
-Agree Has (Some passed) (Some taken) = Has passed taken
-Agree Has passed taken = ⊥
-
--- Quotes.
-
--- what a quote leaves, whether its begin stands in front of its prefix or not
-quote-passes : (options : ParseOptions) (line : Line) (text past : List ℕ) (r : Rest) (end : Point) (stop cells : List Cell) (p : Point) (es : List Event) (t : Taken) → NoEnding r.bytes → quote_taken options r ≡ Some t → HasPrefix options line text past end stop cells p t.rest →
-    HasPassed line text past end stop cells (record { container = InQuote; events = es; cells = prefix_rest options cells; point = prefix_end options cells p }) t
-quote-passes options line text past r end stop cells p es t h e has = record {
-  container = sym (quote-container options r t e);
-  read = tt;
-  fed = has.fed;
-  stands = has.stands;
-  ends = has.ends;
-  no_ending = quote-no_ending options r t h e;
-  shorter = let lt = has.shorter in omega arith;
-}
-
--- a quote goes on
-quote-goes : (options : ParseOptions) (line : Line) (text past : List ℕ) (r : Rest) (stop : List Cell) (p : Point) → RestAt text past r p → NoEnding r.bytes → Stops stop → length (rest_cells line r p ++ stop) < 2 ^ 63 →
-    Agree (HasFurther line text past p (past_rest r p) stop (rest_cells line r p ++ stop)) (goes_at options InQuote (rest_cells line r p ++ stop) p) (quote_taken options r)
-quote-goes options line text past r stop p is h k short = go (quote_taken options r) refl (prefix-agrees options line text past r stop p is k short)
-  where
-    cells : List Cell
-    cells = rest_cells line r p ++ stop
-
-    By : Bool → Option Taken → Type 0
-    By x taken = Agree (HasFurther line text past p (past_rest r p) stop cells) (cond x (Some (quote_on options cells p)) None) taken
-
-    go : (taken : Option Taken) → quote_taken options r ≡ taken → PrefixIs options line text past (past_rest r p) stop cells p taken → By (takes_prefix options cells) taken
-    go None e none = subst (λ (x : Bool). By x None) (sym none) tt
-    go (Some t) e has =
-        subst (λ (x : Bool). By x (Some t)) (sym has.takes)
-        (record { passes = quote-passes options line text past r (past_rest r p) stop cells p (prefix_events options cells p) t h e has; further = has.prefix })
-
--- a quote opens, if quotes are on
-quote-opens : (options : ParseOptions) (interrupting : Bool) (line : Line) (text past : List ℕ) (r : Rest) (stop : List Cell) (p : Point) → RestAt text past r p → NoEnding r.bytes → Stops stop → length (rest_cells line r p ++ stop) < 2 ^ 63 →
-    Agree (HasOpening line text past p (past_rest r p) stop (rest_cells line r p ++ stop)) (opens_at options interrupting (rest_cells line r p ++ stop) p) (opens_quote options r)
-unfolding opens_quote
-quote-opens options interrupting line text past r stop p is h k short = on options.constructs.block_quote
-  where
-    cells : List Cell
-    cells = rest_cells line r p ++ stop
-
-    By : Bool → Option Taken → Type 0
-    By x taken = Agree (HasOpening line text past p (past_rest r p) stop cells) (cond x (Some (quote_new options cells p)) None) taken
-
-    go : (taken : Option Taken) → quote_taken options r ≡ taken → PrefixIs options line text past (past_rest r p) stop cells p taken → By (takes_prefix options cells) taken
-    go None e none = subst (λ (x : Bool). By x None) (sym none) tt
-    go (Some t) e has =
-        subst (λ (x : Bool). By x (Some t)) (sym has.takes)
-        (record {
-          passes = quote-passes options line text past r (past_rest r p) stop cells p (enter n.BlockQuote p ∷ prefix_events options cells p) t h e has;
-          inside = prefix_events options cells p;
-          events = refl;
-          opening = has.prefix;
-          fewer = has.shorter;
-        })
-
-    on : (x : Bool) → By (x && takes_prefix options cells) (cond x (quote_taken options r) None)
-    on true = go (quote_taken options r) refl (prefix-agrees options line text past r stop p is k short)
-    on false = tt
-
--- All containers.
-
--- an open container goes on by the cells where it does by the bytes
-goes-agrees : (options : ParseOptions) (line : Line) (text past : List ℕ) (c : Container) (r : Rest) (stop : List Cell) (p : Point) → IsRead c → RestAt text past r p → NoEnding r.bytes → Stops stop → length (rest_cells line r p ++ stop) < 2 ^ 63 →
-    Agree (HasFurther line text past p (past_rest r p) stop (rest_cells line r p ++ stop)) (goes_at options c (rest_cells line r p ++ stop) p) (continues options c r)
-goes-agrees options line text past InQuote r stop p read is h k short = quote-goes options line text past r stop p is h k short
-goes-agrees options line text past c r stop p read is h k short = absurd read
-
--- a container opens by the cells where it does by the bytes
-opens-agrees : (options : ParseOptions) (interrupting : Bool) (line : Line) (text past : List ℕ) (r : Rest) (stop : List Cell) (p : Point) → IsBuilt options → RestAt text past r p → NoEnding r.bytes → Stops stop → length (rest_cells line r p ++ stop) < 2 ^ 63 →
-    Agree (HasOpening line text past p (past_rest r p) stop (rest_cells line r p ++ stop)) (opens_at options interrupting (rest_cells line r p ++ stop) p) (opens options interrupting r)
-opens-agrees options interrupting line text past r stop p built is h k short =
-    subst (Agree (HasOpening line text past p (past_rest r p) stop (rest_cells line r p ++ stop)) (opens_at options interrupting (rest_cells line r p ++ stop) p)) (sym (quote-alone options interrupting r built))
-    (quote-opens options interrupting line text past r stop p is h k short)
+use Rattle.markdown_blocks.proofs.RegistryRead.{AreRead, read-append, read-drop}
+use Rattle.markdown_blocks.proofs.PassedFacts.{Agree, HasFurther, HasOpening, HasPassed}
+use Rattle.markdown_blocks.proofs.RegistryContainers.{goes-agrees, opens-agrees}
 
 -- What stands in front of a line.
 
@@ -194,7 +66,7 @@ went-more : (line : Line) (text past : List ℕ) (p end : Point) (stop cells : L
     HasWent line text past a.point (past_rest t.rest a.point) stop a.cells f q → HasWent line text past p end stop cells (in_front a f) (one_more t.container q)
 went-more line text past p end stop cells a t f q one is = record {
   front = front-more line text past end stop cells a t f q one.passes is.front;
-  fronts = λ opens r es fs. subst (LinePrefix text opens p r) (sym (append_assoc a.events f.events es)) (Goes a.container opens p a.point r a.events (f.events ++ es) one.further (is.fronts opens r es fs));
+  fronts = λ opens r es fs. subst (LinePrefix text opens p r) (sym (append_assoc a.events f.events es)) (Goes opens p a.point r a.events (f.events ++ es) one.further (is.fronts opens r es fs));
 }
 
 went-is : (options : ParseOptions) (line : Line) (text past : List ℕ) (cs : List Container) (r : Rest) (stop : List Cell) (p : Point) → AreRead cs → RestAt text past r p → NoEnding r.bytes → Stops stop → length (rest_cells line r p ++ stop) < 2 ^ 63 →

@@ -10,9 +10,9 @@ use Rattle.md_engine.specs.declared.state.heading_atx.State.TheVariants as headi
 use Rattle.md_engine.specs.declared.state.thematic_break.State.TheVariants as thematic_break
 use Rattle.md_engine.specs.declared.state.content.State.TheVariants as content
 use Rattle.md_engine.specs.declared.state.State.TheVariants.{Nok, Next, Retry}
-use Rattle.md_engine.specs.declared.tokenizer.Container.{Container}
-use Rattle.md_engine.specs.declared.tokenizer.ContainerKind.{ContainerKind}
-use Rattle.md_engine.specs.declared.tokenizer.ContainerKind.TheVariants as kind
+use Rattle.md_engine.specs.declared.tokenizer.container.Container.{Container}
+use Rattle.md_engine.specs.declared.tokenizer.container.ContainerKind.{ContainerKind}
+use Rattle.md_engine.specs.declared.tokenizer.container.ContainerKind.TheVariants as kind
 use Rattle.md_engine.specs.Scheme.{After, Fits, Scheme, Spot, Tries, TriesLater, after_all, seen, spot, spot_at}
 use Rattle.md_engine.specs.World.{World, closed}
 use Rattle.md_engine.proofs.Falls.{later, later_at}

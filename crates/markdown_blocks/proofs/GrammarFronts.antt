@@ -11,9 +11,7 @@ use Rattle.markdown_blocks.specs.ContainerKinds.{container_name}
 use Rattle.markdown_blocks.specs.Change.{ends_of}
 use Rattle.markdown_blocks.specs.Rows.{BlankRow, LeafRow, RowKind, TextRow, ending_of}
 use Rattle.markdown_blocks.proofs.FrontFacts.{Begins, Behind, LinePrefix, Goes}
-use Rattle.markdown_blocks.proofs.ContainerNames.{open_names}
-use Rattle.markdown_blocks.proofs.ContainerFacts.{continues-facts, opens-facts}
-use Rattle.markdown_blocks.proofs.PrefixNames.{TakesPrefixes}
+use Rattle.markdown_blocks.proofs.ContainerNames.{open_names, TakesPrefixes}
 
 -- Open containers.
 
@@ -39,20 +37,20 @@ pub front-leads : (text : Expression) (bytes : List ℕ) (opens : List Container
     LinePrefix bytes opens p q front →
     Leads text (blocks ∷ []) (blocks ∷ behinds (open_names opens)) front
 front-leads text bytes _ p _ _ (Behind _) = λ outer. refl
-front-leads text bytes opens p r _ (Goes c _ _ q _ es fs is more) =
-    leads-append text (blocks ∷ []) (blocks ∷ []) (blocks ∷ behinds (open_names opens)) es fs ((continues-facts bytes c p q es is).stays text blocks (refl, refl)) (front-leads text bytes opens q r fs more)
+front-leads text bytes opens p r _ (Goes _ _ q _ es fs is more) =
+    leads-append text (blocks ∷ []) (blocks ∷ []) (blocks ∷ behinds (open_names opens)) es fs (is.stays text blocks (refl, refl)) (front-leads text bytes opens q r fs more)
 front-leads text bytes _ p r _ (Begins c opens _ q _ es fs is more) =
     let further : Leads text (blocks ∷ behind_block ∷ []) (blocks ∷ behinds (open_names opens ++ container_name c ∷ [])) fs =
     λ outer. front-leads text bytes opens q r fs more (behind_block ∷ outer) ∙ ap (λ (l : List Expression). blocks ∷ l) (sym (behinds-around (open_names opens) (container_name c) outer)) in
-    leads-append text (blocks ∷ []) (blocks ∷ behind_block ∷ []) (blocks ∷ behinds (open_names opens ++ container_name c ∷ [])) (enter (container_name c) p ∷ es) fs ((opens-facts bytes c p q es is).leads text) further
+    leads-append text (blocks ∷ []) (blocks ∷ behind_block ∷ []) (blocks ∷ behinds (open_names opens ++ container_name c ∷ [])) (enter (container_name c) p ∷ es) fs (is.leads text) further
 
 -- in front of a further line of a leaf, where prefixes may stand
 pub front-stays : (text x : Expression) (bytes : List ℕ) (opens : List Container) (p q : Point) (front : List Event) →
     TakesPrefixes x → LinePrefix bytes opens p q front → opens ≡ [] →
     Leads text (x ∷ []) (x ∷ []) front
 front-stays text x bytes _ p _ _ takes (Behind _) none = λ outer. refl
-front-stays text x bytes opens p r _ takes (Goes c _ _ q _ es fs is more) none =
-    leads-append text (x ∷ []) (x ∷ []) (x ∷ []) es fs ((continues-facts bytes c p q es is).stays text x takes) (front-stays text x bytes opens q r fs takes more none)
+front-stays text x bytes opens p r _ takes (Goes _ _ q _ es fs is more) none =
+    leads-append text (x ∷ []) (x ∷ []) (x ∷ []) es fs (is.stays text x takes) (front-stays text x bytes opens q r fs takes more none)
 front-stays text x bytes _ p r _ takes (Begins c opens _ q _ es fs is more) none = cc
 
 -- Behind a line.

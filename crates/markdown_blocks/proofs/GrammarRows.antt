@@ -22,7 +22,7 @@ use Rattle.md_seam.proofs.MarkGrammar.{keeps-marked}
 use Rattle.markdown_blocks.specs.Change.{ends_of}
 use Rattle.markdown_blocks.specs.Document.{body_point, mark_end, mark_events}
 use Rattle.markdown_blocks.specs.Rows.{BlankRow, Group, Lines, Row, RowKind, Single, TextRow, behind_row, ending_events, ending_of, group_events, groups, groups_events, last_row, onto_groups, goes_on, read_lines, tail_events, LeafRow, leaf_done, leaf_unread}
-use Rattle.markdown_blocks.specs.Unread.{linked_lines, titled_group, titled_groups}
+use Rattle.markdown_blocks.specs.Unread.{linked_lines, listed_group, listed_groups}
 use Rattle.markdown_blocks.proofs.ContainerNames.{open_names}
 use Rattle.markdown_blocks.proofs.GrammarFronts.{behind-ends, behinds, behinds-append, blocks_behind, ending-leads, ends-lead, front-leads, front-stays}
 use Rattle.markdown_blocks.proofs.GroupLemmas.{AreGroups, EndsBeforeGroups, IsParagraph, groups-are, line_end-ended, rows-end}
@@ -211,7 +211,7 @@ linked-word options bytes x row (next ∷ rows) e is =
     (linked-word options bytes unread_rest next rows refl is.7)
 
 -- each group
-unread-reads : (options : ParseOptions) (bytes : List ℕ) → Reads options bytes unread_text (titled_group bytes)
+unread-reads : (options : ParseOptions) (bytes : List ℕ) → Reads options bytes unread_text (listed_group bytes)
 unread-reads options bytes = record {
   single = λ line row is other. (
     is_some (block_of row.kind is.rest),
@@ -224,17 +224,17 @@ unread-reads options bytes = record {
 }
 
 -- all of them
-unread-all : (bytes : List ℕ) (gs : List Group) → titled_groups bytes gs ≡ all_of (titled_group bytes) gs
+unread-all : (bytes : List ℕ) (gs : List Group) → listed_groups bytes gs ≡ all_of (listed_group bytes) gs
 unread-all bytes [] = refl
-unread-all bytes (g ∷ gs) = ap (λ (es : List Event). titled_group bytes g ++ es) (unread-all bytes gs)
+unread-all bytes (g ∷ gs) = ap (λ (es : List Event). listed_group bytes g ++ es) (unread-all bytes gs)
 
 -- The events of a text keep the grammar before its text parts are read.
 pub blocks-grammar : (options : ParseOptions) (bytes : List ℕ) (lines : List (List ℕ)) (rows : List Row) →
     AreRows options bytes [] false (body_point bytes) lines rows → EachNoContent rows →
-    keeps_grammar unread_text (mark_events bytes ++ titled_groups bytes (groups rows)) ≡ true
+    keeps_grammar unread_text (mark_events bytes ++ listed_groups bytes (groups rows)) ≡ true
 blocks-grammar options bytes lines rows are quiet =
     ap (λ (es : List Event). keeps_grammar unread_text (mark_events bytes ++ es)) (unread-all bytes (groups rows))
-    ∙ rows-keep options bytes unread_text (titled_group bytes) lines rows (unread-reads options bytes) are quiet
+    ∙ rows-keep options bytes unread_text (listed_group bytes) lines rows (unread-reads options bytes) are quiet
 
 -- Once they are read.
 

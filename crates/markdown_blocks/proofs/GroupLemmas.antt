@@ -29,7 +29,7 @@ use Rattle.markdown_blocks.specs.Change as change
 use Rattle.markdown_blocks.specs.Registry.{LeafName, first_of, leaf as line_leaf, resolved, trials}
 use Rattle.markdown_blocks.specs.Rows.{BlankRow, Group, LeafRow, Lines, Row, RowKind, Single, TextRow, behind_row, blank_line, chunks_of, ending_events, ending_of, goes_on, group_events, groups, groups_events, is_text, kind_of, last_row, leaf_done, leaf_events, leaf_unread, line_kind, onto_groups, paragraph_events, read_lines, row_events, row_events_by, rows_events, single_events_by, tail_events}
 use Rattle.markdown_blocks.specs.Fronted.{contained, cut_tab, rest_from, rest_line}
-use Rattle.markdown_blocks.specs.Unread.{joined_groups, linked, linked_lines, titled_group, titled_groups, titled_row_by, unread_group, unread_groups, unread_paragraph}
+use Rattle.markdown_blocks.specs.Unread.{joined_groups, linked, linked_lines, listed_group, listed_groups, listed_row_by, unread_group, unread_groups, unread_paragraph}
 use Rattle.md_seam.proofs.FeedLines.{ending-some}
 pub use Rattle.markdown_blocks.proofs.FrontNames.{HasFront}
 use Rattle.markdown_blocks.proofs.FrontNames.{ends-first, fronts-prefixes}
@@ -378,7 +378,7 @@ blank-outside (b ∷ line) p = (refl, (refl, tt))
 
 -- a line that is no text is set
 single-set : (options : ParseOptions) (bytes : List ℕ) (row : Row) (es : List Event) → IsSingle options bytes row → (kind : RowKind) → row.kind ≡ kind →
-    resolved (row_events_by kind row ++ es) ≡ titled_row_by bytes kind row ++ resolved es
+    resolved (row_events_by kind row ++ es) ≡ listed_row_by bytes kind row ++ resolved es
 single-set options bytes row es is kind e =
     leaf-set row.front (leaf_events kind row) (leaf_unread bytes kind row) (tail_events (ending_of kind) row) es (has_front-outside bytes row is.front) (tail-outside (ending_of kind) row (ending-own kind)) (leaf kind e)
   where
@@ -390,11 +390,11 @@ single-set options bytes row es is kind e =
         ∙ ap (λ (line : List ℕ). (line_leaf l).unread line row.first ++ resolved es) (sym is.is.line_is ∙ sym is.is.text)
     leaf TextRow e es = absurd (is.other e)
 
-groups-set : (options : ParseOptions) (bytes : List ℕ) (gs : List Group) → AreGroups options bytes gs → resolved (unread_groups gs) ≡ titled_groups bytes gs
+groups-set : (options : ParseOptions) (bytes : List ℕ) (gs : List Group) → AreGroups options bytes gs → resolved (unread_groups gs) ≡ listed_groups bytes gs
 groups-set options bytes [] are = refl
 groups-set options bytes (Single row ∷ gs) are =
     single-set options bytes row (unread_groups gs) are.0 row.kind refl
-    ∙ ap (λ (l : List Event). titled_row_by bytes row.kind row ++ l) (groups-set options bytes gs are.1)
+    ∙ ap (λ (l : List Event). listed_row_by bytes row.kind row ++ l) (groups-set options bytes gs are.1)
 groups-set options bytes (Lines row rows ∷ gs) are =
     let last : Row = last_row row rows in
     leaf-set row.front (unread_paragraph row rows) (unread_paragraph row rows) (tail_events n.LineEnding last) (unread_groups gs) (has_front-outside bytes row are.2) (tail-outside n.LineEnding last refl)
@@ -403,7 +403,7 @@ groups-set options bytes (Lines row rows ∷ gs) are =
 
 -- Each leaf is set, and all else stays.
 pub leaves-set : (options : ParseOptions) (bytes : List ℕ) (open_before : List Container) (going : Bool) (p : Point) (lines : List (List ℕ)) (rows : List Row) → AreRows options bytes open_before going p lines rows → EachNoContent rows →
-    resolved (unread_groups (groups rows)) ≡ titled_groups bytes (groups rows)
+    resolved (unread_groups (groups rows)) ≡ listed_groups bytes (groups rows)
 leaves-set options bytes open_before going p lines rows are quiet = groups-set options bytes (groups rows) (groups-are options bytes open_before going p lines rows are quiet)
 
 -- The text of leaves and paragraphs.
@@ -415,7 +415,7 @@ leaf-becomes wants reads front leaf read tail h k becomes =
     (becomes-append wants reads front front leaf read (becomes-same wants reads front h) becomes) (becomes-same wants reads tail k)
 
 single-becomes : (options : ParseOptions) (bytes : List ℕ) (row : Row) (wants : Content → Bool) (reads : Readings) → wants content.Text ≡ true → ReadsText bytes reads → IsSingle options bytes row →
-    Becomes wants reads (titled_row_by bytes row.kind row) (single_events_by bytes row.kind row)
+    Becomes wants reads (listed_row_by bytes row.kind row) (single_events_by bytes row.kind row)
 single-becomes options bytes row wants reads w rt is =
     leaf-becomes wants reads row.front (leaf_unread bytes row.kind row) (leaf_done bytes row.kind row) (tail_events (ending_of row.kind) row) (front-unwanted wants bytes row is.front) (tail-unwanted wants row.kind row)
     (row-becomes options bytes is.line row is.is is.other wants reads w rt)
@@ -495,21 +495,21 @@ lines-become options bytes row rows wants reads w rt is front =
     (λ answer r. subst (λ (l : List Event). CutAt row rows l given) (sym (unique answer r)) (text-cut options bytes row rows is)))
 
 groups-become : (options : ParseOptions) (bytes : List ℕ) (wants : Content → Bool) (reads : Readings) → wants content.Text ≡ true → ReadsText bytes reads →
-    (gs : List Group) → AreGroups options bytes gs → Becomes wants reads (titled_groups bytes gs) (groups_events bytes gs)
+    (gs : List Group) → AreGroups options bytes gs → Becomes wants reads (listed_groups bytes gs) (groups_events bytes gs)
 groups-become options bytes wants reads w rt [] are = becomes-same wants reads [] tt
 groups-become options bytes wants reads w rt (Single row ∷ gs) are =
-    becomes-append wants reads (titled_group bytes (Single row)) (group_events bytes (Single row)) (titled_groups bytes gs) (groups_events bytes gs)
+    becomes-append wants reads (listed_group bytes (Single row)) (group_events bytes (Single row)) (listed_groups bytes gs) (groups_events bytes gs)
     (single-becomes options bytes row wants reads w rt are.0) (groups-become options bytes wants reads w rt gs are.1)
 groups-become options bytes wants reads w rt (Lines row rows ∷ gs) are =
-    becomes-append wants reads (titled_group bytes (Lines row rows)) (group_events bytes (Lines row rows)) (titled_groups bytes gs) (groups_events bytes gs)
+    becomes-append wants reads (listed_group bytes (Lines row rows)) (group_events bytes (Lines row rows)) (listed_groups bytes gs) (groups_events bytes gs)
     (lines-become options bytes row rows wants reads w rt are.0 are.2) (groups-become options bytes wants reads w rt gs are.3)
 
 -- The text of leaves and paragraphs, read: the events of a text.
 pub text-read : (options : ParseOptions) (bytes : List ℕ) (open_before : List Container) (going : Bool) (p : Point) (lines : List (List ℕ)) (rows : List Row) → AreRows options bytes open_before going p lines rows → EachNoContent rows →
     (wants : Content → Bool) (reads : Readings) → wants content.Text ≡ true → ReadsText bytes reads →
-    (events : List Event) → Substituted wants reads [] 0 (titled_groups bytes (groups rows)) events → events ≡ groups_events bytes (groups rows)
+    (events : List Event) → Substituted wants reads [] 0 (listed_groups bytes (groups rows)) events → events ≡ groups_events bytes (groups rows)
 text-read options bytes open_before going p lines rows are quiet wants reads w rt events s =
-    let unread : List Event = titled_groups bytes (groups rows) in
+    let unread : List Event = listed_groups bytes (groups rows) in
     let rest : Rest wants reads (groups_events bytes (groups rows)) [] events =
     groups-become options bytes wants reads w rt (groups rows) (groups-are options bytes open_before going p lines rows are quiet) [] [] events
     (subst (λ (l : List Event). Substituted wants reads [] 0 l events) (sym (append-nil unread)) s) in

@@ -15,7 +15,7 @@ use Rattle.md_content.specs.Joined.{content_behind, goes_on, is_content, joined}
 use Rattle.md_seam.specs.Ahead.{begins_white, from_ending, line_end}
 use Rattle.md_seam.specs.Events.Inline.{is_line_ending}
 use Rattle.md_seam.specs.Events.Nested.{enter_link, exit, pair, is_enter, is_exit}
-use Rattle.md_seam.specs.Standard.State.{Container, InFootnote, InItem, InQuote}
+use Rattle.md_seam.specs.Standard.State.{Container}
 use Rattle.md_seam.specs.Events.Prefix.{is_prefix}
 use Rattle.markdown_blocks.specs.Change.{ends_of, is_none, open_behind}
 use Rattle.markdown_blocks.specs.Rows.{BlankRow, Group, Held, Lines, Row, RowKind, Single, TextRow, behind_row, ending_events, ending_of, groups, held_at, inside_of, is_text, last_row, leaf_events, onto_groups, onto_lines, row_events, row_events_by, row_kind, rows_at, rows_by, rows_events, tail_events, LeafRow}
@@ -26,7 +26,7 @@ use Rattle.markdown_blocks.proofs.SubstitutedLemmas.{no_link-unwanted}
 use Rattle.markdown_blocks.proofs.Registry.{laws}
 use Rattle.markdown_blocks.proofs.ContentFacts.{NoContent, no_content-append, nothing}
 use Rattle.markdown_blocks.proofs.PrefixNames.{AreFront}
-use Rattle.markdown_blocks.proofs.ContainerNames.{end-stops}
+use Rattle.markdown_blocks.proofs.ContainerNames.{end-stops, container-no_ending}
 use Rattle.markdown_blocks.specs.ContainerKinds.{container_name}
 
 -- no content stands inside a line, and its links are to text
@@ -167,12 +167,7 @@ no_ending-stops e [] h = refl
 no_ending-stops e (f ∷ es) h = ap (λ (x : Bool). x && content_behind es) h
 
 ends-stop : (c : Container) (cs : List Container) (p : Point) (es : List Event) → goes_on (ends_of (c ∷ cs) p ++ es) ≡ false
-ends-stop c cs p es = ends-first (λ (l : List Event). goes_on l ≡ false) c cs p es (λ d fs. no_ending-stops (exit (container_name d) p) fs (no_ending d))
-  where
-    no_ending : (d : Container) → is_line_ending (container_name d) ≡ false
-    no_ending InQuote = refl
-    no_ending (InItem digits marker width starts_blank) = refl
-    no_ending (InFootnote label) = refl
+ends-stop c cs p es = ends-first (λ (l : List Event). goes_on l ≡ false) c cs p es (λ d fs. no_ending-stops (exit (container_name d) p) fs (container-no_ending d))
 
 -- a line of text that does not go on
 text-ends : (row : Row) (es : List Event) → goes_on (tail_events n.LineEnding row ++ es) ≡ false → joined ((text_events row ++ tail_events n.LineEnding row) ++ es) ≡ (text_events row ++ tail_events n.LineEnding row) ++ joined es

@@ -23,9 +23,9 @@ pub mod LeafFacts
 pub mod LeafLaws
 pub mod FrontFacts
 pub mod ContainerNames
+pub mod CollectFacts
 pub mod PrefixNames
 pub mod PrefixFacts
-pub mod ContainerFacts
 pub mod BlockQuote
 pub mod FrontLemmas
 pub mod FrontPlaces
@@ -35,6 +35,9 @@ pub mod KindLemmas
 pub mod ContainedLemmas
 pub mod PieceRuns
 pub mod RestRows
+pub mod RegistryRead
+pub mod PassedFacts
+pub mod RegistryContainers
 pub mod FrontRows
 pub mod RowLemmas
 pub mod LeafRows

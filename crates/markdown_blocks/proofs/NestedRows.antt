@@ -1,4 +1,4 @@
--- The events of a text nest, where only headings and breaks are on, in containers.
+-- The events of a text nest, where only constructs that are built are on.
 use Rattle.std.proofs.Common.{◌≡◌, ◌≢◌, ℕ, suc, ◌+◌, Bool, true, false, cond, List, [], ◌∷◌, ◌++◌, length, refl, ap, sym, ◌∙◌, subst, append_assoc, append-nil, arith}
 use Rattle.std.specs.Prelude.{IsTrue, Option, Some, None}
 use Rattle.std.proofs.lemmas.Bool.{and_parts}
@@ -29,8 +29,6 @@ use Rattle.markdown_blocks.proofs.SpanLemmas.{Nested_in, Spans, around-nested, c
 use Rattle.markdown_blocks.proofs.ContainerNames.{open_names}
 
 -- Chunks.
-
--- Headings.
 
 -- Lines.
 

@@ -29,7 +29,7 @@ use Rattle.markdown_blocks.specs.FlowReads.{FlowReads, text_cells, text_rows}
 use Rattle.markdown_blocks.specs.Parsed.{IsBuilt, IsSmall, reads_plain}
 use Rattle.markdown_blocks.specs.Registry.{resolved}
 use Rattle.markdown_blocks.specs.Rows.{Row, groups, groups_events}
-use Rattle.markdown_blocks.specs.Unread.{titled_groups, unread_groups}
+use Rattle.markdown_blocks.specs.Unread.{listed_groups, unread_groups}
 use Rattle.markdown_blocks.proofs.BetweenRows.{rows-between}
 use Rattle.markdown_blocks.proofs.EndingRows.{blocks-endings, events-endings}
 use Rattle.markdown_blocks.proofs.GrammarRows.{blocks-grammar, events-grammar}
@@ -71,7 +71,7 @@ content-are options bytes built small found new flow =
 -- Then the other resolvers ran.
 resolved-are : (options : ParseOptions) (bytes : List ℕ) → IsBuilt options → length bytes < 2 ^ 61 →
     (found : Found) (new : World) → (flow : FlowReads bytes options (body_point bytes) found new) →
-    new.events ≡ titled_groups bytes (groups (rows_of options bytes))
+    new.events ≡ listed_groups bytes (groups (rows_of options bytes))
 resolved-are options bytes built small found new flow =
     flow.events_are
     ∙ ap resolved (content-are options bytes built small found new flow)
@@ -82,13 +82,13 @@ pub events-are : (options : ParseOptions) (bytes : List ℕ) → IsBuilt options
     (wants : Content → Bool) (reads : Readings) → wants content.Text ≡ true → ReadsText bytes reads → (events : List Event) → Substituted wants reads [] 0 new.events events →
     events ≡ groups_events bytes (groups (text_rows options bytes (body_point bytes)))
 events-are options bytes built small found new flow wants reads wanted text events substituted =
-    let before : new.events ≡ titled_groups bytes (groups (rows_of options bytes)) = resolved-are options bytes built small found new flow in
+    let before : new.events ≡ listed_groups bytes (groups (rows_of options bytes)) = resolved-are options bytes built small found new flow in
     text-read options bytes [] false (body_point bytes) (lines_of bytes) (rows_of options bytes) (text-are options bytes built small) (text-quiet options bytes (body_point bytes)) wants reads wanted text events
     (subst (λ (l : List Event). Substituted wants reads [] 0 l events) before substituted)
 
 -- With what was read in the place of its chunks, the block list of a text tiles it.
-tiles-are : (options : ParseOptions) (bytes : List ℕ) → IsBuilt options → length bytes < 2 ^ 61 → IsTrue (are_placed bytes (mark_events bytes ++ titled_groups bytes (groups (rows_of options bytes)))) →
-    (tiles : Tiles (reads_plain bytes) bytes (mark_events bytes ++ groups_events bytes (groups (rows_of options bytes)))) × (tiles.blocks ≡ mark_events bytes ++ titled_groups bytes (groups (rows_of options bytes)))
+tiles-are : (options : ParseOptions) (bytes : List ℕ) → IsBuilt options → length bytes < 2 ^ 61 → IsTrue (are_placed bytes (mark_events bytes ++ listed_groups bytes (groups (rows_of options bytes)))) →
+    (tiles : Tiles (reads_plain bytes) bytes (mark_events bytes ++ groups_events bytes (groups (rows_of options bytes)))) × (tiles.blocks ≡ mark_events bytes ++ listed_groups bytes (groups (rows_of options bytes)))
 tiles-are options bytes built small placed =
     let p : Point = body_point bytes in
     let lines : List (List ℕ) = lines_of bytes in
@@ -96,7 +96,7 @@ tiles-are options bytes built small placed =
     let are : AreRows options bytes [] false p lines rows = text-are options bytes built small in
     let fills = text-filled options bytes p lines are in (
       record {
-        blocks = mark_events bytes ++ titled_groups bytes (groups rows);
+        blocks = mark_events bytes ++ listed_groups bytes (groups rows);
         block_list = record {
           nested = blocks-nested options bytes lines rows are;
           placed = placed;
@@ -107,7 +107,7 @@ tiles-are options bytes built small placed =
           endings = blocks-endings options bytes lines rows are (text-quiet options bytes p);
         };
         covers = blocks-cover options bytes lines rows are;
-        lists = plain_lists bytes (parts (mark_events bytes ++ titled_groups bytes (groups rows)));
+        lists = plain_lists bytes (parts (mark_events bytes ++ listed_groups bytes (groups rows)));
         each = fills.each;
         read = fills.read;
         empty = groups-empty options bytes;
@@ -116,7 +116,7 @@ tiles-are options bytes built small placed =
     )
 
 -- The block list is made of the events of the mark and of the lines.
-block_list-is : (options : ParseOptions) (bytes : List ℕ) → mark_events bytes ++ titled_groups bytes (groups (rows_of options bytes)) ≡ block_list options bytes
+block_list-is : (options : ParseOptions) (bytes : List ℕ) → mark_events bytes ++ listed_groups bytes (groups (rows_of options bytes)) ≡ block_list options bytes
 unfolding block_list
 block_list-is options bytes = refl
 
@@ -133,7 +133,7 @@ pub record Reads (options : ParseOptions) (bytes : List ℕ) (blocks events : Li
   pub endings : endings_stand events ≡ true
 
 pub text-reads : (options : ParseOptions) (bytes : List ℕ) → IsBuilt options → IsUtf8 bytes → length bytes < 2 ^ 61 → (events : List Event) → events ≡ groups_events bytes (groups (text_rows options bytes (body_point bytes))) →
-    Reads options bytes (mark_events bytes ++ titled_groups bytes (groups (text_rows options bytes (body_point bytes)))) (mark_events bytes ++ events)
+    Reads options bytes (mark_events bytes ++ listed_groups bytes (groups (text_rows options bytes (body_point bytes)))) (mark_events bytes ++ events)
 text-reads options bytes built utf8 small events is =
     let p : Point = body_point bytes in
     let lines : List (List ℕ) = lines_of bytes in
@@ -142,7 +142,7 @@ text-reads options bytes built utf8 small events is =
     let are : AreRows options bytes [] false p lines rows = text-are options bytes built small in
     let nests : Nests bytes p (groups rows) = rows-nest options bytes p lines rows are in
     let spells : spelled body bytes ≡ tree options bytes = tree-rows options built bytes rows are in
-    subst (λ (l : List Event). Reads options bytes (mark_events bytes ++ titled_groups bytes (groups rows)) (mark_events bytes ++ l)) (sym is) (record {
+    subst (λ (l : List Event). Reads options bytes (mark_events bytes ++ listed_groups bytes (groups rows)) (mark_events bytes ++ l)) (sym is) (record {
       nested = mark-nested bytes body nests.balanced nests.forward;
       outlined = mark-outlined bytes body (groups-outlined options bytes p lines rows are utf8 nests.balanced (rows-between options bytes p lines rows (body-between bytes) are) (ap are_shallow spells ∙ tree-shallow options bytes built));
       tree = mark-spelled bytes body ∙ spells;
@@ -165,10 +165,10 @@ parsed-reads options bytes text start found new mark items body events same buil
     let body-is : body ≡ groups_events bytes (groups (rows_of options bytes)) =
     events-are options bytes built here found new from wants reads wanted plain body
     (subst (λ (l : List Event). Substituted wants reads [] 0 l body) are substituted) in
-    let before : items ≡ titled_groups bytes (groups (rows_of options bytes)) = are ∙ resolved-are options bytes built here found new from in
+    let before : items ≡ listed_groups bytes (groups (rows_of options bytes)) = are ∙ resolved-are options bytes built here found new from in
     let front : mark ≡ mark_events text = marks ∙ ap mark_events same in
-    let blocks : mark ++ items ≡ mark_events text ++ titled_groups text (groups (rows_of options text)) =
-    ap (λ (l : List Event). l ++ items) front ∙ ap (λ (l : List Event). mark_events text ++ l) (before ∙ ap (λ (l : List ℕ). titled_groups l (groups (rows_of options l))) same) in
+    let blocks : mark ++ items ≡ mark_events text ++ listed_groups text (groups (rows_of options text)) =
+    ap (λ (l : List Event). l ++ items) front ∙ ap (λ (l : List Event). mark_events text ++ l) (before ∙ ap (λ (l : List ℕ). listed_groups l (groups (rows_of options l))) same) in
     subst (λ (l : List Event). Reads options text l events) (sym blocks)
-    (subst (Reads options text (mark_events text ++ titled_groups text (groups (rows_of options text)))) (sym (is ∙ ap (λ (l : List Event). l ++ body) front))
+    (subst (Reads options text (mark_events text ++ listed_groups text (groups (rows_of options text)))) (sym (is ∙ ap (λ (l : List Event). l ++ body) front))
     (text-reads options text built utf8 small body (subst (λ (l : List ℕ). body ≡ groups_events l (groups (rows_of options l))) same body-is)))

@@ -1,5 +1,5 @@
 -- Events outside of text parts, the chunks of a text part, and lines of which nothing is read later.
-use Rattle.std.proofs.Common.{◌≡◌, Bool, true, false, cond, ◌&&◌, List, [], ◌∷◌, ◌++◌, refl, ap, ◌∙◌, append-nil}
+use Rattle.std.proofs.Common.{◌≡◌, Bool, true, false, cond, ◌&&◌, List, [], ◌∷◌, ◌++◌, refl, ap, ◌∙◌, append-nil, sym}
 use Rattle.std.specs.Prelude.{Option, Some, None}
 use Rattle.md_engine.specs.declared.event.Event.{Event}
 use Rattle.md_engine.specs.declared.event.Kind.{Kind}
@@ -12,7 +12,7 @@ use Rattle.md_seam.specs.declared.inline.Chunk.{Chunk}
 use Rattle.md_seam.specs.declared.inline.PartKind.{PartKind}
 use Rattle.md_seam.specs.Events.Inline.{Piece, piece_of, pieces, pieces_from}
 use Rattle.md_seam.specs.Events.Nested.{exit, is_exit}
-use Rattle.md_seam.specs.Events.Spelled.{role}
+use Rattle.md_seam.specs.Events.Spelled.{role, IsQuiet, Role}
 use Rattle.md_seam.specs.Events.Tiles.{chunks, inside_part, is_part, part_end, part_kind}
 use Rattle.md_seam.proofs.SpelledLemmas.{Quiet, Roles}
 use Rattle.markdown_blocks.specs.Unread.{linked}
@@ -40,20 +40,28 @@ no_parts-append (e ∷ xs) ys h k = (h.0, no_parts-append xs ys h.1 k)
 pub kind-no_part : (name : Name) → part_kind name ≡ None → is_part name ≡ false
 kind-no_part name h = ap (λ (x : Option PartKind). elim x [ None ↦ false | Some kind ↦ true ]) h
 
--- the tree shows each text part
+-- whether the tree shows nothing of a role
+abbrev is_quiet : Role → Bool
+is_quiet IsQuiet = true
+is_quiet _ = false
+
+-- it is so where it is quiet
+quiet-is : (x : Role) → Quiet x → is_quiet x ≡ true
+quiet-is IsQuiet h = refl
+quiet-is _ h = absurd h
+
+-- the tree shows each text part: each name is tested
+quiet-part : (name : Name) → (is_quiet (role name) && is_part name) ≡ false
+quiet-part n.Data = refl
+quiet-part _ = refl
+
+-- so what it does not show is no text part
 quiet-name : (name : Name) → Quiet (role name) → part_kind name ≡ None
-quiet-name n.Paragraph h = absurd h
-quiet-name n.HeadingAtxText h = absurd h
-quiet-name n.HeadingSetextText h = absurd h
-quiet-name n.GfmTableCellText h = absurd h
-quiet-name n.CodeFencedFenceInfo h = absurd h
-quiet-name n.CodeFencedFenceMeta h = absurd h
-quiet-name n.MathFlowFenceMeta h = absurd h
-quiet-name n.DefinitionLabelString h = absurd h
-quiet-name n.DefinitionDestinationString h = absurd h
-quiet-name n.DefinitionTitleString h = absurd h
-quiet-name n.GfmFootnoteDefinitionLabelString h = absurd h
-quiet-name _ h = refl
+quiet-name name h = go (part_kind name) (ap (λ (x : Bool). x && is_part name) (sym (quiet-is (role name) h)) ∙ quiet-part name)
+  where
+    go : (x : Option PartKind) → elim x [ None ↦ false | Some kind ↦ true ] ≡ false → x ≡ None
+    go None e = refl
+    go (Some kind) e = cc
 
 pub quiet-no_parts : (es : List Event) → Roles Quiet es → NoParts es
 quiet-no_parts [] h = tt
@@ -105,5 +113,3 @@ pieces-behind p link (c ∷ cs) = refl
 pub linked-chunks : (link : Link) (cs : List Chunk) → chunks (pieces (linked n.Data link cs)) ≡ cs
 linked-chunks link [] = refl
 linked-chunks link (c ∷ cs) = ap (λ (l : List Piece). c ∷ chunks l) (pieces-behind c.after link cs) ∙ ap (λ (l : List Chunk). c ∷ l) (linked-chunks link cs)
-
--- The runs of a heading.

@@ -36,7 +36,6 @@ use Rattle.markdown_blocks.proofs.RowFacts.{AreRows, IsEnding, IsLine, behind_li
 use Rattle.markdown_blocks.proofs.PartedFacts.{Sits, Still, byte-from, clear, clear-between, low-clear, passes-chunk, sits-append, sits-still, Marks, behind_prefix}
 use Rattle.markdown_blocks.proofs.BetweenFacts.{ending-behind, is_low}
 use Rattle.markdown_blocks.proofs.RowLeaf.{row-leaf}
-use Rattle.markdown_blocks.proofs.ContainerFacts.{continues-facts, opens-facts}
 use Rattle.markdown_blocks.proofs.PrefixFacts.{Continues}
 use Rattle.markdown_blocks.proofs.ContainerNames.{container-still}
 
@@ -46,8 +45,8 @@ use Rattle.markdown_blocks.proofs.ContainerNames.{container-still}
 fronts-clear : (bytes : List ℕ) (opens : List Container) (p q : Point) (front : List Event) →
     LinePrefix bytes opens p q front → clear bytes q ≡ true → clear bytes p ≡ true
 fronts-clear bytes _ p _ _ (Behind _) h = h
-fronts-clear bytes opens p r _ (Goes c _ _ q _ es fs is more) h = (continues-facts bytes c p q es is).common.clear
-fronts-clear bytes _ p r _ (Begins c opens _ q _ es fs is more) h = (opens-facts bytes c p q es is).common.clear
+fronts-clear bytes opens p r _ (Goes _ _ q _ es fs is more) h = is.common.clear
+fronts-clear bytes _ p r _ (Begins c opens _ q _ es fs is more) h = is.common.clear
 
 -- Slices.
 
@@ -157,8 +156,8 @@ fronts-parted : (bytes : List ℕ) (opens : List Container) (p q : Point) (front
     ((next : Span) → ((next ≡ span) × (p ≡ q)) ⊎ (next ≡ behind_prefix q) → are_parted bytes (Some next) rest ≡ true) →
     are_parted bytes (Some span) (front ++ rest) ≡ true
 fronts-parted bytes _ p _ _ span rest (Behind _) e between at marks f = f span (inl (refl, refl))
-fronts-parted bytes opens p r _ span rest (Goes c _ _ q _ es fs is more) e between at marks f =
-    let facts : Continues bytes p q es = continues-facts bytes c p q es is in
+fronts-parted bytes opens p r _ span rest (Goes _ _ q _ es fs is more) e between at marks f =
+    let facts : Continues bytes p q es = is in
     let behind : is_between bytes q.index ≡ true = (facts.common.between between).1 in
     let onward : are_parted bytes (Some (behind_prefix q)) (fs ++ rest) ≡ true = fronts-parted bytes opens q r fs (behind_prefix q) rest more e behind at (marks-behind bytes q) (λ next k. f next (inr (same next k))) in
     ap (are_parted bytes (Some span)) (append_assoc es fs rest) ∙ facts.parted span (fs ++ rest) marks (clear-between bytes q (fronts-clear bytes opens q r fs more at) behind) onward

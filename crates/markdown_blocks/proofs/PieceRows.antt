@@ -21,7 +21,7 @@ use Rattle.markdown_blocks.specs.Change.{ends_of}
 use Rattle.markdown_blocks.specs.Document.{body_point, mark_end, mark_events}
 use Rattle.markdown_blocks.specs.Fronted.{contained, rest_from, rest_line}
 use Rattle.markdown_blocks.specs.Rows.{BlankRow, Group, Lines, Row, RowKind, Single, TextRow, behind_row, ending_events, goes_on, group_events, groups, groups_events, is_text, last_row, onto_groups, read_lines, tail_events, LeafRow, ending_of, leaf_done, leaf_unread}
-use Rattle.markdown_blocks.specs.Unread.{linked_lines, titled_group, titled_groups}
+use Rattle.markdown_blocks.specs.Unread.{linked_lines, listed_group, listed_groups}
 use Rattle.markdown_blocks.proofs.EachRow.{EachRow, last-each}
 use Rattle.markdown_blocks.proofs.FrontFacts.{Behind, Begins, LinePrefix, Goes}
 use Rattle.markdown_blocks.proofs.GroupLemmas.{text-some}
@@ -30,7 +30,6 @@ use Rattle.markdown_blocks.proofs.ChunkFacts.{Chunked, chunked-alone, chunked-en
 use Rattle.markdown_blocks.proofs.PiecesLemmas.{pieces-before, Tiled}
 use Rattle.markdown_blocks.proofs.RowFacts.{AreRows, IsEnding, IsLine, IsRow, behind_line}
 use Rattle.markdown_blocks.proofs.RowLeaf.{row-leaf}
-use Rattle.markdown_blocks.proofs.ContainerFacts.{continues-facts, opens-facts}
 use Rattle.markdown_blocks.proofs.PrefixFacts.{Opens}
 
 -- Containers.
@@ -45,9 +44,9 @@ begun-stood bytes name p q (e ∷ es) some tiled h = record { ends = h.ends; sta
 fronts-stood : (bytes : List ℕ) (opens : List Container) (p q : Point) (es : List Event) →
     LinePrefix bytes opens p q es → Stood bytes es
 fronts-stood bytes opens p q es (Behind at) = stood-none bytes
-fronts-stood bytes opens first last es (Goes c same p q r xs ys is more) = stood-append bytes xs ys (continues-facts bytes c p q xs is).common.stood (fronts-stood bytes same q r ys more)
+fronts-stood bytes opens first last es (Goes same p q r xs ys is more) = stood-append bytes xs ys is.common.stood (fronts-stood bytes same q r ys more)
 fronts-stood bytes opens first last es (Begins c before p q r xs ys is more) =
-    let facts : Opens bytes c p q xs = opens-facts bytes c p q xs is in
+    let facts : Opens bytes c p q xs = is in
     stood-append bytes (enter (container_name c) p ∷ xs) ys (begun-stood bytes (container_name c) p q xs facts.some facts.common.tiled facts.common.stood) (fronts-stood bytes before q r ys more)
 
 -- the ends of containers have no pieces
@@ -207,11 +206,11 @@ linked-starts row [] = refl
 linked-starts row (next ∷ rows) = refl
 
 -- all groups
-unread-stood : (bytes : List ℕ) (gs : List Group) → GroupsStand bytes gs → Stood bytes (titled_groups bytes gs)
+unread-stood : (bytes : List ℕ) (gs : List Group) → GroupsStand bytes gs → Stood bytes (listed_groups bytes gs)
 unread-stood bytes [] h = stood-none bytes
-unread-stood bytes (Single row ∷ gs) h = stood-append bytes (titled_group bytes (Single row)) (titled_groups bytes gs) (single-stood bytes row (leaf_unread bytes row.kind row) h.0.0 (h.0.0.unread h.0.1)) (unread-stood bytes gs h.1)
+unread-stood bytes (Single row ∷ gs) h = stood-append bytes (listed_group bytes (Single row)) (listed_groups bytes gs) (single-stood bytes row (leaf_unread bytes row.kind row) h.0.0 (h.0.0.unread h.0.1)) (unread-stood bytes gs h.1)
 unread-stood bytes (Lines row rows ∷ gs) h =
-    stood-append bytes (titled_group bytes (Lines row rows)) (titled_groups bytes gs)
+    stood-append bytes (listed_group bytes (Lines row rows)) (listed_groups bytes gs)
     (paragraph-stood bytes row rows (linked_lines n.Data text_link row rows) h.0.0 h.0.1 (linked-starts row rows) (linked-stood bytes row rows h.0.0 h.0.1)) (unread-stood bytes gs h.1)
 
 -- Once they are read.
@@ -257,9 +256,9 @@ mark-stood bytes = go (has_mark bytes) refl
 -- The pieces of a text stand, before its texts are read,
 pub blocks-pieces : (options : ParseOptions) (bytes : List ℕ) (lines : List (List ℕ)) (rows : List Row) →
     AreRows options bytes [] false (body_point bytes) lines rows →
-    pieces_stand bytes (pieces (mark_events bytes ++ titled_groups bytes (groups rows))) ≡ true
+    pieces_stand bytes (pieces (mark_events bytes ++ listed_groups bytes (groups rows))) ≡ true
 blocks-pieces options bytes lines rows are =
-    (stood-append bytes (mark_events bytes) (titled_groups bytes (groups rows)) (mark-stood bytes)
+    (stood-append bytes (mark_events bytes) (listed_groups bytes (groups rows)) (mark-stood bytes)
     (unread-stood bytes (groups rows) (groups-stand bytes rows (rows-stand options bytes [] false (body_point bytes) lines rows are)))).stand
 
 -- and once they are.

@@ -29,7 +29,6 @@ use Rattle.markdown_blocks.proofs.RowFacts.{AreRows, IsLine, behind_line}
 use Rattle.markdown_blocks.proofs.PlainFacts.{ArePlain, Untold, chunk-plain, is_clear, plain-append, plain-around, plain-nil, plain-untold}
 use Rattle.markdown_blocks.proofs.PartedFacts.{clear, clear-between}
 use Rattle.markdown_blocks.proofs.RowLeaf.{row-leaf}
-use Rattle.markdown_blocks.proofs.ContainerFacts.{continues-facts, opens-facts}
 use Rattle.markdown_blocks.proofs.ContainerNames.{container-untold}
 use Rattle.markdown_blocks.proofs.PrefixFacts.{Opens}
 use Rattle.markdown_blocks.proofs.PrefixNames.{prefixes-roles, quiets-roles}
@@ -71,16 +70,16 @@ plain-tail bytes name row h shown = plain-untold bytes (tail_events name row) (r
 fronts-shown : (bytes : List ℕ) (opens : List Container) (p q : Point) (front : List Event) →
     LinePrefix bytes opens p q front → AreShown opens
 fronts-shown bytes _ p _ _ (Behind _) = tt
-fronts-shown bytes opens p r _ (Goes c _ _ q _ es fs is more) = fronts-shown bytes opens q r fs more
-fronts-shown bytes _ p r _ (Begins c opens _ q _ es fs is more) = ((opens-facts bytes c p q es is).shown, fronts-shown bytes opens q r fs more)
+fronts-shown bytes opens p r _ (Goes _ _ q _ es fs is more) = fronts-shown bytes opens q r fs more
+fronts-shown bytes _ p r _ (Begins c opens _ q _ es fs is more) = (is.shown, fronts-shown bytes opens q r fs more)
 
 -- what stands in front of a line
 plain-front : (bytes : List ℕ) (opens : List Container) (p q : Point) (front : List Event) →
     LinePrefix bytes opens p q front → ArePlain bytes front
 plain-front bytes _ p _ _ (Behind _) = plain-nil bytes
-plain-front bytes opens p r _ (Goes c _ _ q _ es fs is more) = plain-append bytes es fs (plain-untold bytes es (prefixes-roles Untold es (refl, refl) (refl, refl) (continues-facts bytes c p q es is).names)) (plain-front bytes opens q r fs more)
+plain-front bytes opens p r _ (Goes _ _ q _ es fs is more) = plain-append bytes es fs (plain-untold bytes es (prefixes-roles Untold es (refl, refl) (refl, refl) is.names)) (plain-front bytes opens q r fs more)
 plain-front bytes _ p r _ (Begins c opens _ q _ es fs is more) =
-    let facts : Opens bytes c p q es = opens-facts bytes c p q es is in
+    let facts : Opens bytes c p q es = is in
     let begin : Untold (role (container_name c)) = container-untold c facts.shown in
     let behind : ArePlain bytes es = plain-untold bytes es (quiets-roles Untold es (refl, refl) (refl, refl) facts.roles) in
     plain-append bytes (enter (container_name c) p ∷ []) (es ++ fs) (plain-untold bytes (enter (container_name c) p ∷ []) (begin, tt)) (plain-append bytes es fs behind (plain-front bytes opens q r fs more))

@@ -1,12 +1,17 @@
 -- What is known of the events that stand in front of the content of a container on a line, from the point where they begin to the one
 -- where its content does: the frame needs no more of a container.
-use Rattle.std.proofs.Common.{◌≡◌, ◌≢◌, ℕ, true, List, [], ◌∷◌}
+use Rattle.std.proofs.Common.{◌≡◌, ◌≢◌, ℕ, true, List, [], ◌∷◌, ◌++◌}
 use Rattle.md_engine.specs.declared.event.Event.{Event}
 use Rattle.md_engine.specs.declared.event.Point.{Point}
 use Rattle.md_seam.specs.Standard.State.{Container}
 use Rattle.md_seam.specs.Events.Grammar.{Expression, behind_block, blocks}
 use Rattle.md_seam.specs.Events.Nested.{enter}
-use Rattle.md_seam.specs.Events.Spelled.{Holds}
+use Rattle.md_seam.specs.Events.Spelled.{Holds, Reading, byte_at, read}
+use Rattle.md_seam.specs.Standard.Rest.{is_blank}
+use Rattle.md_seam.specs.Standard.Tree.{End}
+use Rattle.std.specs.Prelude.{None}
+use Rattle.markdown_blocks.specs.Stands.{around_of}
+use Rattle.markdown_blocks.proofs.CollectFacts.{Collects}
 use Rattle.md_seam.proofs.SpelledLemmas.{QuietOrPrefix, Roles}
 use Rattle.md_seam.proofs.EndingsLemmas.{AreOthers}
 use Rattle.md_seam.proofs.GrammarLemmas as grammar
@@ -15,11 +20,16 @@ use Rattle.markdown_blocks.specs.ContainerKinds.{container_name, shape_of}
 use Rattle.markdown_blocks.proofs.BetweenFacts.{AreBetween}
 use Rattle.markdown_blocks.proofs.PartsStand.{Inside}
 use Rattle.markdown_blocks.proofs.PiecesLemmas.{Tiled}
-use Rattle.markdown_blocks.proofs.PrefixNames.{AreFront, ArePrefixes, TakesPrefixes}
+use Rattle.markdown_blocks.proofs.PrefixNames.{AreFront, ArePrefixes}
 use Rattle.markdown_blocks.proofs.SpanLemmas.{Nested_in}
 use Rattle.markdown_blocks.proofs.PieceFacts.{Stood}
 use Rattle.markdown_blocks.proofs.PartedFacts.{clear, PartsText}
+use Rattle.markdown_blocks.proofs.ContainerNames.{TakesPrefixes}
 use Rattle.md_outline.specs.Roles.{is_plain}
+
+-- a container begins in what is read
+abbrev pub begins : Container → Reading → Reading
+begins c r = record r { outer = around_of c r.here ∷ r.outer; here = End }
 
 -- where it goes on, and where it opens
 pub record PrefixFacts (bytes : List ℕ) (p q : Point) (es : List Event) : Type 0 where
@@ -48,6 +58,9 @@ pub record Continues (bytes : List ℕ) (p q : Point) (es : List Event) : Type 0
   pub parted : PartsText bytes p q es
   -- they may stand in a text part
   pub inside : Inside bytes [] es
+  -- of a text that goes on behind them, they leave whitespace alone
+  pub collects : (ys : List Event) (end : ℕ) (all : List ℕ) → Collects bytes ys (byte_at q) end all →
+      (white : List ℕ) × (is_blank white ≡ true) × Collects bytes (es ++ ys) (byte_at p) end (white ++ all)
 
 -- where it opens, behind its begin
 pub record Opens (bytes : List ℕ) (c : Container) (p q : Point) (es : List Event) : Type 0 where
@@ -57,6 +70,8 @@ pub record Opens (bytes : List ℕ) (c : Container) (p q : Point) (es : List Eve
   pub roles : Roles QuietOrPrefix es
   -- with the begin of the container, they keep the grammar
   pub leads : (text : Expression) → grammar.Leads text (blocks ∷ []) (blocks ∷ behind_block ∷ []) (enter (container_name c) p ∷ es)
+  -- the container is read, and they are not
+  pub read : (r : Reading) → r.text ≡ None → read bytes r (enter (container_name c) p ∷ es) ≡ begins c r
   -- an outline shows the container
   pub shown : is_plain (Holds (shape_of c)) ≡ true
   -- there are some

@@ -1,5 +1,5 @@
 -- Events with names of prefixes, or of prefixes and containers.
-use Rattle.std.proofs.Common.{◌≡◌, true, List, [], ◌∷◌, ◌++◌, refl}
+use Rattle.std.proofs.Common.{◌≡◌, true, List, [], ◌∷◌, ◌++◌, refl, Bool, false}
 use Rattle.std.specs.Prelude.{None}
 use Rattle.md_engine.specs.declared.event.Event.{Event}
 use Rattle.md_engine.specs.declared.event.Name.{Name}
@@ -8,10 +8,9 @@ use Rattle.md_seam.specs.Events.Spelled as spelled
 use Rattle.md_seam.specs.Events.Spelled.{IsQuiet, Role, role}
 use Rattle.md_seam.specs.Events.Tiles.{part_kind}
 use Rattle.md_seam.specs.Events.Prefix.{is_prefix}
-use Rattle.md_seam.specs.Events.Grammar.{Expression, behind}
 use Rattle.md_seam.proofs.SpelledLemmas.{QuietOrPrefix, Roles}
 use Rattle.markdown_blocks.proofs.PartFacts.{NoLinks, NoParts}
-use Rattle.markdown_blocks.proofs.ContainerNames.{is_front}
+use Rattle.markdown_blocks.proofs.ContainerNames.{is_front, front-name}
 
 -- events with names of prefixes, none of which begins a chunk
 abbrev pub ArePrefixes : List Event → Type 0
@@ -31,12 +30,6 @@ pub front-append : (xs ys : List Event) → AreFront xs → AreFront ys → AreF
 front-append [] ys h k = k
 front-append (e ∷ xs) ys h k = (h.0, h.1, front-append xs ys h.2 k)
 
-pub front-name : (name : Name) → is_prefix name ≡ true → is_front name ≡ true
-front-name n.BlockQuote h = refl
-front-name n.ListItem h = refl
-front-name n.GfmFootnoteDefinition h = refl
-front-name _ h = h
-
 pub prefixes-front : (es : List Event) → ArePrefixes es → AreFront es
 prefixes-front [] h = tt
 prefixes-front (e ∷ es) h = (front-name e.name h.0, h.1, prefixes-front es h.2)
@@ -47,19 +40,10 @@ pub names-unlinked : (es : List Event) → AreFront es → NoLinks es
 names-unlinked [] h = tt
 names-unlinked (e ∷ es) h = (h.1, names-unlinked es h.2)
 
+-- no name of a prefix or of a container is that of a text part: each name is tested
 no_part-name : (name : Name) → is_front name ≡ true → part_kind name ≡ None
-no_part-name n.Paragraph h = cc
-no_part-name n.HeadingAtxText h = cc
-no_part-name n.HeadingSetextText h = cc
-no_part-name n.GfmTableCellText h = cc
-no_part-name n.CodeFencedFenceInfo h = cc
-no_part-name n.CodeFencedFenceMeta h = cc
-no_part-name n.MathFlowFenceMeta h = cc
-no_part-name n.DefinitionLabelString h = cc
-no_part-name n.DefinitionDestinationString h = cc
-no_part-name n.DefinitionTitleString h = cc
-no_part-name n.GfmFootnoteDefinitionLabelString h = cc
-no_part-name _ h = refl
+no_part-name n.Data h = refl
+no_part-name _ h = cc
 
 pub names-no_parts : (es : List Event) → AreFront es → NoParts es
 names-no_parts [] h = tt
@@ -67,15 +51,26 @@ names-no_parts (e ∷ es) h = (no_part-name e.name h.0, names-no_parts es h.2)
 
 -- What is read of prefixes is quiet, or a prefix.
 
-prefix-role : (P : Role → Type 0) (name : Name) → P IsQuiet → P spelled.IsPrefix → is_prefix name ≡ true → P (role name)
-prefix-role P n.SpaceOrTab quiet prefix h = quiet
-prefix-role P n.BlockQuotePrefix quiet prefix h = prefix
-prefix-role P n.BlockQuoteMarker quiet prefix h = quiet
+-- whether a role is one of these
+abbrev is_quiet_or_prefix : Role → Bool
+is_quiet_or_prefix IsQuiet = true
+is_quiet_or_prefix spelled.IsPrefix = true
+is_quiet_or_prefix _ = false
+
+-- that of a prefix is: each name is tested
+prefix-is : (name : Name) → is_prefix name ≡ true → is_quiet_or_prefix (role name) ≡ true
+prefix-is n.Data h = refl
+prefix-is _ h = cc
+
+-- and what holds of both holds of it
+prefix-role : (P : Role → Type 0) (x : Role) → P IsQuiet → P spelled.IsPrefix → is_quiet_or_prefix x ≡ true → P x
+prefix-role P IsQuiet quiet prefix h = quiet
+prefix-role P spelled.IsPrefix quiet prefix h = prefix
 prefix-role P _ quiet prefix h = cc
 
 pub prefixes-roles : (P : Role → Type 0) (es : List Event) → P IsQuiet → P spelled.IsPrefix → ArePrefixes es → Roles P es
 prefixes-roles P [] quiet prefix h = tt
-prefixes-roles P (e ∷ es) quiet prefix h = (prefix-role P e.name quiet prefix h.0, prefixes-roles P es quiet prefix h.2)
+prefixes-roles P (e ∷ es) quiet prefix h = (prefix-role P (role e.name) quiet prefix (prefix-is e.name h.0), prefixes-roles P es quiet prefix h.2)
 
 -- so it is of each role that both have
 quiet-role : (P : Role → Type 0) (x : Role) → P IsQuiet → P spelled.IsPrefix → QuietOrPrefix x → P x
@@ -86,9 +81,3 @@ quiet-role P _ quiet prefix h = absurd h
 pub quiets-roles : (P : Role → Type 0) (es : List Event) → P IsQuiet → P spelled.IsPrefix → Roles QuietOrPrefix es → Roles P es
 quiets-roles P [] quiet prefix h = tt
 quiets-roles P (e ∷ es) quiet prefix h = (quiet-role P (role e.name) quiet prefix h.0, quiets-roles P es quiet prefix h.1)
-
--- In the grammar of events.
-
--- what may stand here takes what containers add to a line, and is left as it is
-abbrev pub TakesPrefixes : Expression → Type 0
-TakesPrefixes x = (behind n.SpaceOrTab x ≡ x) × (behind n.BlockQuotePrefix x ≡ x)

@@ -2,14 +2,13 @@
 use Rattle.std.proofs.Common.{◌≡◌, ℕ, Bool, true, false, List, [], ◌∷◌, ◌++◌, take, drop, refl, ◌∙◌, ap}
 use Rattle.md_engine.specs.declared.event.Event.{Event}
 use Rattle.md_engine.specs.declared.event.Name.{Name}
-use Rattle.md_engine.specs.declared.event.Name.TheVariants as n
 use Rattle.md_engine.specs.declared.event.Point.{Point}
-use Rattle.md_engine.specs.declared.resolve.Name.{Name as ResolveName}
-use Rattle.md_engine.specs.declared.resolve.Name.TheVariants as r
-use Rattle.md_engine.specs.declared.tokenizer.Container.{Container}
-use Rattle.md_engine.specs.declared.tokenizer.ContainerKind.{ContainerKind}
-use Rattle.md_engine.specs.declared.tokenizer.ContainerKind.TheVariants as kind
-use Rattle.md_engine.specs.Ends.{ends_at, name_of, point_of, put}
+use Rattle.md_engine.specs.declared.resolve.name.Name.{Name as ResolveName}
+use Rattle.md_engine.specs.declared.resolve.name.Name.TheVariants as r
+use Rattle.md_engine.specs.declared.tokenizer.container.Container.{Container}
+use Rattle.md_engine.specs.declared.tokenizer.container.ContainerKind.{ContainerKind}
+use Rattle.md_engine.specs.ContainerName.{name_of}
+use Rattle.md_engine.specs.Ends.{ends_at, point_of, put}
 use Rattle.md_engine.specs.Resolvers.{same_name}
 use Rattle.md_engine.specs.World.{World, closed, closed_events, registered, registered_before}
 use Rattle.md_content.specs.Joined.{is_content}
@@ -17,6 +16,7 @@ use Rattle.md_seam.specs.Events.Nested.{exit}
 use Rattle.markdown_blocks.specs.Registry.{is_own, resolver}
 use Rattle.markdown_blocks.proofs.EachEvent.{each-append, each-drop, each-take}
 use Rattle.markdown_blocks.proofs.OutsideFacts.{IsNoEnd, NoEnds}
+use Rattle.markdown_blocks.proofs.ContainerNames.{held-names}
 
 -- by whether each is registered
 abbrev pub named : Bool → Bool → List ResolveName
@@ -92,12 +92,9 @@ goes-back k events names h = record {
 }
 
 -- ends of containers end no part of these
-no_ends-containers : (is_name : Name → Bool) → is_name n.BlockQuote ≡ false → (cs : List Container) (p : Point) → NoEnds is_name (ends_at cs p)
+no_ends-containers : (is_name : Name → Bool) → ((k : ContainerKind) → is_name (name_of k) ≡ false) → (cs : List Container) (p : Point) → NoEnds is_name (ends_at cs p)
 no_ends-containers is_name e [] p = tt
-no_ends-containers is_name e (c ∷ cs) p = each-append (IsNoEnd is_name) (ends_at cs p) (exit (name_of c.kind) p ∷ []) (no_ends-containers is_name e cs p) (by c.kind, tt)
-  where
-    by : (k : ContainerKind) → is_name (name_of k) ≡ false
-    by kind.BlockQuote = e
+no_ends-containers is_name e (c ∷ cs) p = each-append (IsNoEnd is_name) (ends_at cs p) (exit (name_of c.kind) p ∷ []) (no_ends-containers is_name e cs p) (e c.kind, tt)
 
 no_ends-put : (is_name : Name → Bool) (k : ℕ) (more es : List Event) → NoEnds is_name more → NoEnds is_name es → NoEnds is_name (put k more es)
 no_ends-put is_name k more es a o =
@@ -108,8 +105,8 @@ closes keep at cs events p names h = record {
   content = h.content;
   own = h.own;
   names_are = h.names_are;
-  no_content = λ k. no_ends-put is_content at (ends_at (drop keep cs) q) events (no_ends-containers is_content refl (drop keep cs) q) (h.no_content k);
-  no_own = λ k. no_ends-put is_own at (ends_at (drop keep cs) q) events (no_ends-containers is_own refl (drop keep cs) q) (h.no_own k);
+  no_content = λ k. no_ends-put is_content at (ends_at (drop keep cs) q) events (no_ends-containers is_content (held-names (λ (name : Name). is_content name ≡ false) refl) (drop keep cs) q) (h.no_content k);
+  no_own = λ k. no_ends-put is_own at (ends_at (drop keep cs) q) events (no_ends-containers is_own (held-names (λ (name : Name). is_own name ≡ false) refl) (drop keep cs) q) (h.no_own k);
 }
   where
     q : Point

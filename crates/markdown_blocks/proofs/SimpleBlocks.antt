@@ -3,7 +3,7 @@ use Rattle.std.proofs.Common.{◌≡◌, ℕ, true, List, refl, ap, ◌∙◌}
 use Rattle.std.proofs.lemmas.Bool.{and_from}
 use Rattle.md_seam.specs.Standard.Grouped.{grouped, grouped_block, with_front}
 use Rattle.md_seam.specs.Standard.State.{then_block}
-use Rattle.md_seam.specs.Standard.Tree.{Block, Blocks, End, More, Paragraph, Quote}
+use Rattle.md_seam.specs.Standard.Tree.{Block, Blocks, End, More, Paragraph}
 use Rattle.md_outline.specs.HeadingDepths.{are_shallow, is_shallow}
 
 pub record IsSimple (b : Block) : Type 0 where
@@ -35,6 +35,3 @@ simple-then (More a bs) b h k = (h.0, simple-then bs b h.1 k)
 
 pub simple-paragraph : (lines : List (List ℕ)) → IsSimple (Paragraph lines)
 simple-paragraph lines = record { shallow = refl; grouped_same = refl; in_front = λ bs. refl }
-
-pub simple-quote : (bs : Blocks) → AreSimple bs → IsSimple (Quote bs)
-simple-quote bs h = record { shallow = shallow-blocks bs h; grouped_same = ap Quote (grouped-blocks bs h); in_front = λ more. refl }

@@ -1,7 +1,7 @@
 -- What the events of a paragraph are read as, where prefixes of containers stand in front of its lines: its lines without them.
-use Rattle.std.proofs.Common.{◌≡◌, ℕ, zero, suc, ◌+◌, ◌-◌, ◌≤◌, Bool, true, false, cond, List, [], ◌∷◌, ◌++◌, length, take, drop, slice_range, refl, ap, sym, ◌∙◌, subst, append_assoc, append-nil, arith}
+use Rattle.std.proofs.Common.{◌≡◌, ℕ, zero, suc, ◌+◌, ◌-◌, ◌≤◌, Bool, true, false, cond, List, [], ◌∷◌, ◌++◌, length, slice_range, refl, ap, sym, ◌∙◌, subst, append_assoc, append-nil, arith}
 use Rattle.std.specs.Prelude.{◌==◌, Option, None}
-use Rattle.std.proofs.lemmas.Bool.{and_from, and_parts}
+use Rattle.std.proofs.lemmas.Bool.{and_parts}
 use Rattle.std.proofs.lemmas.Bool.Decides.{nat_tests}
 use Rattle.std.proofs.lemmas.List.{take_all}
 use Rattle.md_engine.specs.declared.configuration.ParseOptions.{ParseOptions}
@@ -9,136 +9,48 @@ use Rattle.md_engine.specs.declared.event.Event.{Event}
 use Rattle.md_engine.specs.declared.event.Name.TheVariants as n
 use Rattle.md_engine.specs.declared.event.Point.{Point}
 use Rattle.md_seam.specs.declared.inline.Chunk.{Chunk}
-use Rattle.md_seam.specs.Events.Inline.{pair_unless_empty, plain_chunk}
+use Rattle.md_seam.specs.Events.Inline.{plain_chunk}
 use Rattle.md_seam.specs.Standard.Lines.{begins_with}
-use Rattle.md_seam.specs.Events.Nested.{around, enter, exit}
+use Rattle.md_seam.specs.Events.Nested.{around}
 use Rattle.md_seam.specs.Standard.Rest.{is_blank, is_white, trim_start}
-use Rattle.md_seam.specs.Events.Spelled.{IsPrefix, IsQuiet, Reading, Role, Text, add_block, after_prefix, before_prefix, begun, byte_at, read, text_to}
-use Rattle.md_seam.specs.Standard.State.{Container, InQuote, Kept, kept, texts}
+use Rattle.md_seam.specs.Events.Spelled.{Reading, Text, add_block, begun, byte_at, read, text_to}
+use Rattle.md_seam.specs.Standard.State.{Container, Kept, kept, texts}
 use Rattle.md_seam.specs.Standard.Texts.{trim_each}
 use Rattle.md_seam.specs.Standard.Tree.{Paragraph}
 use Rattle.md_seam.proofs.ParagraphReads.{read-paragraph}
 use Rattle.md_seam.proofs.FeedLines.{slice-inside}
 use Rattle.md_seam.proofs.RestCells.{Cut}
-use Rattle.md_seam.proofs.SpelledLemmas.{Between, QuietOrEnding, Roles, roles-append, text-inline, text_after, text_after-append}
+use Rattle.md_seam.proofs.SpelledLemmas.{Between, QuietOrEnding, Roles, roles-append, text_after}
 use Rattle.md_seam.proofs.TextsLemmas.{Both, Ending, EndsBefore, IsOfLines, LineFeed, NoEnding, Return, ending_bytes}
 use Rattle.md_outline.proofs.TextCuts.{trim-blank}
 use Rattle.markdown_blocks.specs.Fronted.{cut_tab}
 use Rattle.markdown_blocks.specs.Registry.{LeafName}
 use Rattle.markdown_blocks.specs.Rows.{BlankRow, Row, TextRow, behind_row, kind_of, last_row, read_lines}
-use Rattle.markdown_blocks.proofs.FrontFacts as front
 use Rattle.markdown_blocks.proofs.FrontFacts.{Behind, Begins, LinePrefix, Goes}
-use Rattle.markdown_blocks.proofs.PlainRoles.{chunk-roles, pair-roles}
+use Rattle.markdown_blocks.proofs.PlainRoles.{chunk-roles}
 use Rattle.markdown_blocks.proofs.RegistryFound.{leaf_at}
 use Rattle.markdown_blocks.proofs.RowFacts as f
-use Rattle.markdown_blocks.proofs.SpanLemmas.{byte-order}
+use Rattle.markdown_blocks.proofs.CollectFacts.{Collects, slice-none, collects-inline, collects-behind, collects-back, blank-append}
+use Rattle.markdown_blocks.proofs.PrefixNames.{prefixes-roles}
 
 -- Roles.
 
--- the prefix of a quote is quiet but for the prefix itself
-pub prefix-roles : (P : Role → Type 0) (bytes : List ℕ) (p q : Point) (es : List Event) → front.IsPrefix bytes p q es → P IsQuiet → P IsPrefix → Roles P es
-prefix-roles P bytes p q es is quiet prefix =
-    let inside : List Event = enter n.BlockQuotePrefix is.marker ∷ enter n.BlockQuoteMarker is.marker ∷ exit n.BlockQuoteMarker is.behind ∷ pair_unless_empty n.SpaceOrTab is.behind q in
-    subst (Roles P) (sym is.events)
-    (roles-append P (pair_unless_empty n.SpaceOrTab p is.marker ++ inside) (exit n.BlockQuotePrefix q ∷ [])
-    (roles-append P (pair_unless_empty n.SpaceOrTab p is.marker) inside (pair-roles P n.SpaceOrTab p is.marker quiet) (prefix, (quiet, (quiet, pair-roles P n.SpaceOrTab is.behind q quiet))))
-    (prefix, tt))
-
--- so is what stands in front of the content of a container that goes on
-pub further-roles : (P : Role → Type 0) (bytes : List ℕ) (c : Container) (p q : Point) (es : List Event) → front.IsContinuationPrefix bytes c p q es → P IsQuiet → P IsPrefix → Roles P es
-further-roles P bytes InQuote p q es is quiet prefix = prefix-roles P bytes p q es is quiet prefix
-further-roles P bytes c p q es is quiet prefix = absurd is
-
+-- what stands in front of a line that goes on is quiet but for prefixes
 fronts-between : (bytes : List ℕ) (opens : List Container) (p q : Point) (es : List Event) → LinePrefix bytes opens p q es → opens ≡ [] → Roles Between es
 fronts-between bytes opens p q es (Behind r) none = tt
-fronts-between bytes opens p q es (Goes c many a b d xs ys further more) none =
-    roles-append Between xs ys (further-roles Between bytes c a b xs further tt tt) (fronts-between bytes many b d ys more none)
+fronts-between bytes opens p q es (Goes many a b d xs ys further more) none =
+    roles-append Between xs ys (prefixes-roles Between xs tt tt further.names) (fronts-between bytes many b d ys more none)
 fronts-between bytes opens p q es (Begins c many a b d xs ys opening more) none = cc
 
 -- Texts.
 
-slice-none : (bytes : List ℕ) (i : ℕ) → slice_range bytes i i ≡ []
-slice-none bytes i = let none : i - i ≡ 0 = omega arith in ap (λ (k : ℕ). take k (drop i bytes)) none
-
--- From a byte on, a text that is being read comes to these bytes with these events; what stands before is kept.
-abbrev Collects : List ℕ → List Event → ℕ → ℕ → List ℕ → Type 0
-Collects bytes es from end all = (t : Text) → t.from ≤ from → text_to bytes end (text_after bytes t es) ≡ t.front ++ (slice_range bytes t.from from ++ all)
-
--- what an inline layer gives
-collects-inline : (bytes : List ℕ) (es : List Event) (from end : ℕ) → Roles QuietOrEnding es → from ≤ end → Collects bytes es from end (slice_range bytes from end)
-collects-inline bytes es from end inline le = λ t h. ap (text_to bytes end) (text-inline bytes t es inline) ∙ ap (λ (l : List ℕ). t.front ++ l) (f.slice-split bytes t.from from end h le)
-
-collects-behind : (bytes : List ℕ) (xs ys : List Event) (from end : ℕ) (all : List ℕ) → Roles QuietOrEnding xs → Collects bytes ys from end all → Collects bytes (xs ++ ys) from end all
-collects-behind bytes xs ys from end all inline c = λ t h. ap (text_to bytes end) (text_after-append bytes t xs ys ∙ ap (λ (x : Text). text_after bytes x ys) (text-inline bytes t xs inline)) ∙ c t h
-
--- from an earlier byte on
-collects-back : (bytes : List ℕ) (es : List Event) (i from end : ℕ) (all : List ℕ) → i ≤ from → Collects bytes es from end all → Collects bytes es i end (slice_range bytes i from ++ all)
-collects-back bytes es i from end all le c = λ t h.
-    c t (omega arith)
-    ∙ ap (λ (l : List ℕ). t.front ++ (l ++ all)) (f.slice-split bytes t.from i from h le)
-    ∙ ap (λ (l : List ℕ). t.front ++ l) (append_assoc (slice_range bytes t.from i) (slice_range bytes i from) all)
-
--- a prefix cuts a text
-prefix-text : (bytes : List ℕ) (p q : Point) (es : List Event) (t : Text) → (is : front.IsPrefix bytes p q es) → text_after bytes t es ≡ after_prefix q (before_prefix bytes is.marker t)
-prefix-text bytes p q es t is =
-    let white : List Event = pair_unless_empty n.SpaceOrTab p is.marker in
-    let more : List Event = pair_unless_empty n.SpaceOrTab is.behind q in
-    let inside : List Event = enter n.BlockQuotePrefix is.marker ∷ enter n.BlockQuoteMarker is.marker ∷ exit n.BlockQuoteMarker is.behind ∷ more in
-    ap (text_after bytes t) is.events
-    ∙ text_after-append bytes t (white ++ inside) (exit n.BlockQuotePrefix q ∷ [])
-    ∙ ap (λ (x : Text). text_after bytes x (exit n.BlockQuotePrefix q ∷ []))
-    (text_after-append bytes t white inside
-    ∙ ap (λ (x : Text). text_after bytes x inside) (text-inline bytes t white (pair-roles QuietOrEnding n.SpaceOrTab p is.marker tt))
-    ∙ text-inline bytes (before_prefix bytes is.marker t) more (pair-roles QuietOrEnding n.SpaceOrTab is.behind q tt))
-
-collects-prefix : (bytes : List ℕ) (p q : Point) (es ys : List Event) (from end : ℕ) (all : List ℕ) → (is : front.IsPrefix bytes p q es) → from ≤ is.marker.index → Collects bytes ys (byte_at q) end all →
-    Collects bytes (es ++ ys) from end (slice_range bytes from is.marker.index ++ all)
-collects-prefix bytes p q es ys from end all is le c = λ t h.
-    let cut : Text = after_prefix q (before_prefix bytes is.marker t) in
-    let upto : List ℕ = slice_range bytes t.from is.marker.index in
-    ap (text_to bytes end) (text_after-append bytes t es ys ∙ ap (λ (x : Text). text_after bytes x ys) (prefix-text bytes p q es t is))
-    ∙ c cut (omega arith)
-    ∙ ap (λ (l : List ℕ). (t.front ++ upto) ++ (l ++ all)) (slice-none bytes (byte_at q))
-    ∙ append_assoc t.front upto all
-    ∙ ap (λ (l : List ℕ). t.front ++ (l ++ all)) (f.slice-split bytes t.from from is.marker.index h le)
-    ∙ ap (λ (l : List ℕ). t.front ++ l) (append_assoc (slice_range bytes t.from from) (slice_range bytes from is.marker.index) all)
-
--- Whitespace.
-
-blank-behind : (xs ys : List ℕ) → is_blank (xs ++ ys) ≡ true → is_blank ys ≡ true
-blank-behind [] ys h = h
-blank-behind (b ∷ xs) ys h = blank-behind xs ys (and_parts (is_white b) (is_blank (xs ++ ys)) h).1
-
-blank-append : (xs ys : List ℕ) → is_blank xs ≡ true → is_blank ys ≡ true → is_blank (xs ++ ys) ≡ true
-blank-append [] ys h k = k
-blank-append (b ∷ xs) ys h k = let parts = and_parts (is_white b) (is_blank xs) h in and_from (is_white b) (is_blank (xs ++ ys)) parts.0 (blank-append xs ys parts.1 k)
-
-blank-before : (bytes : List ℕ) (p : Point) (end : ℕ) → byte_at p ≤ end → is_blank (slice_range bytes p.index end) ≡ true → is_blank (slice_range bytes (byte_at p) end) ≡ true
-blank-before bytes p end le blank = go (p.vs == 0) le
-  where
-    go : (x : Bool) → cond x p.index (p.index + 1) ≤ end → is_blank (slice_range bytes (cond x p.index (p.index + 1)) end) ≡ true
-    go true h = blank
-    go false h = blank-behind (slice_range bytes p.index (p.index + 1)) (slice_range bytes (p.index + 1) end) (sym (ap is_blank (f.slice-split bytes p.index (p.index + 1) end (omega arith) h)) ∙ blank)
-
--- a prefix leaves the whitespace in front of its marker
-collects-quote : (bytes : List ℕ) (p q : Point) (es ys : List Event) (end : ℕ) (all : List ℕ) → front.IsPrefix bytes p q es → Collects bytes ys (byte_at q) end all →
-    (white : List ℕ) × (is_blank white ≡ true) × Collects bytes (es ++ ys) (byte_at p) end (white ++ all)
-collects-quote bytes p q es ys end all is c =
-    let le = byte-order p is.marker is.indent is.marker_whole in
-    (slice_range bytes (byte_at p) is.marker.index, blank-before bytes p is.marker.index le is.white_before, collects-prefix bytes p q es ys (byte_at p) end all is le c)
-
--- what stands in front of the content of a container that goes on leaves whitespace alone
-collects-further : (bytes : List ℕ) (c : Container) (p q : Point) (es ys : List Event) (end : ℕ) (all : List ℕ) → front.IsContinuationPrefix bytes c p q es → Collects bytes ys (byte_at q) end all →
-    (white : List ℕ) × (is_blank white ≡ true) × Collects bytes (es ++ ys) (byte_at p) end (white ++ all)
-collects-further bytes InQuote p q es ys end all is collects = collects-quote bytes p q es ys end all is collects
-collects-further bytes c p q es ys end all is collects = absurd is
-
+-- what stands in front of a line that goes on leaves whitespace alone
 collects-fronts : (bytes : List ℕ) (opens : List Container) (p q : Point) (es ys : List Event) (end : ℕ) (all : List ℕ) → LinePrefix bytes opens p q es → opens ≡ [] → Collects bytes ys (byte_at q) end all →
     (white : List ℕ) × (is_blank white ≡ true) × Collects bytes (es ++ ys) (byte_at p) end (white ++ all)
 collects-fronts bytes opens p q es ys end all (Behind r) none c = ([], refl, c)
-collects-fronts bytes opens p q es ys end all (Goes container many a b d xs zs further more) none c =
+collects-fronts bytes opens p q es ys end all (Goes many a b d xs zs further more) none c =
     let next = collects-fronts bytes many b d zs ys end all more none c in
-    let here = collects-further bytes container a b xs (zs ++ ys) end (next.0 ++ all) further next.2 in (
+    let here = further.collects (zs ++ ys) end (next.0 ++ all) next.2 in (
       here.0 ++ next.0,
       blank-append here.0 next.0 here.1 next.1,
       subst (λ (l : List Event). Collects bytes l (byte_at a) end ((here.0 ++ next.0) ++ all)) (sym (append_assoc xs zs ys)) (subst (Collects bytes (xs ++ (zs ++ ys)) (byte_at a) end) (sym (append_assoc here.0 next.0 all)) here.2),

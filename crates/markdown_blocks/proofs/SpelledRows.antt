@@ -10,8 +10,8 @@ use Rattle.md_engine.specs.declared.event.Point.{Point}
 use Rattle.md_seam.specs.Events.Nested.{around, enter, exit}
 use Rattle.md_seam.specs.Standard.Preamble.{rest_at}
 use Rattle.md_seam.specs.Standard.Rest.{Rest}
-use Rattle.md_seam.specs.Events.Spelled.{Around, Reading, Shape, add_block, block_around, left, read, role, spelled, unread}
-use Rattle.md_seam.specs.Standard.State.{At, Container, InFootnote, InItem, InQuote, Kept, Leaf, NoLeaf, OpenParagraph, Path, Spot, Within, closed, container_block, kept, shut, spot, texts, then_block, then_leaf}
+use Rattle.md_seam.specs.Events.Spelled.{Around, Reading, Shape, add_block, left, read, role, spelled, unread}
+use Rattle.md_seam.specs.Standard.State.{At, Container, Kept, Leaf, NoLeaf, OpenParagraph, Path, Spot, Within, closed, kept, shut, spot, texts, then_block, then_leaf}
 use Rattle.md_seam.specs.Standard.Step.{spot_of, step, steps}
 use Rattle.md_seam.specs.Standard.Tree.{Block, Blocks, End, Paragraph}
 use Rattle.md_seam.proofs.SpelledLemmas.{Between, QuietOrPrefix, Roles, read-between, read-from, read-prefixes}
@@ -23,12 +23,15 @@ use Rattle.markdown_blocks.specs.Parsed.{IsBuilt}
 use Rattle.markdown_blocks.specs.Rows.{BlankRow, Group, LeafRow, Lines, Row, RowKind, Single, TextRow, ending_events, ending_of, goes_on, groups, groups_events, is_lazy, is_text, last_row, leaf_done, line_kind, onto_groups, onto_lines, read_lines, tail_events}
 use Rattle.markdown_blocks.specs.Stands.{IsPlain, around_of, containers_of, final, final_on, is_going, outer_on, reading, reading_on}
 use Rattle.markdown_blocks.proofs.ContainedLemmas.{contained-shapes, lazy-opens}
-use Rattle.markdown_blocks.proofs.FrontFacts.{Behind, Begins, LinePrefix, Goes, IsContinuationPrefix, IsOpeningPrefix}
+use Rattle.markdown_blocks.proofs.FrontFacts.{Behind, Begins, LinePrefix, Goes}
 use Rattle.markdown_blocks.proofs.LineSteps.{behind_path, contained-lazy, contained_at, containers-step, fresh-found, going-step, goes_lazy, held_of, kept_to, lazy-text, longer, new_line, new_path, plain-step, renewed, shut-lines, spot_by, step-contained}
 use Rattle.markdown_blocks.proofs.RowFacts as f
 use Rattle.markdown_blocks.proofs.LeafFacts.{shown}
 use Rattle.markdown_blocks.proofs.RowLeaf.{block_of, row-facts}
-use Rattle.markdown_blocks.proofs.SpelledParagraphs.{IsRead, further-roles, prefix-roles, read-lines, read-more, read-one}
+use Rattle.markdown_blocks.proofs.SpelledParagraphs.{IsRead, read-lines, read-more, read-one}
+use Rattle.markdown_blocks.proofs.PrefixFacts.{begins}
+use Rattle.markdown_blocks.proofs.PrefixNames.{prefixes-roles}
+use Rattle.markdown_blocks.proofs.ContainerNames.{read-end, shape-block}
 
 -- The ends and begins of containers.
 
@@ -43,12 +46,6 @@ close_containers-between (suc size) r t l = let next = go r.outer in close_conta
     go : (outer : List Around) → ((left outer r).text ≡ None) × ((left outer r).leaf ≡ None)
     go [] = (t, l)
     go (x ∷ outer) = (t, l)
-
--- a container is read as its block
-shape-block : (container : Container) (bs : Blocks) → block_around (shape_of container) bs ≡ container_block container bs
-shape-block InQuote bs = refl
-shape-block (InItem digits marker width starts_blank) bs = refl
-shape-block (InFootnote label) bs = refl
 
 -- where all containers of a path end, all of it is closed
 close_containers-all : (options : ParseOptions) (outer : List Around) (p : Path) → close_containers (length (containers_of p)) (reading_on options outer p) ≡ final_on options outer p
@@ -92,11 +89,7 @@ reading-renewed options (c ∷ stays) closes outer (Within before container p) l
     let more : AreShapes stays closes p = cc in
     ap (λ (around : Around). reading_on options (around ∷ outer) (longer (renewed stays p) lines)) (around-same c container before same) ∙ reading-renewed options stays closes (around_of container before ∷ outer) p lines more
 
--- a container begins
-abbrev begins : Container → Reading → Reading
-begins c r = record r { outer = around_of c r.here ∷ r.outer; here = End }
-
--- and each in the one before
+-- containers begin, each in the one before
 abbrev enters : List Container → Reading → Reading
 enters [] r = r
 enters (c ∷ cs) r = enters cs (begins c r)
@@ -209,11 +202,6 @@ reading-longer options p k ks built none =
 -- Events.
 
 -- each container ends alike
-read-end : (bytes : List ℕ) (c : Container) (p : Point) (r : Reading) → read bytes r (exit (container_name c) p ∷ []) ≡ left r.outer r
-read-end bytes InQuote p r = refl
-read-end bytes (InItem digits marker width starts_blank) p r = refl
-read-end bytes (InFootnote label) p r = refl
-
 read-ends : (bytes : List ℕ) (cs : List Container) (p : Point) (r : Reading) → read bytes r (ends_of cs p) ≡ close_containers (length cs) r
 read-ends bytes [] p r = refl
 read-ends bytes (c ∷ cs) p r =
@@ -234,20 +222,12 @@ read-tail bytes name row r h t l =
     read-from bytes r (close_containers size r) (ends_of row.leaves row.end) (ending_events name row) (read-ends bytes row.leaves row.end r)
     ∙ read-between bytes (close_containers size r) (ending_events name row) next.0 next.1 (ending-between name row h)
 
--- what stands in front of the content of a container that goes on is not read
-read-further : (bytes : List ℕ) (c : Container) (p q : Point) (es : List Event) (r : Reading) → IsContinuationPrefix bytes c p q es → r.text ≡ None → read bytes r es ≡ r
-read-further bytes c p q es r is t = read-prefixes bytes r es t (further-roles QuietOrPrefix bytes c p q es is tt tt)
-
--- a container begins with its prefix, as its name and its prefix tell
-read-opening : (bytes : List ℕ) (c : Container) (p q : Point) (es : List Event) (r : Reading) → IsOpeningPrefix bytes c p q es → r.text ≡ None → read bytes r (enter (container_name c) p ∷ es) ≡ begins c r
-read-opening bytes InQuote p q es r is t = read-prefixes bytes (begins InQuote r) es t (prefix-roles QuietOrPrefix bytes p q es is tt tt)
-read-opening bytes c p q es r is t = absurd is
-
+-- what stands in front of a line is not read, but for the containers that begin there
 read-fronts : (bytes : List ℕ) (opens : List Container) (p q : Point) (es : List Event) (r : Reading) → LinePrefix bytes opens p q es → r.text ≡ None → read bytes r es ≡ enters opens r
 read-fronts bytes opens p q es r (Behind a) t = refl
-read-fronts bytes opens p q es r (Goes c many a b d xs ys further more) t = read-from bytes r r xs ys (read-further bytes c a b xs r further t) ∙ read-fronts bytes many b d ys r more t
+read-fronts bytes opens p q es r (Goes many a b d xs ys further more) t = read-from bytes r r xs ys (read-prefixes bytes r xs t (prefixes-roles QuietOrPrefix xs tt tt further.names)) ∙ read-fronts bytes many b d ys r more t
 read-fronts bytes opens p q es r (Begins c many a b d xs ys opening more) t =
-    read-from bytes r (begins c r) (enter (container_name c) a ∷ xs) ys (read-opening bytes c a b xs r opening t) ∙ read-fronts bytes many b d ys (begins c r) more t
+    read-from bytes r (begins c r) (enter (container_name c) a ∷ xs) ys (opening.read r t) ∙ read-fronts bytes many b d ys (begins c r) more t
 
 -- the parts of the events of a line, and what follows
 read-parts : (bytes : List ℕ) (r a b c d : Reading) (xs ys zs more : List Event) → read bytes r xs ≡ a → read bytes a ys ≡ b → read bytes b zs ≡ c → read bytes c more ≡ d → read bytes r ((xs ++ ys ++ zs) ++ more) ≡ d

@@ -1,7 +1,7 @@
 -- Each state of flow keeps what its table needs.
 use Rattle.std.proofs.Common.{◌≡◌, Bool, sym}
-use Rattle.md_engine.specs.declared.resolve.Name.{Name as ResolveName}
-use Rattle.md_engine.specs.declared.resolve.Name.TheVariants as r
+use Rattle.md_engine.specs.declared.resolve.name.Name.{Name as ResolveName}
+use Rattle.md_engine.specs.declared.resolve.name.Name.TheVariants as r
 use Rattle.md_engine.specs.declared.state.Name.{Name as StateName}
 use Rattle.md_engine.specs.declared.state.Name.TheVariants as n
 use Rattle.md_engine.specs.declared.state.blank_line.State.TheVariants as blank_line

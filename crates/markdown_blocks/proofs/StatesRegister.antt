@@ -11,10 +11,10 @@ use Rattle.md_engine.specs.declared.state.flow.State.{State as FlowState}
 use Rattle.md_engine.specs.declared.state.flow.State.TheVariants as leaf
 use Rattle.std.proofs.Common.{◌≡◌, ℕ, ◌&&◌, Bool, true, false, nat_eq, nat_lt, nat_le, Option, Some, None, length, refl}
 use Rattle.md_engine.specs.declared.event.Name.TheVariants as n
-use Rattle.md_engine.specs.declared.resolve.Name.TheVariants as r
+use Rattle.md_engine.specs.declared.resolve.name.Name.TheVariants as r
 use Rattle.md_engine.specs.declared.state.Name.{Name as StateName}
 use Rattle.md_engine.specs.declared.state.Name.TheVariants as s
-use Rattle.md_engine.specs.declared.tokenizer.Container.{Container}
+use Rattle.md_engine.specs.declared.tokenizer.container.Container.{Container}
 use Rattle.md_engine.specs.Resolvers.{same_name}
 use Rattle.md_engine.specs.World.{World, closed}
 use Rattle.md_content.specs.Chunks.{chunk_inside_code, chunk_transition, content_link}

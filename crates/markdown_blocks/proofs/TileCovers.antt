@@ -8,7 +8,6 @@ use Rattle.md_engine.specs.declared.event.Name.{Name}
 use Rattle.md_engine.specs.declared.event.Name.TheVariants as n
 use Rattle.md_engine.specs.declared.event.Point.{Point}
 use Rattle.md_content.specs.Paragraph.{text_link}
-use Rattle.md_leaves.specs.HeadingRule.{opens}
 use Rattle.md_seam.specs.Events.Inline.{Covers, pieces}
 use Rattle.md_seam.specs.Events.Nested.{around, enter, enter_link, exit, pair}
 use Rattle.md_seam.specs.Events.Places.{first_point, same_place}
@@ -20,18 +19,13 @@ use Rattle.markdown_blocks.specs.Change.{ends_of}
 use Rattle.markdown_blocks.specs.Document.{body_point, mark_end, mark_events}
 use Rattle.markdown_blocks.specs.Fronted.{contained, rest_from, rest_line}
 use Rattle.markdown_blocks.specs.Rows.{LeafRow, ending_of, leaf_unread, BlankRow, Group, Lines, Row, RowKind, Single, TextRow, behind_row, ending_events, goes_on as joins_on, groups, is_text, last_row, onto_groups, tail_events}
-use Rattle.markdown_blocks.specs.Unread.{linked_lines, titled_group, titled_groups, titled_row_by}
+use Rattle.markdown_blocks.specs.Unread.{linked_lines, listed_group, listed_groups, listed_row_by}
 use Rattle.markdown_blocks.proofs.JoinedLemmas.{behind-is, behind-none}
 use Rattle.markdown_blocks.proofs.PiecesLemmas.{Follows, Tiled, follows-append, follows-tiled, tiled-append, tiled-around, tiled-none, tiled-pair, tiled-two, tiled-within}
 use Rattle.markdown_blocks.proofs.FrontFacts.{Behind, Begins, LinePrefix, Goes}
 use Rattle.markdown_blocks.proofs.RowLeaf.{row-facts}
 use Rattle.markdown_blocks.proofs.RowFacts.{AreRows, IsLine, behind_line}
-use Rattle.markdown_blocks.proofs.ContainerFacts.{continues-facts, opens-facts}
 use Rattle.markdown_blocks.specs.ContainerKinds.{container_name}
-
--- The runs of a piece of a line cover it: behind an enter, they shut it.
-
--- Headings.
 
 -- Lines.
 
@@ -52,9 +46,9 @@ begun-tiled name p q (e ∷ xs) ys some h = tiled-within (enter name p) e q (xs 
 -- so what stands in front of a line covers it
 fronts-tiled : (bytes : List ℕ) (opens : List Container) (p q : Point) (es : List Event) → LinePrefix bytes opens p q es → Tiled p q es
 fronts-tiled bytes opens p q es (Behind at) = tiled-none at at (same-refl at)
-fronts-tiled bytes opens first last es (Goes c same p q r xs ys is more) = tiled-append p q r xs ys (continues-facts bytes c p q xs is).common.tiled (fronts-tiled bytes same q r ys more)
+fronts-tiled bytes opens first last es (Goes same p q r xs ys is more) = tiled-append p q r xs ys is.common.tiled (fronts-tiled bytes same q r ys more)
 fronts-tiled bytes opens first last es (Begins c before p q r xs ys is more) =
-    begun-tiled (container_name c) p r xs ys (opens-facts bytes c p q xs is).some (tiled-append p q r xs ys (opens-facts bytes c p q xs is).common.tiled (fronts-tiled bytes before q r ys more))
+    begun-tiled (container_name c) p r xs ys is.some (tiled-append p q r xs ys is.common.tiled (fronts-tiled bytes before q r ys more))
 
 -- the end of a container covers nothing, nor do the ends of more
 end-covers : (name : Name) (p : Point) → Follows p p (exit name p ∷ [])
@@ -78,7 +72,7 @@ line-covers name row last p es front h =
 -- What groups cover, from a point to a point: of a paragraph, what stands in front of it and its lines.
 abbrev Laid : List ℕ → Point → Point → List Group → Type 0
 Laid bytes p end [] = same_place p end ≡ true
-Laid bytes p end (Single row ∷ gs) = Follows p (behind_row row) (titled_row_by bytes row.kind row) × Laid bytes (behind_row row) end gs
+Laid bytes p end (Single row ∷ gs) = Follows p (behind_row row) (listed_row_by bytes row.kind row) × Laid bytes (behind_row row) end gs
 Laid bytes p end (Lines row rows ∷ gs) =
     (front : Tiled p row.first row.front) × (lines : Tiled row.first (last_row row rows).end (linked_lines n.Data text_link row rows)) × Laid bytes (behind_row (last_row row rows)) end gs
 
@@ -91,7 +85,7 @@ abbrev Covered : List ℕ → Row → Type 0
 Covered bytes row = row.kind ≢ TextRow → Tiled row.first row.end (leaf_unread bytes row.kind row)
 
 -- a line that is no text
-single-laid : (bytes : List ℕ) (row : Row) (p : Point) → Tiled p row.first row.front → Tiled row.first row.end (leaf_unread bytes row.kind row) → Follows p (behind_row row) (titled_row_by bytes row.kind row)
+single-laid : (bytes : List ℕ) (row : Row) (p : Point) → Tiled p row.first row.front → Tiled row.first row.end (leaf_unread bytes row.kind row) → Follows p (behind_row row) (listed_row_by bytes row.kind row)
 single-laid bytes row p front h = line-covers (ending_of row.kind) row row p (leaf_unread bytes row.kind row) front h
 
 -- a line in front of others
@@ -130,13 +124,13 @@ groups-laid options bytes open_before going p (line ∷ next ∷ lines) (row ∷
 groups-laid options bytes open_before going p lines rows are = absurd are
 
 -- They cover it.
-laid-covers : (bytes : List ℕ) (p end : Point) (gs : List Group) → Laid bytes p end gs → Follows p end (titled_groups bytes gs)
+laid-covers : (bytes : List ℕ) (p end : Point) (gs : List Group) → Laid bytes p end gs → Follows p end (listed_groups bytes gs)
 laid-covers bytes p end [] h = record { ends = refl; covers = h }
-laid-covers bytes p end (Single row ∷ gs) h = follows-append p (behind_row row) end (titled_row_by bytes row.kind row) (titled_groups bytes gs) h.0 (laid-covers bytes (behind_row row) end gs h.1)
+laid-covers bytes p end (Single row ∷ gs) h = follows-append p (behind_row row) end (listed_row_by bytes row.kind row) (listed_groups bytes gs) h.0 (laid-covers bytes (behind_row row) end gs h.1)
 laid-covers bytes p end (Lines row rows ∷ gs) h =
     let last : Row = last_row row rows in
     let lines : List Event = linked_lines n.Data text_link row rows in
-    follows-append p (behind_row last) end (titled_group bytes (Lines row rows)) (titled_groups bytes gs)
+    follows-append p (behind_row last) end (listed_group bytes (Lines row rows)) (listed_groups bytes gs)
     (line-covers n.LineEnding row last p (around n.Paragraph row.first last.end lines) h.0 (tiled-around n.Paragraph row.first last.end lines h.1)) (laid-covers bytes (behind_row last) end gs h.2)
 
 -- So do the events of a text with its mark.
@@ -148,7 +142,7 @@ mark-tiled bytes = go (has_mark bytes)
     go false = tiled-none first_point first_point refl
 
 pub blocks-cover : (options : ParseOptions) (bytes : List ℕ) (lines : List (List ℕ)) (rows : List Row) → AreRows options bytes [] false (body_point bytes) lines rows →
-    Covers first_point (pieces (mark_events bytes ++ titled_groups bytes (groups rows))) (end_point bytes)
+    Covers first_point (pieces (mark_events bytes ++ listed_groups bytes (groups rows))) (end_point bytes)
 blocks-cover options bytes lines rows are =
-    (follows-append first_point (body_point bytes) (end_point bytes) (mark_events bytes) (titled_groups bytes (groups rows)) (follows-tiled first_point (body_point bytes) (mark_events bytes) (mark-tiled bytes))
+    (follows-append first_point (body_point bytes) (end_point bytes) (mark_events bytes) (listed_groups bytes (groups rows)) (follows-tiled first_point (body_point bytes) (mark_events bytes) (mark-tiled bytes))
     (laid-covers bytes (body_point bytes) (end_point bytes) (groups rows) (groups-laid options bytes [] false (body_point bytes) lines rows are))).covers

@@ -17,7 +17,7 @@ use Rattle.md_seam.proofs.InlineLemmas.{same-refl}
 use Rattle.markdown_blocks.specs.Change.{ends_of}
 use Rattle.markdown_blocks.specs.Document.{body_point, mark_end, mark_events}
 use Rattle.markdown_blocks.specs.Rows.{LeafRow, ending_of, leaf_unread, BlankRow, Group, Lines, Row, RowKind, Single, TextRow, behind_row, chunks_of, ending_events, groups, last_row, tail_events}
-use Rattle.markdown_blocks.specs.Unread.{linked_lines, titled_group, titled_groups, titled_row_by, unread_paragraph}
+use Rattle.markdown_blocks.specs.Unread.{linked_lines, listed_group, listed_groups, listed_row_by, unread_paragraph}
 use Rattle.markdown_blocks.proofs.FrontFacts.{Behind, Begins, LinePrefix, Goes}
 use Rattle.markdown_blocks.proofs.FrontLemmas.{fronts-balanced, fronts-spans, fronts-turn}
 use Rattle.markdown_blocks.proofs.GroupLemmas.{AreGroups, HasFront, IsParagraph, IsSingle, groups-are, paragraph-lines}
@@ -30,7 +30,6 @@ use Rattle.markdown_blocks.proofs.PartsStand.{Inside, Stands, inside-append, ins
 use Rattle.markdown_blocks.proofs.SpanLemmas.{linked-nested, around-nested}
 use Rattle.markdown_blocks.proofs.FrontNames.{ends-no_parts, ends-unlinked, fronts-no_parts, fronts-unlinked}
 use Rattle.markdown_blocks.proofs.ContainerNames.{open_names}
-use Rattle.markdown_blocks.proofs.ContainerFacts.{continues-facts}
 
 -- Events outside of text parts.
 
@@ -39,7 +38,7 @@ use Rattle.markdown_blocks.proofs.ContainerFacts.{continues-facts}
 -- what stands in front of a further line of a paragraph
 fronts-inside : (bytes : List ℕ) (opens : List Container) (p q : Point) (es : List Event) → opens ≡ [] → LinePrefix bytes opens p q es → Inside bytes [] es
 fronts-inside bytes opens p q es none (Behind at) = record { outside = tt; ends = refl; white = refl; has = refl; stand = λ ys. refl }
-fronts-inside bytes opens first last es none (Goes c same p q r xs ys is more) = inside-append bytes [] [] xs ys (continues-facts bytes c p q xs is).inside (fronts-inside bytes same q r ys none more)
+fronts-inside bytes opens first last es none (Goes same p q r xs ys is more) = inside-append bytes [] [] xs ys is.inside (fronts-inside bytes same q r ys none more)
 fronts-inside bytes opens first last es none (Begins c before p q r xs ys is more) = cc
 
 pub lines-inside : (options : ParseOptions) (bytes : List ℕ) (row : Row) (rows : List Row) → IsParagraph options bytes row rows → Inside bytes (chunks_of row rows) (linked_lines n.Data text_link row rows)
@@ -76,7 +75,7 @@ ending-no_part (LeafRow l) = refl
 ending-no_part TextRow = refl
 
 -- a line that is no text
-stands-single : (options : ParseOptions) (bytes : List ℕ) (row : Row) → IsSingle options bytes row → Stands bytes (titled_row_by bytes row.kind row)
+stands-single : (options : ParseOptions) (bytes : List ℕ) (row : Row) → IsSingle options bytes row → Stands bytes (listed_row_by bytes row.kind row)
 stands-single options bytes row is =
     stands-line bytes (ending_of row.kind) row row (leaf_unread bytes row.kind row) (ending-no_part row.kind) is.front (row-facts options bytes is.line row is.is is.other).parts
 
@@ -86,20 +85,20 @@ chunks-begin row [] = same-refl row.first
 chunks-begin row (next ∷ rows) = same-refl row.first
 
 -- lines of text that follow one another
-stands-lines : (options : ParseOptions) (bytes : List ℕ) (row : Row) (rows : List Row) → IsParagraph options bytes row rows → HasFront bytes row → Stands bytes (titled_group bytes (Lines row rows))
+stands-lines : (options : ParseOptions) (bytes : List ℕ) (row : Row) (rows : List Row) → IsParagraph options bytes row rows → HasFront bytes row → Stands bytes (listed_group bytes (Lines row rows))
 stands-lines options bytes row rows is front =
     let last : Row = last_row row rows in
     stands-line bytes n.LineEnding row last (unread_paragraph row rows) refl front
     (stands-part bytes n.Paragraph Text row.first last.end (chunks_of row rows) (linked_lines n.Data text_link row rows) refl (lines-inside options bytes row rows is) (chunks-begin row rows) (paragraph-lines options bytes row rows is))
 
-stands-groups : (options : ParseOptions) (bytes : List ℕ) (gs : List Group) → AreGroups options bytes gs → Stands bytes (titled_groups bytes gs)
+stands-groups : (options : ParseOptions) (bytes : List ℕ) (gs : List Group) → AreGroups options bytes gs → Stands bytes (listed_groups bytes gs)
 stands-groups options bytes [] are = stands-outside bytes [] tt tt
 stands-groups options bytes (Single row ∷ gs) are =
-    stands-append bytes (titled_group bytes (Single row)) (titled_groups bytes gs) (stands-single options bytes row are.0) (stands-groups options bytes gs are.1)
+    stands-append bytes (listed_group bytes (Single row)) (listed_groups bytes gs) (stands-single options bytes row are.0) (stands-groups options bytes gs are.1)
 stands-groups options bytes (Lines row rows ∷ gs) are =
-    stands-append bytes (titled_group bytes (Lines row rows)) (titled_groups bytes gs) (stands-lines options bytes row rows are.0 are.2) (stands-groups options bytes gs are.3)
+    stands-append bytes (listed_group bytes (Lines row rows)) (listed_groups bytes gs) (stands-lines options bytes row rows are.0 are.2) (stands-groups options bytes gs are.3)
 
-rows-stand : (options : ParseOptions) (bytes : List ℕ) (cs : List Container) (going : Bool) (p : Point) (lines : List (List ℕ)) (rows : List Row) → AreRows options bytes cs going p lines rows → EachNoContent rows → Stands bytes (titled_groups bytes (groups rows))
+rows-stand : (options : ParseOptions) (bytes : List ℕ) (cs : List Container) (going : Bool) (p : Point) (lines : List (List ℕ)) (rows : List Row) → AreRows options bytes cs going p lines rows → EachNoContent rows → Stands bytes (listed_groups bytes (groups rows))
 rows-stand options bytes cs going p lines rows are quiet = stands-groups options bytes (groups rows) (groups-are options bytes cs going p lines rows are quiet)
 
 -- The text parts of a text.
@@ -117,30 +116,30 @@ stands-mark bytes = go (has_mark bytes)
     go true = stands-outside bytes (pair n.ByteOrderMark first_point mark_end) (refl, (refl, tt)) (refl, (refl, tt))
     go false = stands-outside bytes [] tt tt
 
-blocks-both : (options : ParseOptions) (bytes : List ℕ) (cs : List Container) (going : Bool) (p : Point) (lines : List (List ℕ)) (rows : List Row) → AreRows options bytes cs going p lines rows → EachNoContent rows → Stands bytes (mark_events bytes ++ titled_groups bytes (groups rows))
-blocks-both options bytes cs going p lines rows are quiet = stands-append bytes (mark_events bytes) (titled_groups bytes (groups rows)) (stands-mark bytes) (rows-stand options bytes cs going p lines rows are quiet)
+blocks-both : (options : ParseOptions) (bytes : List ℕ) (cs : List Container) (going : Bool) (p : Point) (lines : List (List ℕ)) (rows : List Row) → AreRows options bytes cs going p lines rows → EachNoContent rows → Stands bytes (mark_events bytes ++ listed_groups bytes (groups rows))
+blocks-both options bytes cs going p lines rows are quiet = stands-append bytes (mark_events bytes) (listed_groups bytes (groups rows)) (stands-mark bytes) (rows-stand options bytes cs going p lines rows are quiet)
 
 pub blocks-stand : (options : ParseOptions) (bytes : List ℕ) (cs : List Container) (going : Bool) (p : Point) (lines : List (List ℕ)) (rows : List Row) → AreRows options bytes cs going p lines rows → EachNoContent rows →
-    parts_stand bytes (mark_events bytes ++ titled_groups bytes (groups rows)) ≡ true
-blocks-stand options bytes cs going p lines rows are quiet = all-stand bytes (mark_events bytes ++ titled_groups bytes (groups rows)) (blocks-both options bytes cs going p lines rows are quiet)
+    parts_stand bytes (mark_events bytes ++ listed_groups bytes (groups rows)) ≡ true
+blocks-stand options bytes cs going p lines rows are quiet = all-stand bytes (mark_events bytes ++ listed_groups bytes (groups rows)) (blocks-both options bytes cs going p lines rows are quiet)
 
 pub blocks-chunks : (options : ParseOptions) (bytes : List ℕ) (cs : List Container) (going : Bool) (p : Point) (lines : List (List ℕ)) (rows : List Row) → AreRows options bytes cs going p lines rows → EachNoContent rows →
-    chunks_stand 0 (mark_events bytes ++ titled_groups bytes (groups rows)) ≡ true
-blocks-chunks options bytes cs going p lines rows are quiet = all-chunks bytes (mark_events bytes ++ titled_groups bytes (groups rows)) (blocks-both options bytes cs going p lines rows are quiet)
+    chunks_stand 0 (mark_events bytes ++ listed_groups bytes (groups rows)) ≡ true
+blocks-chunks options bytes cs going p lines rows are quiet = all-chunks bytes (mark_events bytes ++ listed_groups bytes (groups rows)) (blocks-both options bytes cs going p lines rows are quiet)
 
 -- Their events nest.
 
 -- these names are open in front of groups
-abbrev Titled : List ℕ → List Name → Point → List Group → Type 0
-Titled bytes names p gs = Under names p (titled_groups bytes gs)
+abbrev Listed : List ℕ → List Name → Point → List Group → Type 0
+Listed bytes names p gs = Under names p (listed_groups bytes gs)
 
-titled-by_lines : (bytes : List ℕ) → ByLines bytes (Titled bytes)
-titled-by_lines bytes = record {
+listed-by_lines : (bytes : List ℕ) → ByLines bytes (Listed bytes)
+listed-by_lines bytes = record {
   none = λ p. record { matches = tt; closed = refl; forward = tt };
-  single = λ names kept p row gs o keeps other on. under-line bytes names kept p row (ending_of row.kind) (leaf_unread bytes row.kind row) (titled_groups bytes gs) o keeps (o.leaf other).1.unread_nested on;
+  single = λ names kept p row gs o keeps other on. under-line bytes names kept p row (ending_of row.kind) (leaf_unread bytes row.kind row) (listed_groups bytes gs) o keeps (o.leaf other).1.unread_nested on;
   alone = λ names kept p row gs o keeps on.
       let inside : List Event = enter_link n.Data row.first text_link ∷ exit n.Data row.end ∷ [] in
-      under-line bytes names kept p row n.LineEnding (around n.Paragraph row.first row.end inside) (titled_groups bytes gs) o keeps
+      under-line bytes names kept p row n.LineEnding (around n.Paragraph row.first row.end inside) (listed_groups bytes gs) o keeps
       (around-nested n.Paragraph row.first row.end inside (linked-nested text_link row.first row.end (line-order bytes p row o))) on;
   next = λ names p row below rows gs o under leaves opens on.
       let q : Point = behind_row row in
@@ -148,7 +147,7 @@ titled-by_lines bytes = record {
       let last : Row = last_row below rows in
       let lines : List Event = linked_lines n.Data text_link below rows in
       let tail : List Event = tail_events n.LineEnding last in
-      let more : List Event = titled_groups bytes gs in
+      let more : List Event = listed_groups bytes gs in
       let whole : List Event = around n.Paragraph row.first last.end (chunk ++ below.front ++ lines) in
       let apart : (row.front ++ whole ++ tail) ++ more ≡ row.front ++ (whole ++ (tail ++ more)) = append_assoc (row.front ++ whole) tail more ∙ append_assoc row.front whole (tail ++ more) in
       subst (Under names p) (sym apart)
@@ -157,10 +156,10 @@ titled-by_lines bytes = record {
       (fronts-balanced bytes below.change.opens q below.first below.front under.front opens) on));
 }
 
-titled-nest : (options : ParseOptions) (bytes : List ℕ) (p : Point) (lines : List (List ℕ)) (rows : List Row) → AreRows options bytes [] false p lines rows → Onward p (titled_groups bytes (groups rows))
-titled-nest options bytes p lines rows are = under-none p (titled_groups bytes (groups rows)) (rows-hold bytes (Titled bytes) (titled-by_lines bytes) options p lines rows are)
+listed-nest : (options : ParseOptions) (bytes : List ℕ) (p : Point) (lines : List (List ℕ)) (rows : List Row) → AreRows options bytes [] false p lines rows → Onward p (listed_groups bytes (groups rows))
+listed-nest options bytes p lines rows are = under-none p (listed_groups bytes (groups rows)) (rows-hold bytes (Listed bytes) (listed-by_lines bytes) options p lines rows are)
 
-pub blocks-nested : (options : ParseOptions) (bytes : List ℕ) (lines : List (List ℕ)) (rows : List Row) → AreRows options bytes [] false (body_point bytes) lines rows → Nested (mark_events bytes ++ titled_groups bytes (groups rows))
+pub blocks-nested : (options : ParseOptions) (bytes : List ℕ) (lines : List (List ℕ)) (rows : List Row) → AreRows options bytes [] false (body_point bytes) lines rows → Nested (mark_events bytes ++ listed_groups bytes (groups rows))
 blocks-nested options bytes lines rows are =
-    let nests : Onward (body_point bytes) (titled_groups bytes (groups rows)) = titled-nest options bytes (body_point bytes) lines rows are in
-    mark-nested bytes (titled_groups bytes (groups rows)) nests.balanced nests.forward
+    let nests : Onward (body_point bytes) (listed_groups bytes (groups rows)) = listed-nest options bytes (body_point bytes) lines rows are in
+    mark-nested bytes (listed_groups bytes (groups rows)) nests.balanced nests.forward

@@ -27,7 +27,7 @@ use Rattle.markdown_blocks.specs.Document.{body_point, mark_end, mark_events}
 use Rattle.markdown_blocks.specs.FlowReads.{text_cells, text_rows}
 use Rattle.markdown_blocks.specs.Parsed.{reads_plain}
 use Rattle.markdown_blocks.specs.Rows.{ending_of, leaf_done, leaf_unread, Group, Lines, Row, Single, behind_row, chunks_of, ending_events, group_events, groups, groups_events, held_at, last_row, read_lines, single_events_by, tail_events}
-use Rattle.markdown_blocks.specs.Unread.{linked_lines, titled_group, titled_groups, titled_row_by, unread_paragraph}
+use Rattle.markdown_blocks.specs.Unread.{linked_lines, listed_group, listed_groups, listed_row_by, unread_paragraph}
 use Rattle.markdown_blocks.proofs.FrontLemmas.{fronts-order}
 use Rattle.markdown_blocks.proofs.GroupLemmas.{AreGroups, HasFront, IsParagraph, IsSingle, groups-are}
 use Rattle.markdown_blocks.proofs.JoinedLemmas.{EachNoContent, behind-is, rows_at-no_content}
@@ -57,12 +57,6 @@ fill-all bytes blocks events fill =
           ∙ ap (λ (l : List Part). filled blocks (together (plain_lists bytes l))) own;
     }
 
--- Events without chunks and parts.
-
--- Text parts.
-
--- Headings.
-
 -- Lines.
 
 fill-ending : (bytes : List ℕ) (name : Name) (row : Row) → part_kind name ≡ None → Fill bytes (ending_events name row) (ending_events name row)
@@ -82,10 +76,9 @@ fill-line bytes name row last xs zs other front h =
     (fill-same bytes row.front (fronts-unlinked bytes row.change.opens front.0 row.first row.front front.1) (fronts-no_parts bytes row.change.opens front.0 row.first row.front front.1)) h)
     (fill-append bytes ends ends ending ending (fill-same bytes ends (ends-unlinked last.leaves last.end) (ends-no_parts last.leaves last.end)) (fill-ending bytes name last other))
 
-fill-single : (options : ParseOptions) (bytes : List ℕ) (row : Row) → IsSingle options bytes row → Fill bytes (titled_row_by bytes row.kind row) (single_events_by bytes row.kind row)
+fill-single : (options : ParseOptions) (bytes : List ℕ) (row : Row) → IsSingle options bytes row → Fill bytes (listed_row_by bytes row.kind row) (single_events_by bytes row.kind row)
 fill-single options bytes row is =
     fill-line bytes (ending_of row.kind) row row (leaf_unread bytes row.kind row) (leaf_done bytes row.kind row) (ending-no_part row.kind) is.front (row-facts options bytes is.line row is.is is.other).filled
-
 
 -- a line ends no earlier than it begins
 line-order : (options : ParseOptions) (bytes line : List ℕ) (row : Row) → IsRow options bytes line row → IsTrue (at_or_before row.first row.end)
@@ -122,7 +115,7 @@ lines-filled options bytes row (next ∷ rows) h ys more =
     ∙ sym (append_assoc chunk front (read ++ rest))
     ∙ sym (append_assoc (chunk ++ front) read rest)
 
-fill-paragraph : (options : ParseOptions) (bytes : List ℕ) (row : Row) (rows : List Row) → IsParagraph options bytes row rows → HasFront bytes row → Fill bytes (titled_group bytes (Lines row rows)) (group_events bytes (Lines row rows))
+fill-paragraph : (options : ParseOptions) (bytes : List ℕ) (row : Row) (rows : List Row) → IsParagraph options bytes row rows → HasFront bytes row → Fill bytes (listed_group bytes (Lines row rows)) (group_events bytes (Lines row rows))
 fill-paragraph options bytes row rows h front =
     let last : Row = last_row row rows in
     let list : List Chunk = chunks_of row rows in
@@ -132,13 +125,13 @@ fill-paragraph options bytes row rows h front =
 
 -- Texts.
 
-fill-groups : (options : ParseOptions) (bytes : List ℕ) (gs : List Group) → AreGroups options bytes gs → Fill bytes (titled_groups bytes gs) (groups_events bytes gs)
+fill-groups : (options : ParseOptions) (bytes : List ℕ) (gs : List Group) → AreGroups options bytes gs → Fill bytes (listed_groups bytes gs) (groups_events bytes gs)
 fill-groups options bytes [] are = fill-same bytes [] tt tt
 fill-groups options bytes (Single row ∷ gs) are =
-    fill-append bytes (titled_group bytes (Single row)) (group_events bytes (Single row)) (titled_groups bytes gs) (groups_events bytes gs)
+    fill-append bytes (listed_group bytes (Single row)) (group_events bytes (Single row)) (listed_groups bytes gs) (groups_events bytes gs)
     (fill-single options bytes row are.0) (fill-groups options bytes gs are.1)
 fill-groups options bytes (Lines row rows ∷ gs) are =
-    fill-append bytes (titled_group bytes (Lines row rows)) (group_events bytes (Lines row rows)) (titled_groups bytes gs) (groups_events bytes gs)
+    fill-append bytes (listed_group bytes (Lines row rows)) (group_events bytes (Lines row rows)) (listed_groups bytes gs) (groups_events bytes gs)
     (fill-paragraph options bytes row rows are.0 are.2) (fill-groups options bytes gs are.3)
 
 fill-mark : (bytes : List ℕ) → Fill bytes (mark_events bytes) (mark_events bytes)
@@ -150,16 +143,16 @@ fill-mark bytes = go (has_mark bytes)
 
 -- The same with a mark in front.
 pub blocks-filled : (options : ParseOptions) (bytes : List ℕ) (open_before : List Container) (going : Bool) (p : Point) (lines : List (List ℕ)) (rows : List Row) → AreRows options bytes open_before going p lines rows → EachNoContent rows →
-    IsFilled bytes (mark_events bytes ++ titled_groups bytes (groups rows)) (mark_events bytes ++ groups_events bytes (groups rows))
+    IsFilled bytes (mark_events bytes ++ listed_groups bytes (groups rows)) (mark_events bytes ++ groups_events bytes (groups rows))
 blocks-filled options bytes open_before going p lines rows are quiet =
     let mark : List Event = mark_events bytes in
-    fill-all bytes (mark ++ titled_groups bytes (groups rows)) (mark ++ groups_events bytes (groups rows))
-    (fill-append bytes mark mark (titled_groups bytes (groups rows)) (groups_events bytes (groups rows)) (fill-mark bytes)
+    fill-all bytes (mark ++ listed_groups bytes (groups rows)) (mark ++ groups_events bytes (groups rows))
+    (fill-append bytes mark mark (listed_groups bytes (groups rows)) (groups_events bytes (groups rows)) (fill-mark bytes)
     (fill-groups options bytes (groups rows) (groups-are options bytes open_before going p lines rows are quiet)))
 
 -- So it is with the lines that flow reads.
 pub text-filled : (options : ParseOptions) (bytes : List ℕ) (p : Point) (lines : List (List ℕ)) → AreRows options bytes [] false p lines (text_rows options bytes p) →
-    IsFilled bytes (mark_events bytes ++ titled_groups bytes (groups (text_rows options bytes p))) (mark_events bytes ++ groups_events bytes (groups (text_rows options bytes p)))
+    IsFilled bytes (mark_events bytes ++ listed_groups bytes (groups (text_rows options bytes p))) (mark_events bytes ++ groups_events bytes (groups (text_rows options bytes p)))
 text-filled options bytes p lines are =
     let cells : List Cell = text_cells bytes options p in
     blocks-filled options bytes [] false p lines (text_rows options bytes p) are (rows_at-no_content options (suc (length cells)) [] false cells p)

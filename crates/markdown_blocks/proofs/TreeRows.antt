@@ -7,20 +7,19 @@ use Rattle.std.proofs.lemmas.List.Sums.{take_while-cons}
 use Rattle.md_engine.specs.declared.configuration.ParseOptions.{ParseOptions}
 use Rattle.md_engine.specs.declared.event.Point.{Point}
 use Rattle.md_engine.specs.Place.{first_point}
-use Rattle.md_seam.specs.Standard.Containers.{Taken, continues, opens_quote, quote_taken}
+use Rattle.md_seam.specs.Standard.Containers.{Taken, opens}
 use Rattle.md_seam.specs.Standard.Grouped.{grouped}
 use Rattle.md_seam.specs.Standard.Lines.{begins_with, ends_line, full_lines_of, is_ending, lines_of, without_ending}
 use Rattle.md_seam.specs.Standard.Meaning.{tree, with_frontmatter}
 use Rattle.md_seam.specs.Standard.Preamble.{Preamble, first_column, front_of, has_mark, preamble, preamble_by, rest_at, rests_at, without_mark}
-use Rattle.md_seam.specs.Standard.Rest.{Rest, has_small_indent, lose}
-use Rattle.md_seam.specs.Events.Spelled.{QuoteShape, spelled}
-use Rattle.md_seam.specs.Standard.State.{At, Container, InFootnote, InItem, InQuote, Kept, Leaf, NoLeaf, OpenParagraph, Path, Spot, Within, closed, container_block, kept, shut, texts, then_block, then_leaf}
+use Rattle.md_seam.specs.Standard.Rest.{Rest}
+use Rattle.md_seam.specs.Events.Spelled.{spelled}
+use Rattle.md_seam.specs.Standard.State.{At, Container, Kept, Leaf, NoLeaf, OpenParagraph, Path, Spot, Within, closed, container_block, kept, shut, texts, then_leaf}
 use Rattle.md_seam.specs.Standard.Step.{fresh_line, spot_of, step, steps}
 use Rattle.md_seam.specs.Standard.Texts.{split_lines}
-use Rattle.md_seam.specs.Standard.Tree.{Blocks, End, Paragraph, Quote}
+use Rattle.md_seam.specs.Standard.Tree.{Blocks, End, Paragraph}
 use Rattle.md_seam.proofs.LinesLemmas.{without_ending-onto}
 use Rattle.markdown_blocks.specs.Change.{change_by, interrupts, others_of}
-use Rattle.markdown_blocks.specs.ContainerKinds.{shape_of}
 use Rattle.markdown_blocks.specs.Document.{body_point, mark_end}
 use Rattle.markdown_blocks.specs.Fed.{rests_from}
 use Rattle.markdown_blocks.specs.Fronted.{Contained, Prefixed, contained, no_prefix, one_more, prefixes_new, prefixes_on}
@@ -28,60 +27,39 @@ use Rattle.markdown_blocks.specs.Parsed.{IsBuilt}
 use Rattle.markdown_blocks.specs.Registry.{leaf}
 use Rattle.markdown_blocks.specs.Rows.{BlankRow, LeafRow, Row, RowKind, TextRow, groups, groups_events, is_lazy, line_kind}
 use Rattle.markdown_blocks.specs.Stands.{IsPlain, IsPlainLeaf, containers_of, is_going}
-use Rattle.markdown_blocks.proofs.ContainedLemmas.{IsQuoteTaken, contained-shapes, opens-quote, quote-alone}
+use Rattle.markdown_blocks.proofs.ContainedLemmas.{contained-shapes}
 use Rattle.markdown_blocks.proofs.KindLemmas.{kind-starts}
 use Rattle.markdown_blocks.proofs.LineSteps.{behind_path, contained_at, fresh-found, goes_lazy, kept_to, longer, new_line, new_path, plain-step, renewed, shut-lines, spot_by, step-contained, step-new, stepped_on}
 use Rattle.markdown_blocks.proofs.MarkLemmas.{without-mark}
 use Rattle.markdown_blocks.proofs.RowFacts as f
 use Rattle.markdown_blocks.proofs.SpelledRows.{spelled-rows}
 use Rattle.markdown_blocks.proofs.RegistryFound.{leaf-simple}
-use Rattle.markdown_blocks.proofs.SimpleBlocks.{AreSimple, grouped-blocks, shallow-blocks, simple-paragraph, simple-quote, simple-then}
+use Rattle.markdown_blocks.proofs.SimpleBlocks.{AreSimple, grouped-blocks, shallow-blocks, simple-paragraph, simple-then}
+use Rattle.markdown_blocks.proofs.RegistryRead.{AreRead, IsRead, IsReadTaken, read-front, shapes-read}
+use Rattle.markdown_blocks.proofs.RegistryContainers.{empty-ends, opens-read, read-simple}
 use Rattle.md_outline.specs.HeadingDepths.{are_shallow}
 
--- Quotes alone are open.
-
-abbrev AreQuotes : List Container → Type 0
-AreQuotes [] = Unit {0}
-AreQuotes (c ∷ cs) = (c ≡ InQuote) × AreQuotes cs
-
-quotes-front : (cs ds : List Container) → AreQuotes (cs ++ ds) → AreQuotes cs
-quotes-front [] ds h = tt
-quotes-front (c ∷ cs) ds h = (h.0, quotes-front cs ds h.1)
-
-shape-quote : (c : Container) → shape_of c ≡ QuoteShape → c ≡ InQuote
-shape-quote InQuote e = refl
-shape-quote (InItem digits marker width starts_blank) e = cc
-shape-quote (InFootnote label) e = cc
-
-shapes-quotes : (cs ds : List Container) → map shape_of cs ≡ map shape_of ds → AreQuotes ds → AreQuotes cs
-shapes-quotes [] ds e h = tt
-shapes-quotes (c ∷ cs) [] e h = cc
-shapes-quotes (c ∷ cs) (d ∷ ds) e h =
-    let first : shape_of c ≡ shape_of d = cc in
-    let rest : map shape_of cs ≡ map shape_of ds = cc in
-    (shape-quote c (first ∙ ap shape_of h.0), shapes-quotes cs ds rest h.1)
-
--- those that stay on a line,
-quotes-stay : (options : ParseOptions) (p : Path) (r : Rest) → AreQuotes (containers_of p) → AreQuotes (contained_at options p r).change.stays
-quotes-stay options p r h =
+-- Containers that flow reads alone are open: those that stay on a line,
+read-stay : (options : ParseOptions) (p : Path) (r : Rest) → AreRead (containers_of p) → AreRead (contained_at options p r).change.stays
+read-stay options p r h =
     let change = (contained_at options p r).change in
-    quotes-front change.stays change.closes (shapes-quotes (change.stays ++ change.closes) (containers_of p) (contained-shapes options (containers_of p) (is_going p) r) h)
+    read-front change.stays change.closes (shapes-read (change.stays ++ change.closes) (containers_of p) (contained-shapes options (containers_of p) (is_going p) r) h)
 
-quotes-new : (options : ParseOptions) (interrupting : Bool) (n : ℕ) (r : Rest) → IsBuilt options → AreQuotes (prefixes_new options interrupting n r).containers
-quotes-new options interrupting zero r built = tt
-quotes-new options interrupting (suc n) r built = subst (λ (o : Option Taken). AreQuotes (by o).containers) (sym (quote-alone options interrupting r built)) (go (λ s. quotes-new options false n s built) (opens_quote options r) (opens-quote options r))
+read-new : (options : ParseOptions) (interrupting : Bool) (n : ℕ) (r : Rest) → IsBuilt options → AreRead (prefixes_new options interrupting n r).containers
+read-new options interrupting zero r built = tt
+read-new options interrupting (suc n) r built = go (λ s. read-new options false n s built) (opens options interrupting r) (opens-read options interrupting r built)
   where
     by : Option Taken → Prefixed
     by o = elim o [ None ↦ no_prefix r | Some t ↦ one_more t.container (prefixes_new options false n t.rest) ]
 
-    go : ((s : Rest) → AreQuotes (prefixes_new options false n s).containers) → (o : Option Taken) → IsQuoteTaken o → AreQuotes (by o).containers
-    go below None quote = tt
-    go below (Some t) quote = (quote, below t.rest)
+    go : ((s : Rest) → AreRead (prefixes_new options false n s).containers) → (o : Option Taken) → IsReadTaken o → AreRead (by o).containers
+    go below None read = tt
+    go below (Some t) read = (read, below t.rest)
 
 -- and those that open on it
-quotes-open : (options : ParseOptions) (cs : List Container) (going : Bool) (r : Rest) → IsBuilt options → AreQuotes (contained options cs going r).change.opens
+read-open : (options : ParseOptions) (cs : List Container) (going : Bool) (r : Rest) → IsBuilt options → AreRead (contained options cs going r).change.opens
 unfolding contained
-quotes-open options cs going r built = go (is_lazy going new.containers (line_kind options new.rest))
+read-open options cs going r built = go (is_lazy going new.containers (line_kind options new.rest))
   where
     on : Prefixed
     on = prefixes_on options cs r
@@ -92,20 +70,20 @@ quotes-open options cs going r built = go (is_lazy going new.containers (line_ki
     new : Prefixed
     new = prefixes_new options interrupting (length on.rest.bytes) on.rest
 
-    go : (x : Bool) → AreQuotes (change_by x on.containers (others_of cs on.containers) new.containers).opens
-    go true = quotes-new options interrupting (length on.rest.bytes) on.rest built
-    go false = quotes-new options interrupting (length on.rest.bytes) on.rest built
+    go : (x : Bool) → AreRead (change_by x on.containers (others_of cs on.containers) new.containers).opens
+    go true = read-new options interrupting (length on.rest.bytes) on.rest built
+    go false = read-new options interrupting (length on.rest.bytes) on.rest built
 
 -- Paths.
 
--- of quotes, and simple blocks in them
+-- of containers that flow reads, and simple blocks in them
 abbrev HoldsSimple : Path → Type 0
 HoldsSimple (At s) = AreSimple s.here
-HoldsSimple (Within before container p) = AreSimple before × (container ≡ InQuote) × HoldsSimple p
+HoldsSimple (Within before container p) = AreSimple before × IsRead container × HoldsSimple p
 
-simple-quotes : (p : Path) → HoldsSimple p → AreQuotes (containers_of p)
-simple-quotes (At s) h = tt
-simple-quotes (Within before container p) h = (h.1, simple-quotes p h.2)
+simple-read : (p : Path) → HoldsSimple p → AreRead (containers_of p)
+simple-read (At s) h = tt
+simple-read (Within before container p) h = (h.1, simple-read p h.2)
 
 simple-shut : (options : ParseOptions) (s : Spot) → IsBuilt options → IsPlainLeaf s.leaf → AreSimple s.here →
     AreSimple (shut options s)
@@ -121,19 +99,19 @@ simple-closed : (options : ParseOptions) (p : Path) → IsBuilt options → IsPl
     AreSimple (closed options p)
 simple-closed options (At s) built plain h = simple-shut options s built plain h
 simple-closed options (Within before container p) built plain h =
-    subst (λ (c : Container). AreSimple (then_block before (container_block c (closed options p)))) (sym h.1)
-    (simple-then before (Quote (closed options p)) h.0 (simple-quote (closed options p) (simple-closed options p built plain h.2)))
+    let below : AreSimple (closed options p) = simple-closed options p built plain h.2 in
+    simple-then before (container_block container (closed options p)) h.0 (read-simple container (closed options p) h.1 below)
 
-simple-kept : (options : ParseOptions) (cs : List Container) (p : Path) → IsBuilt options → IsPlain p → AreQuotes cs →
+simple-kept : (options : ParseOptions) (cs : List Container) (p : Path) → IsBuilt options → IsPlain p → AreRead cs →
     HoldsSimple p → HoldsSimple (kept_to options cs p)
-simple-kept options [] p built plain quotes h = simple-closed options p built plain h
-simple-kept options (c ∷ cs) (At s) built plain quotes h = simple-shut options s built plain h
-simple-kept options (c ∷ cs) (Within before container p) built plain quotes h = (h.0, quotes.0, simple-kept options cs p built plain quotes.1 h.2)
+simple-kept options [] p built plain read h = simple-closed options p built plain h
+simple-kept options (c ∷ cs) (At s) built plain read h = simple-shut options s built plain h
+simple-kept options (c ∷ cs) (Within before container p) built plain read h = (h.0, read.0, simple-kept options cs p built plain read.1 h.2)
 
-simple-renewed : (cs : List Container) (p : Path) → AreQuotes cs → HoldsSimple p → HoldsSimple (renewed cs p)
-simple-renewed [] p quotes h = h
-simple-renewed (c ∷ cs) (At s) quotes h = h
-simple-renewed (c ∷ cs) (Within before container p) quotes h = (h.0, quotes.0, simple-renewed cs p quotes.1 h.2)
+simple-renewed : (cs : List Container) (p : Path) → AreRead cs → HoldsSimple p → HoldsSimple (renewed cs p)
+simple-renewed [] p read h = h
+simple-renewed (c ∷ cs) (At s) read h = h
+simple-renewed (c ∷ cs) (Within before container p) read h = (h.0, read.0, simple-renewed cs p read.1 h.2)
 
 simple-longer : (p : Path) (lines : List Kept) → HoldsSimple p → HoldsSimple (longer p lines)
 simple-longer (At s) lines h = h
@@ -154,9 +132,9 @@ simple-fresh options bs r built h = subst (λ (s : Spot). AreSimple s.here) (sym
     go TextRow e = h
 
 simple-new_line : (options : ParseOptions) (cs : List Container) (r : Rest) (bs : Blocks) → IsBuilt options →
-    AreQuotes cs → AreSimple bs → HoldsSimple (new_line options cs r bs)
-simple-new_line options [] r bs built quotes h = simple-fresh options bs r built h
-simple-new_line options (c ∷ cs) r bs built quotes h = (h, quotes.0, simple-new_line options cs r End built quotes.1 tt)
+    AreRead cs → AreSimple bs → HoldsSimple (new_line options cs r bs)
+simple-new_line options [] r bs built read h = simple-fresh options bs r built h
+simple-new_line options (c ∷ cs) r bs built read h = (h, read.0, simple-new_line options cs r End built read.1 tt)
 
 simple-step : (options : ParseOptions) (p : Path) (r : Rest) → IsBuilt options → IsPlain p → HoldsSimple p →
     HoldsSimple (step options p r)
@@ -165,11 +143,11 @@ simple-step options p r built plain h = subst HoldsSimple (sym (step-contained o
     c : Contained
     c = contained_at options p r
 
-    stay : AreQuotes c.change.stays
-    stay = quotes-stay options p r (simple-quotes p h)
+    stay : AreRead c.change.stays
+    stay = read-stay options p r (simple-read p h)
 
-    open_new : AreQuotes c.change.opens
-    open_new = quotes-open options (containers_of p) (is_going p) r built
+    open_new : AreRead c.change.opens
+    open_new = read-open options (containers_of p) (is_going p) r built
 
     go : (x : Bool) → HoldsSimple (cond x (longer (renewed c.change.stays p) (kept c.rest ∷ [])) (new_path options p c))
     go true = simple-longer (renewed c.change.stays p) (kept c.rest ∷ []) (simple-renewed c.change.stays p stay h)
@@ -195,28 +173,17 @@ simple-come options rs built = simple-closed options (steps options (At (spot_of
 
 -- An empty line at the end adds nothing.
 
-no_quote-empty : (options : ParseOptions) (column : ℕ) → quote_taken options (rest_at column []) ≡ None
-unfolding quote_taken
-no_quote-empty options column = go (has_small_indent options (rest_at column []))
-  where
-    found : Bool → Option Taken
-    found x = cond (x && false) (Some (record { container = InQuote; rest = lose 1 (rest_at (column + 1) []) })) None
-
-    go : (x : Bool) → found x ≡ None
-    go true = refl
-    go false = refl
-
-on-empty : (options : ParseOptions) (cs : List Container) (column : ℕ) → AreQuotes cs → prefixes_on options cs (rest_at column []) ≡ no_prefix (rest_at column [])
-on-empty options [] column quotes = refl
-on-empty options (c ∷ cs) column quotes = ap by (ap (λ (x : Container). continues options x (rest_at column [])) quotes.0 ∙ no_quote-empty options column)
+on-empty : (options : ParseOptions) (cs : List Container) (column : ℕ) → AreRead cs → prefixes_on options cs (rest_at column []) ≡ no_prefix (rest_at column [])
+on-empty options [] column read = refl
+on-empty options (c ∷ cs) column read = ap by (empty-ends options c column read.0)
   where
     by : Option Taken → Prefixed
     by o = elim o [ None ↦ no_prefix (rest_at column []) | Some t ↦ one_more t.container (prefixes_on options cs t.rest) ]
 
-step-empty : (options : ParseOptions) (p : Path) (column : ℕ) → IsBuilt options → IsPlain p → AreQuotes (containers_of p) → closed options (step options p (rest_at column [])) ≡ closed options p
-step-empty options p column built plain quotes =
+step-empty : (options : ParseOptions) (p : Path) (column : ℕ) → IsBuilt options → IsPlain p → AreRead (containers_of p) → closed options (step options p (rest_at column [])) ≡ closed options p
+step-empty options p column built plain read =
     ap (closed options) (step-new options p r built plain)
-    ∙ ap (λ (on : Prefixed). closed options (stepped_on options p on)) (on-empty options (containers_of p) column quotes)
+    ∙ ap (λ (on : Prefixed). closed options (stepped_on options p on)) (on-empty options (containers_of p) column read)
     ∙ go (is_going p)
     ∙ ap (λ (s : Spot). closed options (At s)) (fresh-found options (closed options p) r built)
   where
@@ -240,7 +207,7 @@ come-empty options column (line ∷ lines) built =
     let simple : HoldsSimple first = simple-step options (At (spot_of End)) (rest_at column line) built tt tt in
     ap (λ (l : List Rest). closed options (steps options first l)) (map-append (rest_at 0) lines ([] ∷ []))
     ∙ ap (closed options) (steps-append options first rs (rest_at 0 [] ∷ []))
-    ∙ step-empty options (steps options first rs) 0 built (plain-steps options first rs built plain) (simple-quotes (steps options first rs) (simple-steps options first rs built plain simple))
+    ∙ step-empty options (steps options first rs) 0 built (plain-steps options first rs built plain) (simple-read (steps options first rs) (simple-steps options first rs built plain simple))
 
 -- these lines, or these and an empty one
 abbrev IsOrEmpty : List (List ℕ) → List (List ℕ) → Type 0

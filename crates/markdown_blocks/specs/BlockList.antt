@@ -29,18 +29,18 @@ abbrev pub unread_paragraph : Row → List Row → List Event
 unread_paragraph row rows = around n.Paragraph row.first (last_row row rows).end (linked_lines n.Data text_link row rows)
 
 -- a line that is no text
-abbrev pub titled_row_by : List ℕ → RowKind → Row → List Event
-titled_row_by bytes kind row = row.front ++ leaf_unread bytes kind row ++ tail_events (ending_of kind) row
+abbrev pub listed_row_by : List ℕ → RowKind → Row → List Event
+listed_row_by bytes kind row = row.front ++ leaf_unread bytes kind row ++ tail_events (ending_of kind) row
 
 -- such a line, or the lines of a paragraph
-abbrev pub titled_group : List ℕ → Group → List Event
-titled_group bytes (Single row) = titled_row_by bytes row.kind row
-titled_group bytes (Lines row rows) = row.front ++ unread_paragraph row rows ++ tail_events n.LineEnding (last_row row rows)
+abbrev pub listed_group : List ℕ → Group → List Event
+listed_group bytes (Single row) = listed_row_by bytes row.kind row
+listed_group bytes (Lines row rows) = row.front ++ unread_paragraph row rows ++ tail_events n.LineEnding (last_row row rows)
 
-abbrev pub titled_groups : List ℕ → List Group → List Event
-titled_groups bytes [] = []
-titled_groups bytes (group ∷ groups) = titled_group bytes group ++ titled_groups bytes groups
+abbrev pub listed_groups : List ℕ → List Group → List Event
+listed_groups bytes [] = []
+listed_groups bytes (group ∷ groups) = listed_group bytes group ++ listed_groups bytes groups
 
 -- The block list of a text: its mark, and then its lines.
 unfoldable pub block_list : ParseOptions → List ℕ → List Event
-block_list options text = mark_events text ++ titled_groups text (groups (text_rows options text (body_point text)))
+block_list options text = mark_events text ++ listed_groups text (groups (text_rows options text (body_point text)))

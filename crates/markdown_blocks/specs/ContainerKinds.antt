@@ -2,8 +2,8 @@
 use Rattle.std.specs.Prelude.{◌≡◌}
 use Rattle.md_engine.specs.declared.event.Name.{Name}
 use Rattle.md_engine.specs.declared.event.Name.TheVariants as n
-use Rattle.md_engine.specs.declared.tokenizer.Container.{Container as Held}
-use Rattle.md_engine.specs.declared.tokenizer.ContainerKind.TheVariants as kind
+use Rattle.md_engine.specs.declared.tokenizer.container.Container.{Container as Held}
+use Rattle.md_engine.specs.declared.tokenizer.container.ContainerKind.TheVariants as kind
 use Rattle.md_seam.specs.Events.Spelled.{FootnoteShape, ItemShape, QuoteShape, Shape}
 use Rattle.md_seam.specs.Standard.State.{Container, InFootnote, InItem, InQuote}
 

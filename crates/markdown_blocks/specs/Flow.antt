@@ -11,9 +11,9 @@ use Rattle.md_engine.specs.declared.state.content.State.TheVariants as content
 use Rattle.md_engine.specs.declared.state.document.State.TheVariants as document
 use Rattle.md_engine.specs.declared.state.block_quote.State.TheVariants as block_quote
 use Rattle.md_engine.specs.declared.state.State.TheVariants.{Ok, Nok, Next, Retry}
-use Rattle.md_engine.specs.declared.tokenizer.Container.{Container}
-use Rattle.md_engine.specs.declared.tokenizer.ContainerKind.{ContainerKind}
-use Rattle.md_engine.specs.declared.tokenizer.ContainerKind.TheVariants as kind
+use Rattle.md_engine.specs.declared.tokenizer.container.Container.{Container}
+use Rattle.md_engine.specs.declared.tokenizer.container.ContainerKind.{ContainerKind}
+use Rattle.md_engine.specs.declared.tokenizer.container.ContainerKind.TheVariants as kind
 use Rattle.md_engine.specs.Scheme.{After, Rank, Scheme, Spot, ranked}
 use Rattle.md_engine.specs.World.{World, closed}
 use Rattle.md_seam.specs.Spaces.{rest_ready}

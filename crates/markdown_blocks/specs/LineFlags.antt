@@ -2,8 +2,8 @@
 use Rattle.std.specs.Prelude.{ℕ, suc, Bool, true, false, ◌&&◌, nat_lt, if◌then◌else◌, [], ◌∷◌, ◌++◌, length, slice_get, Option}
 use Rattle.md_engine.specs.declared.event.Name.{Name}
 use Rattle.md_engine.specs.declared.event.Name.TheVariants.{BlankLineEnding, LineEnding}
-use Rattle.md_engine.specs.declared.tokenizer.Container.{Container}
-use Rattle.md_engine.specs.declared.tokenizer.ContainerKind.TheVariants.{BlockQuote}
+use Rattle.md_engine.specs.declared.tokenizer.container.Container.{Container}
+use Rattle.md_engine.specs.declared.tokenizer.container.ContainerKind.TheVariants.{BlockQuote}
 use Rattle.md_engine.specs.World.{Flags}
 
 -- the outermost container that was not asked yet whether it goes on

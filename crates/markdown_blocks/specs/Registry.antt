@@ -10,8 +10,8 @@ use Rattle.md_seam.specs.Standard.State.{Container, InQuote}
 use Rattle.markdown_blocks.specs.Containers.BlockQuote.{quote_new, quote_on}
 use Rattle.markdown_blocks.specs.Passed.{Passed}
 use Rattle.md_engine.specs.declared.event.Name.{Name}
-use Rattle.md_engine.specs.declared.resolve.Name.{Name as ResolveName}
-use Rattle.md_engine.specs.declared.resolve.Name.TheVariants as r
+use Rattle.md_engine.specs.declared.resolve.name.Name.{Name as ResolveName}
+use Rattle.md_engine.specs.declared.resolve.name.Name.TheVariants as r
 use Rattle.markdown_blocks.specs.Leaf.HeadingAtx.{heading_leaf}
 use Rattle.markdown_blocks.specs.Leaf.ThematicBreak.{break_leaf}
 use Rattle.markdown_blocks.specs.LineLeaf.{LineLeaf}

@@ -1,7 +1,7 @@
 -- What each resolver does.
 use Rattle.std.specs.Prelude.{◌≡◌, Option, None}
-use Rattle.md_engine.specs.declared.resolve.Name.{Name as ResolveName}
-use Rattle.md_engine.specs.declared.resolve.Name.TheVariants.{Content}
+use Rattle.md_engine.specs.declared.resolve.name.Name.{Name as ResolveName}
+use Rattle.md_engine.specs.declared.resolve.name.Name.TheVariants.{Content}
 use Rattle.md_engine.specs.Found.{Found}
 use Rattle.md_engine.specs.World.{World}
 use Rattle.md_content.specs.Resolves.{Resolves}

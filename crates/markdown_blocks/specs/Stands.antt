@@ -6,7 +6,7 @@
 -- what its scratch holds.
 use Rattle.std.specs.Prelude.{◌≡◌, Bool, List, [], ◌∷◌, None}
 use Rattle.md_engine.specs.declared.configuration.ParseOptions.{ParseOptions}
-use Rattle.md_engine.specs.declared.tokenizer.Container.{Container as Held}
+use Rattle.md_engine.specs.declared.tokenizer.container.Container.{Container as Held}
 use Rattle.md_engine.specs.World.{Flags}
 use Rattle.md_seam.specs.Events.Spelled.{Around, Reading}
 use Rattle.markdown_blocks.specs.ContainerKinds.{MatchesContainer, shape_of}

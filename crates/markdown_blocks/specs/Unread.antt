@@ -7,7 +7,7 @@ use Rattle.md_engine.specs.declared.event.Name.TheVariants as n
 use Rattle.md_content.specs.Chunks.{content_link}
 use Rattle.md_seam.specs.declared.inline.Chunk.{Chunk}
 use Rattle.md_seam.specs.Events.Nested.{enter_link, exit}
-pub use Rattle.markdown_blocks.specs.BlockList.{linked_lines, titled_group, titled_groups, titled_row_by, unread_paragraph}
+pub use Rattle.markdown_blocks.specs.BlockList.{linked_lines, listed_group, listed_groups, listed_row_by, unread_paragraph}
 use Rattle.markdown_blocks.specs.Rows.{Group, Lines, Single, last_row, row_events, tail_events}
 
 -- the chunks of a part that is not read yet

@@ -2,7 +2,7 @@
 use Rattle.std.proofs.Common.{◌≡◌, ℕ, Bool, true, false, nat_eq, List, [], ◌∷◌, ◌++◌, Option, Some, None, refl, sym, ◌∙◌, ap, append_assoc}
 use Rattle.md_engine.specs.declared.configuration.ParseOptions.{ParseOptions}
 use Rattle.md_engine.specs.declared.event.Name.TheVariants as parts
-use Rattle.md_engine.specs.declared.resolve.Name.{Name as ResolveName}
+use Rattle.md_engine.specs.declared.resolve.name.Name.{Name as ResolveName}
 use Rattle.md_engine.specs.declared.state.Name.{Name as StateName}
 use Rattle.md_engine.specs.declared.state.Name.TheVariants as n
 use Rattle.md_engine.specs.declared.state.content.State.{State as ContentState}

@@ -3,8 +3,8 @@ use Rattle.std.specs.Prelude.{refl, Bool, true, false, None}
 use Rattle.md_engine.specs.declared.event.Link.{Link}
 use Rattle.md_engine.specs.declared.event.Content.TheVariants as content
 use Rattle.md_engine.specs.declared.event.Name.TheVariants as parts
-use Rattle.md_engine.specs.declared.resolve.Name.{Name as ResolveName}
-use Rattle.md_engine.specs.declared.resolve.Name.TheVariants.{Content as ContentResolver}
+use Rattle.md_engine.specs.declared.resolve.name.Name.{Name as ResolveName}
+use Rattle.md_engine.specs.declared.resolve.name.Name.TheVariants.{Content as ContentResolver}
 use Rattle.md_engine.specs.declared.state.Name.{Name as StateName}
 use Rattle.md_engine.specs.declared.state.Name.TheVariants as n
 use Rattle.md_engine.specs.declared.state.content.State.{State as ContentState}

@@ -8,9 +8,10 @@ use Rattle.std.proofs.Math.Seq.{drop-append_seam, take-append_seam}
 use Rattle.md_engine.specs.declared.event.Event.{Event}
 use Rattle.md_engine.specs.declared.event.Kind.TheVariants.{Exit}
 use Rattle.md_engine.specs.declared.event.Point.{Point}
-use Rattle.md_engine.specs.declared.tokenizer.Container.{Container}
+use Rattle.md_engine.specs.declared.tokenizer.container.Container.{Container}
 use Rattle.md_engine.specs.declared.tokenizer.Frame.{Frame}
-use Rattle.md_engine.specs.Ends.{ends_at, name_of, put}
+use Rattle.md_engine.specs.ContainerName.{name_of}
+use Rattle.md_engine.specs.Ends.{ends_at, put}
 use Rattle.md_engine.specs.Place.{IsPlaced}
 use Rattle.md_engine.specs.Sound.{IsSaved, IsSound}
 

@@ -2,16 +2,9 @@
 use Rattle.std.specs.Prelude.{ℕ, List, [], ◌∷◌, ◌++◌, take, drop, None}
 use Rattle.md_engine.specs.declared.event.Event.{Event}
 use Rattle.md_engine.specs.declared.event.Kind.TheVariants.{Exit}
-use Rattle.md_engine.specs.declared.event.Name.{Name}
-use Rattle.md_engine.specs.declared.event.Name.TheVariants as n
 use Rattle.md_engine.specs.declared.event.Point.{Point}
-use Rattle.md_engine.specs.declared.tokenizer.Container.{Container}
-use Rattle.md_engine.specs.declared.tokenizer.ContainerKind.{ContainerKind}
-use Rattle.md_engine.specs.declared.tokenizer.ContainerKind.TheVariants as kind
-
--- the name of a container's events
-abbrev pub name_of : ContainerKind → Name
-name_of kind.BlockQuote = n.BlockQuote
+use Rattle.md_engine.specs.ContainerName.{name_of}
+use Rattle.md_engine.specs.declared.tokenizer.container.Container.{Container}
 
 -- the ends of containers at a point, the innermost first; the outermost stands first among them
 abbrev pub ends_at : List Container → Point → List Event

@@ -2,6 +2,7 @@ pub mod Place
 pub mod Sound
 pub mod World
 pub mod Resolvers
+pub mod ContainerName
 pub mod Ends
 pub mod Found
 pub mod Run

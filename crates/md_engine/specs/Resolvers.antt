@@ -1,21 +1,8 @@
 -- The names of resolvers: when two are the same.
-use Rattle.std.specs.Prelude.{ℕ, Bool, ◌==◌}
-use Rattle.md_engine.specs.declared.resolve.Name.{Name}
-use Rattle.md_engine.specs.declared.resolve.Name.TheVariants as r
+use Rattle.std.specs.Prelude.{Bool}
+use Rattle.md_engine.specs.contracts.resolve.name.NamePartialEq.TheImpl as names
+use Rattle.md_engine.specs.declared.resolve.name.Name.{Name}
 
--- the place of a name in the list of names
-abbrev pub name_place : Name → ℕ
-name_place r.Label = 0
-name_place r.Attention = 1
-name_place r.GfmTable = 2
-name_place r.HeadingAtx = 3
-name_place r.HeadingSetext = 4
-name_place r.ListItem = 5
-name_place r.Content = 6
-name_place r.Data = 7
-name_place r.String = 8
-name_place r.Text = 9
-
--- whether two names are the same
+-- whether two names are the same, as the derived test of the names has it
 abbrev pub same_name : Name → Name → Bool
-same_name a b = name_place a == name_place b
+same_name a b = names.ghosts.eq a b

@@ -6,13 +6,17 @@
 ghost use Rattle.std.specs.Prelude.{◌≡◌, ◌-◌, IfOk, drop, ◌+◌, ◌^◌, ◌∷◌, ◌++◌, ◌<◌, ◌≤◌, [], length, All, AllPairs, if◌then◌else◌, is_ok, nat_le, nat_lt, ◌==◌, true, false, Some, None, take, IfSome, IfNone, reverse, slice_index};
 ghost use Rattle.md_engine.specs.Place.{IsPlaced, begun_at, is_pair, next_point, stepped};
 ghost use Rattle.md_engine.specs.Sound.{IsSound};
-ghost use Rattle.md_engine.specs.Ends.{ends_at, name_of, point_of, put};
+ghost use Rattle.md_engine.specs.Ends.{ends_at, point_of, put};
+
+pub mod container;
 
 use crate::configuration::ParseOptions;
 use crate::event::{Event, Kind, Link, Name, Point};
 use crate::message::Message;
 use crate::resolve::Name as ResolveName;
 use crate::state::State;
+use crate::tokenizer::container::name_of;
+pub use crate::tokenizer::container::{Container, ContainerKind};
 use std::alloc::Global;
 use std::mem;
 
@@ -93,18 +97,6 @@ pub struct Flags {
     pub continued: usize,
     /// The index of the first event behind the line that was read last: of its ending, if it has one.
     pub line_end: usize,
-}
-
-/// The kinds of containers.
-#[derive(Clone, Copy, Debug, PartialEq, Eq)]
-pub enum ContainerKind {
-    BlockQuote,
-}
-
-/// A container that is open.
-#[derive(Clone, Copy, Debug, PartialEq, Eq)]
-pub struct Container {
-    pub kind: ContainerKind,
 }
 
 /// What the containers say of the line that is fed.
@@ -205,15 +197,6 @@ fn step(point: Point, byte: u8, pair: bool) -> Point
             index: index + 1,
             vs: 0,
         }
-    }
-}
-
-/// The name of a container's events.
-fn name_of(kind: ContainerKind) -> Name
-    ensures { result ≡ name_of kind }
-{
-    match kind {
-        ContainerKind::BlockQuote => Name::BlockQuote,
     }
 }
 

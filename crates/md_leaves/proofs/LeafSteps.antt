@@ -20,7 +20,8 @@ pub sees-one : (feed : Feed) (w : World) (t : Option ℕ → Bool) → t None �
     (b : ℕ) × (feed w.point ≡ cell_here feed w b ∷ feed (after w.setting w.point)) × (t (Some b) ≡ true)
 sees-one feed w t none s e = go w.current e s.next
   where
-    go : (o : Option ℕ) → t o ≡ true → feed w.point ≡ ahead feed w o → (b : ℕ) × (feed w.point ≡ cell_here feed w b ∷ feed (after w.setting w.point)) × (t (Some b) ≡ true)
+    go : (o : Option ℕ) → t o ≡ true → feed w.point ≡ ahead feed w o →
+        (b : ℕ) × (feed w.point ≡ cell_here feed w b ∷ feed (after w.setting w.point)) × (t (Some b) ≡ true)
     go None e k = let bad : true ≡ false = sym e ∙ none in cc
     go (Some b) e k = (b, k, e)
 
@@ -53,7 +54,8 @@ white-run P inside behind room [] h takes is le = takes.none h is
 white-run P inside behind zero (c ∷ cs) h takes is le = absurd (omega arith)
 white-run P inside behind (suc room) (c ∷ cs) h takes is le = go (is_white c.byte) refl (white-run P inside behind room cs (record h { point = c.after }) takes is (omega arith))
   where
-    go : (x : Bool) → is_white c.byte ≡ x → inside cs (record h { point = c.after }) ≡ behind (white_rest room cs) (here_after room cs (record h { point = c.after })) →
+    go : (x : Bool) → is_white c.byte ≡ x →
+        inside cs (record h { point = c.after }) ≡ behind (white_rest room cs) (here_after room cs (record h { point = c.after })) →
         inside (c ∷ cs) h ≡ behind (white_rest (suc room) (c ∷ cs)) (here_after (suc room) (c ∷ cs) h)
     go true s on = takes.more c cs h is s ∙ on ∙ rw s refl
     go false k on = takes.stop c cs h is k ∙ rw k refl

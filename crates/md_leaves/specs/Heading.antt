@@ -3,8 +3,8 @@ use Rattle.std.specs.Prelude.{refl, ℕ, ◌+◌, ◌≤◌, Bool, true, false, 
 use Rattle.md_engine.specs.declared.event.Content.TheVariants as content
 use Rattle.md_engine.specs.declared.event.Link.{Link}
 use Rattle.md_engine.specs.declared.event.Name.TheVariants.{Data, HeadingAtx, HeadingAtxSequence}
-use Rattle.md_engine.specs.declared.resolve.Name.{Name as ResolveName}
-use Rattle.md_engine.specs.declared.resolve.Name.TheVariants.{HeadingAtx as HeadingResolver}
+use Rattle.md_engine.specs.declared.resolve.name.Name.{Name as ResolveName}
+use Rattle.md_engine.specs.declared.resolve.name.Name.TheVariants.{HeadingAtx as HeadingResolver}
 use Rattle.md_engine.specs.declared.state.Name.{Name as StateName}
 use Rattle.md_engine.specs.declared.state.Name.TheVariants as n
 use Rattle.md_engine.specs.declared.state.heading_atx.State.{State as HeadingState}

@@ -50,7 +50,8 @@ shallow-shape : (f : Shape → Shape) (outer : List Around) → outer_shallow (o
 shallow-shape f [] = refl
 shallow-shape f (around ∷ outer) = refl
 
-shallow-told : (bytes : List ℕ) (x : Purpose) (p : Point) (text : Option Text) (r : Reading) → IsShallow (told_at bytes x p text r) → IsShallow r
+shallow-told : (bytes : List ℕ) (x : Purpose) (p : Point) (text : Option Text) (r : Reading) →
+    IsShallow (told_at bytes x p text r) → IsShallow r
 shallow-told bytes x p None r d = d
 shallow-told bytes AsParagraph p (Some text) r d = (shallow-before r.here _ d.0, d.1)
 shallow-told bytes AsDigits p (Some text) r d = (d.0, sym (shallow-shape _ r.outer) ∙ d.1)
@@ -58,7 +59,8 @@ shallow-told bytes AsItemMarker p (Some text) r d = (d.0, sym (shallow-shape _ r
 shallow-told bytes AsFootnoteLabel p (Some text) r d = (d.0, sym (shallow-shape _ r.outer) ∙ d.1)
 shallow-told bytes _ p (Some text) r d = d
 
-shallow-ending : (bytes : List ℕ) (p : Point) (text : Option Text) (r : Reading) → IsShallow (at_ending bytes p text r) → IsShallow r
+shallow-ending : (bytes : List ℕ) (p : Point) (text : Option Text) (r : Reading) →
+    IsShallow (at_ending bytes p text r) → IsShallow r
 shallow-ending bytes p (Some text) r d = d
 shallow-ending bytes p None r d = go (nat_lt p.index (length bytes)) d
   where
@@ -66,7 +68,8 @@ shallow-ending bytes p None r d = go (nat_lt p.index (length bytes)) d
     go true d = d
     go false d = d
 
-shallow-step : (bytes : List ℕ) (kind : Kind) (x : Role) (p : Point) (r : Reading) → IsShallow (read_by bytes kind x p r) → IsShallow r
+shallow-step : (bytes : List ℕ) (kind : Kind) (x : Role) (p : Point) (r : Reading) →
+    IsShallow (read_by bytes kind x p r) → IsShallow r
 shallow-step bytes Enter (Holds shape) p r d = and_parts (are_shallow r.here) (outer_shallow r.outer) d.1
 shallow-step bytes Exit (Holds shape) p r d = shallow-left r.outer r refl d
 shallow-step bytes Exit (Opens kind) p r d = shallow-finished r.leaf r d

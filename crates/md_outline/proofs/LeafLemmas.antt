@@ -18,19 +18,22 @@ LeafIs (OpenHeading h) (HeadingAtxLeaf heading) = IsHeading h heading
 LeafIs _ _ = ⊥
 
 -- where it ends, it is shown as its block is
-pub leaf-shown : (depth : ℕ) (x : LeafState) (leaf : OpenLeaf) → LeafIs x leaf → is_shallow (block_of leaf) ≡ true → leaf_entries depth x ≡ block_entries depth (block_of leaf)
+pub leaf-shown : (depth : ℕ) (x : LeafState) (leaf : OpenLeaf) → LeafIs x leaf → is_shallow (block_of leaf) ≡ true →
+    leaf_entries depth x ≡ block_entries depth (block_of leaf)
 leaf-shown depth OpenBreak BreakLeaf is shallow = refl
 leaf-shown depth (OpenHeading h) (HeadingAtxLeaf heading) is shallow = heading-shown depth h heading is shallow
 leaf-shown depth _ _ is shallow = absurd is
 
 -- a run of markers
-pub leaf-marked : (x : LeafState) (leaf : OpenLeaf) (line : Line) → LeafIs x leaf → LeafIs (noted purpose.Markers line.text x) (spelled.noted AsMarkers line leaf)
+pub leaf-marked : (x : LeafState) (leaf : OpenLeaf) (line : Line) → LeafIs x leaf →
+    LeafIs (noted purpose.Markers line.text x) (spelled.noted AsMarkers line leaf)
 leaf-marked OpenBreak BreakLeaf line is = tt
 leaf-marked (OpenHeading h) (HeadingAtxLeaf heading) line is = heading-marked h heading line.text is
 leaf-marked _ _ line is = absurd is
 
 -- a title
-pub leaf-titled : (x : LeafState) (leaf : OpenLeaf) (line : Line) → LeafIs x leaf → LeafIs (noted purpose.Title line.text x) (spelled.noted AsHeading line leaf)
+pub leaf-titled : (x : LeafState) (leaf : OpenLeaf) (line : Line) → LeafIs x leaf →
+    LeafIs (noted purpose.Title line.text x) (spelled.noted AsHeading line leaf)
 leaf-titled OpenBreak BreakLeaf line is = tt
 leaf-titled (OpenHeading h) (HeadingAtxLeaf heading) line is = heading-titled h heading line.text is
 leaf-titled _ _ line is = absurd is
@@ -42,7 +45,8 @@ leaf-line (OpenHeading h) (HeadingAtxLeaf heading) is = refl
 leaf-line _ _ is = absurd is
 
 -- what it is told leaves its texts UTF-8
-pub leaf-is_text : (x : Purpose) (text : List ℕ) (leaf : LeafState) → IsUtf8 text → StateIsText leaf → StateIsText (noted x text leaf)
+pub leaf-is_text : (x : Purpose) (text : List ℕ) (leaf : LeafState) → IsUtf8 text → StateIsText leaf →
+    StateIsText (noted x text leaf)
 leaf-is_text purpose.Paragraph text (OpenHeading h) u is = is
 leaf-is_text purpose.Markers text (OpenHeading h) u is = is
 leaf-is_text purpose.Title text (OpenHeading h) u is = title-is_text h.text text u is

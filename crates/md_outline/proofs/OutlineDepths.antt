@@ -32,7 +32,8 @@ shallower-deeper : (x : Role) (n : ℕ) → shallower x (deeper x n) ≡ n
 shallower-deeper (Holds shape) n = omega arith
 shallower-deeper _ n = refl
 
-depth-enter : (bytes : List ℕ) (x : Role) (p : Point) (r : Reading) → depth_of (read_enter bytes x p r).outer ≡ deeper x (depth_of r.outer)
+depth-enter : (bytes : List ℕ) (x : Role) (p : Point) (r : Reading) →
+    depth_of (read_enter bytes x p r).outer ≡ deeper x (depth_of r.outer)
 depth-enter bytes (Holds shape) p r = refl
 depth-enter bytes _ p r = refl
 
@@ -44,7 +45,8 @@ depth-finished : (leaf : Option OpenLeaf) (r : Reading) → depth_of (finished l
 depth-finished None r = refl
 depth-finished (Some leaf) r = refl
 
-depth-ending : (bytes : List ℕ) (p : Point) (text : Option Text) (r : Reading) → depth_of (at_ending bytes p text r).outer ≡ depth_of r.outer
+depth-ending : (bytes : List ℕ) (p : Point) (text : Option Text) (r : Reading) →
+    depth_of (at_ending bytes p text r).outer ≡ depth_of r.outer
 depth-ending bytes p (Some text) r = refl
 depth-ending bytes p None r = go (nat_lt p.index (length bytes))
   where
@@ -56,7 +58,8 @@ depth-shape : (f : Shape → Shape) (outer : List Around) → depth_of (on_shape
 depth-shape f [] = refl
 depth-shape f (around ∷ outer) = refl
 
-depth-told : (bytes : List ℕ) (x : Purpose) (p : Point) (text : Option Text) (r : Reading) → depth_of (told_at bytes x p text r).outer ≡ depth_of r.outer
+depth-told : (bytes : List ℕ) (x : Purpose) (p : Point) (text : Option Text) (r : Reading) →
+    depth_of (told_at bytes x p text r).outer ≡ depth_of r.outer
 depth-told bytes x p None r = refl
 depth-told bytes AsDigits p (Some text) r = depth-shape _ r.outer
 depth-told bytes AsItemMarker p (Some text) r = depth-shape _ r.outer
@@ -64,14 +67,16 @@ depth-told bytes AsFootnoteLabel p (Some text) r = depth-shape _ r.outer
 depth-told bytes AsParagraph p (Some text) r = refl
 depth-told bytes _ p (Some text) r = refl
 
-depth-exit : (bytes : List ℕ) (x : Role) (p : Point) (r : Reading) → depth_of (read_exit bytes x p r).outer ≡ shallower x (depth_of r.outer)
+depth-exit : (bytes : List ℕ) (x : Role) (p : Point) (r : Reading) →
+    depth_of (read_exit bytes x p r).outer ≡ shallower x (depth_of r.outer)
 depth-exit bytes (Holds shape) p r = depth-left r.outer r refl
 depth-exit bytes (Opens kind) p r = depth-finished r.leaf r
 depth-exit bytes (Tells x) p r = depth-told bytes x p r.text r
 depth-exit bytes IsEnding p r = depth-ending bytes p r.text r
 depth-exit bytes _ p r = refl
 
-depth-step : (bytes : List ℕ) (kind : Kind) (name : Name) (p : Point) (r : Reading) (names : List Name) → Fits names kind name → depth_of r.outer ≡ held names →
+depth-step : (bytes : List ℕ) (kind : Kind) (name : Name) (p : Point) (r : Reading) (names : List Name) →
+    Fits names kind name → depth_of r.outer ≡ held names →
     depth_of (read_by bytes kind (role name) p r).outer ≡ held (open_behind names kind name)
 depth-step bytes Enter name p r names f e = depth-enter bytes (role name) p r ∙ ap (deeper (role name)) e
 depth-step bytes Exit name p r [] f e = absurd f
@@ -80,7 +85,8 @@ depth-step bytes Exit name p r (innermost ∷ names) f e =
     ∙ ap (shallower (role name)) (e ∙ ap (λ (n : Name). deeper (role n) (held names)) f)
     ∙ shallower-deeper (role name) (held names)
 
-depth-all : (bytes : List ℕ) (events : List Event) (r : Reading) (names : List Name) → Matches names events → depth_of r.outer ≡ held names →
+depth-all : (bytes : List ℕ) (events : List Event) (r : Reading) (names : List Name) → Matches names events →
+    depth_of r.outer ≡ held names →
     depth_of (read bytes r events).outer ≡ held (open_after names events)
 depth-all bytes [] r names m e = e
 depth-all bytes (x ∷ events) r names m e =

@@ -41,7 +41,8 @@ use Rattle.md_outline.proofs.RoleLemmas.{ByRole, IsNote, IsShownBy, by-role}
 use Rattle.md_outline.proofs.TextCuts.{utf8-part}
 
 -- a block that is added last is shown last
-pub outline-then : (depth : ℕ) (bs : Blocks) (b : Block) → outline depth (then_block bs b) ≡ outline depth bs ++ block_entries depth b
+pub outline-then : (depth : ℕ) (bs : Blocks) (b : Block) →
+    outline depth (then_block bs b) ≡ outline depth bs ++ block_entries depth b
 outline-then depth End b = append-nil (block_entries depth b)
 outline-then depth (More a bs) b = ap (λ es. block_entries depth a ++ es) (outline-then depth bs b) ∙ sym (append_assoc (block_entries depth a) (outline depth bs) (block_entries depth b))
 
@@ -52,18 +53,21 @@ abbrev shown : List Around → Blocks → List Entry
 shown [] here = outline 0 here
 shown (around ∷ outer) here = (shown outer around.before ++ block_entries (depth_of outer) (block_around around.shape End)) ++ outline (depth_of outer + 1) here
 
-shown-then : (outer : List Around) (here : Blocks) (b : Block) → shown outer (then_block here b) ≡ shown outer here ++ block_entries (depth_of outer) b
+shown-then : (outer : List Around) (here : Blocks) (b : Block) →
+    shown outer (then_block here b) ≡ shown outer here ++ block_entries (depth_of outer) b
 shown-then [] here b = outline-then 0 here b
 shown-then (around ∷ outer) here b =
     let front : List Entry = shown outer around.before ++ block_entries (depth_of outer) (block_around around.shape End) in
     ap (λ es. front ++ es) (outline-then (depth_of outer + 1) here b) ∙ sym (append_assoc front (outline (depth_of outer + 1) here) (block_entries (depth_of outer + 1) b))
 
 -- the line that such a container begins with
-begin-line : (shape : Shape) (w : Word) (depth : ℕ) → IsShownBy shape w → block_entries depth (block_around shape End) ≡ entry depth w ∷ []
+begin-line : (shape : Shape) (w : Word) (depth : ℕ) → IsShownBy shape w →
+    block_entries depth (block_around shape End) ≡ entry depth w ∷ []
 begin-line shape w depth by = by.lines depth End
 
 -- one that ends is shown as it was
-shown-left : (around : Around) (outer : List Around) (here : Blocks) (w : Word) → IsShownBy around.shape w → shown (around ∷ outer) here ≡ shown outer (then_block around.before (block_around around.shape here))
+shown-left : (around : Around) (outer : List Around) (here : Blocks) (w : Word) → IsShownBy around.shape w →
+    shown (around ∷ outer) here ≡ shown outer (then_block around.before (block_around around.shape here))
 shown-left around outer here w by =
     ap (λ es. (shown outer around.before ++ es) ++ outline (depth_of outer + 1) here) (begin-line around.shape w (depth_of outer) by)
     ∙ append_assoc (shown outer around.before) (entry (depth_of outer) w ∷ []) (outline (depth_of outer + 1) here)
@@ -98,14 +102,17 @@ record Agrees (s : OutlineState) (r : Reading) : Type 0 where
   pub text : TextIs (shown r.outer r.here) s.depth s.lines s.text r.text
 
 -- where no text is parted, the lines are those of the tree
-text-lines : (before : List Entry) (depth : ℕ) (lines : List Entry) (span : Option Span) (text : Option Text) → is_unparted span ≡ true → TextIs before depth lines span text → lines ≡ before
+text-lines : (before : List Entry) (depth : ℕ) (lines : List Entry) (span : Option Span) (text : Option Text) →
+    is_unparted span ≡ true → TextIs before depth lines span text → lines ≡ before
 text-lines before depth lines None None h k = k
 text-lines before depth lines (Some span) (Some text) h k = (pieces-none before depth lines span.is_parted text.front h k.1).0
 text-lines before depth lines None (Some text) h k = absurd k
 text-lines before depth lines (Some span) None h k = absurd k
 
 -- and the text stays when lines and blocks are added
-text-stays : (before before' : List Entry) (depth depth' : ℕ) (lines lines' : List Entry) (span : Option Span) (text : Option Text) → is_unparted span ≡ true → (lines ≡ before → lines' ≡ before') → TextIs before depth lines span text → TextIs before' depth' lines' span text
+text-stays : (before before' : List Entry) (depth depth' : ℕ) (lines lines' : List Entry) (span : Option Span) (text : Option Text) →
+    is_unparted span ≡ true → (lines ≡ before → lines' ≡ before') → TextIs before depth lines span text →
+    TextIs before' depth' lines' span text
 text-stays before before' depth depth' lines lines' None None h f k = f k
 text-stays before before' depth depth' lines lines' (Some span) (Some text) h f k =
     let pieces = pieces-none before depth lines span.is_parted text.front h k.1 in
@@ -114,7 +121,9 @@ text-stays before before' depth depth' lines lines' None (Some text) h f k = abs
 text-stays before before' depth depth' lines lines' (Some span) None h f k = absurd k
 
 -- a leaf ends
-agrees-leaf : (s : OutlineState) (r : Reading) (x : Option LeafState) (leaf : Option OpenLeaf) → SameLeaf x leaf → is_unparted s.text ≡ true → are_shallow (finished leaf r).here ≡ true → Agrees s r → Agrees (leaf_ended x s) (finished leaf r)
+agrees-leaf : (s : OutlineState) (r : Reading) (x : Option LeafState) (leaf : Option OpenLeaf) → SameLeaf x leaf →
+    is_unparted s.text ≡ true → are_shallow (finished leaf r).here ≡ true → Agrees s r →
+    Agrees (leaf_ended x s) (finished leaf r)
 agrees-leaf s r None None h k d is = is
 agrees-leaf s r None (Some leaf) h k d is = absurd h
 agrees-leaf s r (Some x) None h k d is = absurd h
@@ -135,7 +144,8 @@ agrees-leaf s r (Some x) (Some leaf) h k d is =
     }
 
 -- a leaf is told of a text
-same-noted : (x : spelled.Purpose) (y : Purpose) (state : Option LeafState) (leaf : Option OpenLeaf) (line : Line) (text : List ℕ) → IsNote x y → line.text ≡ text → SameLeaf state leaf →
+same-noted : (x : spelled.Purpose) (y : Purpose) (state : Option LeafState) (leaf : Option OpenLeaf) (line : Line) (text : List ℕ) →
+    IsNote x y → line.text ≡ text → SameLeaf state leaf →
     SameLeaf (option_map (noted y text) state) (option_map (spelled.noted x line) leaf)
 same-noted x y None None line text by e h = tt
 same-noted x y None (Some leaf) line text by e h = absurd h
@@ -150,12 +160,16 @@ same-line (Some x) None h = absurd h
 same-line (Some x) (Some leaf) h = ap Some (leaf-line x leaf h)
 
 -- a text that has no prefix in it is one piece
-whole-piece : (bytes : List ℕ) (p : Point) (before : List Entry) (depth : ℕ) (lines : List Entry) (span : Span) (text : Text) → not span.is_parted ≡ true → TextIs before depth lines (Some span) (Some text) → text_to bytes p.index text ≡ slice_range bytes span.from p.index
+whole-piece : (bytes : List ℕ) (p : Point) (before : List Entry) (depth : ℕ) (lines : List Entry) (span : Span) (text : Text) →
+    not span.is_parted ≡ true → TextIs before depth lines (Some span) (Some text) →
+    text_to bytes p.index text ≡ slice_range bytes span.from p.index
 whole-piece bytes p before depth lines span text h k =
     ap (λ f. f ++ slice_range bytes text.from p.index) (pieces-none before depth lines span.is_parted text.front h k.1).1 ∙ ap (λ i. slice_range bytes i p.index) k.0
 
 -- what an outline shows of a text that ends
-agrees-paragraph : (bytes : List ℕ) (p : Point) (s : OutlineState) (r : Reading) (span : Option Span) (text : Option Text) → TextIs (shown r.outer r.here) s.depth s.lines span text → parts_by bytes Exit (Tells AsParagraph) p span ≡ true → Agrees s r →
+agrees-paragraph : (bytes : List ℕ) (p : Point) (s : OutlineState) (r : Reading) (span : Option Span) (text : Option Text) →
+    TextIs (shown r.outer r.here) s.depth s.lines span text → parts_by bytes Exit (Tells AsParagraph) p span ≡ true →
+    Agrees s r →
     Agrees (told_at bytes purpose.Paragraph p.index span s) (spelled.told_at bytes AsParagraph p text r)
 agrees-paragraph bytes p s r None None h k is = is
 agrees-paragraph bytes p s r None (Some text) h k is = absurd h
@@ -175,7 +189,8 @@ agrees-paragraph bytes p s r (Some span) (Some text) h k is =
     }
 
 -- a text that says something of a leaf
-agrees-note : (bytes : List ℕ) (x : spelled.Purpose) (y : Purpose) (p : Point) (s : OutlineState) (r : Reading) (span : Option Span) (text : Option Text) → IsNote x y → TextIs (shown r.outer r.here) s.depth s.lines span text → is_unparted span ≡ true →
+agrees-note : (bytes : List ℕ) (x : spelled.Purpose) (y : Purpose) (p : Point) (s : OutlineState) (r : Reading) (span : Option Span) (text : Option Text) →
+    IsNote x y → TextIs (shown r.outer r.here) s.depth s.lines span text → is_unparted span ≡ true →
     Agrees s r → Agrees (told_at bytes y p.index span s) (spelled.told_at bytes x p text r)
 agrees-note bytes x y p s r None None by h k is = is
 agrees-note bytes x y p s r None (Some text) by h k is = absurd h
@@ -193,7 +208,9 @@ agrees-note bytes x y p s r (Some span) (Some text) by h k is =
     }))
 
 -- a prefix begins
-agrees-prefix : (bytes : List ℕ) (p : Point) (s : OutlineState) (r : Reading) (span : Option Span) (text : Option Text) → s.text ≡ span → TextIs (shown r.outer r.here) s.depth s.lines span text → parts_by bytes Enter IsPrefix p span ≡ true → Agrees s r →
+agrees-prefix : (bytes : List ℕ) (p : Point) (s : OutlineState) (r : Reading) (span : Option Span) (text : Option Text) →
+    s.text ≡ span → TextIs (shown r.outer r.here) s.depth s.lines span text →
+    parts_by bytes Enter IsPrefix p span ≡ true → Agrees s r →
     Agrees (parted_at bytes p.index span s) (record r { text = option_map (before_prefix bytes p) text })
 agrees-prefix bytes p s r None None e h k is = record { depth = is.depth; containers = is.containers; leaf = is.leaf; text = subst (λ x. TextIs (shown r.outer r.here) s.depth s.lines x None) (sym e) h }
 agrees-prefix bytes p s r None (Some text) e h k is = absurd h
@@ -214,7 +231,8 @@ agrees-prefix bytes p s r (Some span) (Some text) e h k is =
     }
 
 -- a prefix ends
-agrees-gone_on : (p : Point) (before : List Entry) (depth : ℕ) (lines : List Entry) (span : Option Span) (text : Option Text) → TextIs before depth lines span text →
+agrees-gone_on : (p : Point) (before : List Entry) (depth : ℕ) (lines : List Entry) (span : Option Span) (text : Option Text) →
+    TextIs before depth lines span text →
     TextIs before depth lines (option_map (λ (t : Span). record t { from = byte_at p }) span) (option_map (after_prefix p) text)
 agrees-gone_on p before depth lines None None h = h
 agrees-gone_on p before depth lines (Some span) (Some text) h = (refl, h.1)
@@ -222,7 +240,8 @@ agrees-gone_on p before depth lines None (Some text) h = absurd h
 agrees-gone_on p before depth lines (Some span) None h = absurd h
 
 -- a container ends
-agrees-left : (s : OutlineState) (r : Reading) (outer : List Around) → r.outer ≡ outer → is_unparted s.text ≡ true → Agrees s r → Agrees (record s { depth = s.depth - 1 }) (left outer r)
+agrees-left : (s : OutlineState) (r : Reading) (outer : List Around) → r.outer ≡ outer → is_unparted s.text ≡ true →
+    Agrees s r → Agrees (record s { depth = s.depth - 1 }) (left outer r)
 agrees-left s r [] e h is =
     let none : depth_of r.outer ≡ 0 = ap depth_of e in
     record {
@@ -244,7 +263,8 @@ agrees-left s r (around ∷ outer) e h is =
           is.text;
     }
 
-agrees-ending : (bytes : List ℕ) (p : Point) (s : OutlineState) (r : Reading) (text : Option Text) → Agrees s r → Agrees s (at_ending bytes p text r)
+agrees-ending : (bytes : List ℕ) (p : Point) (s : OutlineState) (r : Reading) (text : Option Text) → Agrees s r →
+    Agrees s (at_ending bytes p text r)
 agrees-ending bytes p s r (Some text) is = is
 agrees-ending bytes p s r None is = go (nat_lt p.index (length bytes))
   where
@@ -260,7 +280,8 @@ StandsApart (Opens kind) = Unit {0}
 StandsApart (Tells x) = Unit {0}
 StandsApart _ = ⊥
 
-apart-enter : (bytes : List ℕ) (x : spelled.Role) (p : Point) (span : Option Span) → StandsApart x → parts_by bytes Enter x p span ≡ true → is_unparted span ≡ true
+apart-enter : (bytes : List ℕ) (x : spelled.Role) (p : Point) (span : Option Span) → StandsApart x →
+    parts_by bytes Enter x p span ≡ true → is_unparted span ≡ true
 apart-enter bytes x p None a h = refl
 apart-enter bytes (Holds shape) p (Some span) a h = h
 apart-enter bytes (Opens kind) p (Some span) a h = h
@@ -272,18 +293,21 @@ EndsApart (Holds shape) = Unit {0}
 EndsApart (Opens kind) = Unit {0}
 EndsApart _ = ⊥
 
-apart-exit : (bytes : List ℕ) (x : spelled.Role) (p : Point) (span : Option Span) → EndsApart x → parts_by bytes Exit x p span ≡ true → is_unparted span ≡ true
+apart-exit : (bytes : List ℕ) (x : spelled.Role) (p : Point) (span : Option Span) → EndsApart x →
+    parts_by bytes Exit x p span ≡ true → is_unparted span ≡ true
 apart-exit bytes x p None a h = refl
 apart-exit bytes (Holds shape) p (Some span) a h = h
 apart-exit bytes (Opens kind) p (Some span) a h = h
 apart-exit bytes _ p (Some span) a h = absurd a
 
-apart-note : (bytes : List ℕ) (x : spelled.Purpose) (y : Purpose) (p : Point) (span : Option Span) → IsNote x y → parts_by bytes Exit (Tells x) p span ≡ true → is_unparted span ≡ true
+apart-note : (bytes : List ℕ) (x : spelled.Purpose) (y : Purpose) (p : Point) (span : Option Span) → IsNote x y →
+    parts_by bytes Exit (Tells x) p span ≡ true → is_unparted span ≡ true
 apart-note bytes x y p None by h = refl
 apart-note bytes x y p (Some span) by h = sym (by.whole bytes p span) ∙ h
 
 -- the step of one event, by what it means
-agrees-begun : (p : Point) (s : OutlineState) (r : Reading) → is_unparted s.text ≡ true → Agrees s r → Agrees (record s { text = Some (record { from = byte_at p; is_parted = false }) }) (record r { text = Some (begun p) })
+agrees-begun : (p : Point) (s : OutlineState) (r : Reading) → is_unparted s.text ≡ true → Agrees s r →
+    Agrees (record s { text = Some (record { from = byte_at p; is_parted = false }) }) (record r { text = Some (begun p) })
 agrees-begun p s r k is = record {
   depth = is.depth;
   containers = is.containers;
@@ -292,7 +316,9 @@ agrees-begun p s r k is = record {
 }
 
 -- a container begins
-agrees-container : (bytes : List ℕ) (shape : Shape) (w : Word) (p : Point) (s : OutlineState) (r : Reading) → IsShownBy shape w → is_unparted s.text ≡ true → Agrees s r → Agrees (state_enter bytes (role.Container w) p s) (read_enter bytes (Holds shape) p r)
+agrees-container : (bytes : List ℕ) (shape : Shape) (w : Word) (p : Point) (s : OutlineState) (r : Reading) →
+    IsShownBy shape w → is_unparted s.text ≡ true → Agrees s r →
+    Agrees (state_enter bytes (role.Container w) p s) (read_enter bytes (Holds shape) p r)
 agrees-container bytes shape w p s r by k is = record {
   depth = ap (λ d. d + 1) is.depth;
   containers = ((w, by), is.containers);
@@ -338,22 +364,27 @@ agrees-exit bytes p = record {
 }
 
 -- one event
-agrees-step : (bytes : List ℕ) (kind : Kind) (x : spelled.Role) (p : Point) (s : OutlineState) (r : Reading) → is_plain x ≡ true → parts_by bytes kind x p s.text ≡ true → are_shallow (read_by bytes kind x p r).here ≡ true → Agrees s r →
+agrees-step : (bytes : List ℕ) (kind : Kind) (x : spelled.Role) (p : Point) (s : OutlineState) (r : Reading) →
+    is_plain x ≡ true → parts_by bytes kind x p s.text ≡ true → are_shallow (read_by bytes kind x p r).here ≡ true →
+    Agrees s r →
     Agrees (state_by bytes kind (shown_as x) p s) (read_by bytes kind x p r)
 agrees-step bytes Enter x p s r h k d is = by-role (AgreesBehind bytes p) x (agrees-enter bytes p) h s r k is
 agrees-step bytes Exit x p s r h k d is = by-role (AgreesEnded bytes p) x (agrees-exit bytes p) h s r k d is
 
 -- The text that is read is that of the events.
 
-span-parted : (bytes : List ℕ) (i : ℕ) (span : Option Span) (s : OutlineState) → s.text ≡ span → (parted_at bytes i span s).text ≡ option_map (λ (t : Span). record t { is_parted = true }) span
+span-parted : (bytes : List ℕ) (i : ℕ) (span : Option Span) (s : OutlineState) → s.text ≡ span →
+    (parted_at bytes i span s).text ≡ option_map (λ (t : Span). record t { is_parted = true }) span
 span-parted bytes i None s e = e
 span-parted bytes i (Some span) s e = refl
 
-span-paragraph : (bytes : List ℕ) (i : ℕ) (span : Option Span) (s : OutlineState) → s.text ≡ span → (told_at bytes purpose.Paragraph i span s).text ≡ None
+span-paragraph : (bytes : List ℕ) (i : ℕ) (span : Option Span) (s : OutlineState) → s.text ≡ span →
+    (told_at bytes purpose.Paragraph i span s).text ≡ None
 span-paragraph bytes i None s e = e
 span-paragraph bytes i (Some span) s e = refl
 
-span-note : (bytes : List ℕ) (x : spelled.Purpose) (y : Purpose) (i : ℕ) (span : Option Span) (s : OutlineState) → IsNote x y → s.text ≡ span → (told_at bytes y i span s).text ≡ None
+span-note : (bytes : List ℕ) (x : spelled.Purpose) (y : Purpose) (i : ℕ) (span : Option Span) (s : OutlineState) →
+    IsNote x y → s.text ≡ span → (told_at bytes y i span s).text ≡ None
 span-note bytes x y i None s by e = e
 span-note bytes x y i (Some span) s by e = ap (λ (t : OutlineState). t.text) (by.shown span.is_parted (slice_range bytes span.from i) (record s { text = None }))
 
@@ -386,19 +417,23 @@ span-exit bytes p s = record {
   quiet = refl;
 }
 
-span-step : (bytes : List ℕ) (kind : Kind) (x : spelled.Role) (p : Point) (s : OutlineState) → is_plain x ≡ true → (state_by bytes kind (shown_as x) p s).text ≡ span_by kind x p s.text
+span-step : (bytes : List ℕ) (kind : Kind) (x : spelled.Role) (p : Point) (s : OutlineState) → is_plain x ≡ true →
+    (state_by bytes kind (shown_as x) p s).text ≡ span_by kind x p s.text
 span-step bytes Enter x p s h = by-role (SameSpan bytes Enter p s) x (span-enter bytes p s) h
 span-step bytes Exit x p s h = by-role (SameSpan bytes Exit p s) x (span-exit bytes p s) h
 
 -- one event stands where it may, and so do those behind it
-parted-step : (bytes : List ℕ) (e : Event) (events : List Event) (s : OutlineState) → has_plain_name e ≡ true → are_parted bytes s.text (e ∷ events) ≡ true →
+parted-step : (bytes : List ℕ) (e : Event) (events : List Event) (s : OutlineState) → has_plain_name e ≡ true →
+    are_parted bytes s.text (e ∷ events) ≡ true →
     (parts_by bytes e.kind (spelled.role e.name) e.point s.text ≡ true) × (are_parted bytes (state_by bytes e.kind (shown_as (spelled.role e.name)) e.point s).text events ≡ true)
 parted-step bytes e events s h k =
     let parts = and_parts (parts_by bytes e.kind (spelled.role e.name) e.point s.text) (are_parted bytes (span_by e.kind (spelled.role e.name) e.point s.text) events) k in
     (parts.0, ap (λ x. are_parted bytes x events) (span-step bytes e.kind (spelled.role e.name) e.point s h) ∙ parts.1)
 
 -- all events: then no text is parted
-agrees-all : (bytes : List ℕ) (events : List Event) (s : OutlineState) (r : Reading) → list_all has_plain_name events ≡ true → are_parted bytes s.text events ≡ true → IsShallow (read bytes r events) → Agrees s r →
+agrees-all : (bytes : List ℕ) (events : List Event) (s : OutlineState) (r : Reading) →
+    list_all has_plain_name events ≡ true → are_parted bytes s.text events ≡ true → IsShallow (read bytes r events) →
+    Agrees s r →
     Agrees (state_after bytes s events) (read bytes r events) × (is_unparted (state_after bytes s events).text ≡ true)
 agrees-all bytes [] s r h k d is = (is, k)
 agrees-all bytes (e ∷ events) s r h k d is =
@@ -409,7 +444,8 @@ agrees-all bytes (e ∷ events) s r h k d is =
     (agrees-step bytes e.kind (spelled.role e.name) e.point s r names.0 parts.0 (shallow-all bytes events next d).0 is)
 
 -- the lines that all events add are those of the tree that they spell out
-pub outline-spelled : (bytes : List ℕ) (events : List Event) → IsOutlined events bytes → (state_after bytes before_all events).lines ≡ outline 0 (spelled events bytes)
+pub outline-spelled : (bytes : List ℕ) (events : List Event) → IsOutlined events bytes →
+    (state_after bytes before_all events).lines ≡ outline 0 (spelled events bytes)
 unfolding spelled
 outline-spelled bytes events out =
     let closed : (read bytes unread events).outer ≡ [] = all-closed bytes events out.balanced in
@@ -423,7 +459,8 @@ on_ok-map (Ok x) f h = f h
 on_ok-map (Err e) f h = h
 
 -- a paragraph's text has ended
-pub paragraph-end : (bytes part : List ℕ) (span : Span) (end : ℕ) (text : Option Span) (x : Purpose) (s : OutlineState) (lines : List Entry) → text ≡ Some span → x ≡ purpose.Paragraph → IsUtf8 bytes → BeginsBetween bytes text → is_between bytes end ≡ true →
+pub paragraph-end : (bytes part : List ℕ) (span : Span) (end : ℕ) (text : Option Span) (x : Purpose) (s : OutlineState) (lines : List Entry) →
+    text ≡ Some span → x ≡ purpose.Paragraph → IsUtf8 bytes → BeginsBetween bytes text → is_between bytes end ≡ true →
     part ≡ slice_range bytes span.from end → (IsUtf8 part → lines ≡ s.lines ++ begin_entries s.depth span.is_parted ++ text_entries (s.depth + 1) part) →
     record s { text = None; lines = lines } ≡ told_at bytes x end text s
 paragraph-end bytes part span end text x s lines is same u begins between epart elines =
@@ -434,7 +471,8 @@ paragraph-end bytes part span end text x s lines is same u begins between epart 
     ∙ sym (ap (λ t. told_at bytes x end t s) is ∙ ap (λ y. told_at bytes y end (Some span) s) same)
 
 -- a prefix has begun in a text
-pub piece-end : (bytes part : List ℕ) (span : Span) (end : ℕ) (text : Option Span) (s : OutlineState) (lines : List Entry) → text ≡ Some span → IsUtf8 bytes → BeginsBetween bytes text → is_between bytes end ≡ true →
+pub piece-end : (bytes part : List ℕ) (span : Span) (end : ℕ) (text : Option Span) (s : OutlineState) (lines : List Entry) →
+    text ≡ Some span → IsUtf8 bytes → BeginsBetween bytes text → is_between bytes end ≡ true →
     part ≡ slice_range bytes span.from end → (IsUtf8 part → lines ≡ s.lines ++ begin_entries s.depth span.is_parted ++ full_entries (s.depth + 1) part) →
     record s { text = Some (record span { is_parted = true }); lines = lines } ≡ parted_at bytes end text s
 piece-end bytes part span end text s lines is u begins between epart elines =
@@ -446,30 +484,37 @@ piece-end bytes part span end text s lines is u begins between epart elines =
 
 -- The loop over the events.
 
-cut-leaf : (bytes : List ℕ) (leaf : Option LeafState) (s : OutlineState) → IsCut bytes s → IsCut bytes (leaf_ended leaf s)
+cut-leaf : (bytes : List ℕ) (leaf : Option LeafState) (s : OutlineState) → IsCut bytes s →
+    IsCut bytes (leaf_ended leaf s)
 cut-leaf bytes None s h = h
 cut-leaf bytes (Some leaf) s h = record { text = h.text; leaf = tt }
 
-leaf-told : (x : Purpose) (text : List ℕ) (leaf : Option LeafState) → IsUtf8 text → LeafIsText leaf → LeafIsText (option_map (noted x text) leaf)
+leaf-told : (x : Purpose) (text : List ℕ) (leaf : Option LeafState) → IsUtf8 text → LeafIsText leaf →
+    LeafIsText (option_map (noted x text) leaf)
 leaf-told x text None u h = tt
 leaf-told x text (Some leaf) u h = leaf-is_text x text leaf u h
 
-cut-paragraph : (bytes : List ℕ) (end : ℕ) (span : Option Span) (s : OutlineState) → IsCut bytes s → IsCut bytes (told_at bytes purpose.Paragraph end span s)
+cut-paragraph : (bytes : List ℕ) (end : ℕ) (span : Option Span) (s : OutlineState) → IsCut bytes s →
+    IsCut bytes (told_at bytes purpose.Paragraph end span s)
 cut-paragraph bytes end None s h = h
 cut-paragraph bytes end (Some span) s h = record { text = tt; leaf = h.leaf }
 
-cut-note : (bytes : List ℕ) (x : spelled.Purpose) (y : Purpose) (end : ℕ) (span : Option Span) (s : OutlineState) → IsNote x y → IsUtf8 bytes → is_between bytes end ≡ true → BeginsBetween bytes span → IsCut bytes s → IsCut bytes (told_at bytes y end span s)
+cut-note : (bytes : List ℕ) (x : spelled.Purpose) (y : Purpose) (end : ℕ) (span : Option Span) (s : OutlineState) →
+    IsNote x y → IsUtf8 bytes → is_between bytes end ≡ true → BeginsBetween bytes span → IsCut bytes s →
+    IsCut bytes (told_at bytes y end span s)
 cut-note bytes x y end None s by u between begins h = h
 cut-note bytes x y end (Some span) s by u between begins h =
     let piece : List ℕ = slice_range bytes span.from end in
     subst (IsCut bytes) (sym (by.shown span.is_parted piece (record s { text = None })))
     (record { text = tt; leaf = leaf-told y piece s.leaf (utf8-part bytes span.from end u begins between) h.leaf })
 
-cut-parted : (bytes : List ℕ) (end : ℕ) (span : Option Span) (s : OutlineState) → BeginsBetween bytes span → IsCut bytes s → IsCut bytes (parted_at bytes end span s)
+cut-parted : (bytes : List ℕ) (end : ℕ) (span : Option Span) (s : OutlineState) → BeginsBetween bytes span →
+    IsCut bytes s → IsCut bytes (parted_at bytes end span s)
 cut-parted bytes end None s begins h = h
 cut-parted bytes end (Some span) s begins h = record { text = begins; leaf = h.leaf }
 
-cut-gone_on : (bytes : List ℕ) (p : Point) (span : Option Span) → parts_by bytes Exit IsPrefix p span ≡ true → BeginsBetween bytes (option_map (λ (t : Span). record t { from = byte_at p }) span)
+cut-gone_on : (bytes : List ℕ) (p : Point) (span : Option Span) → parts_by bytes Exit IsPrefix p span ≡ true →
+    BeginsBetween bytes (option_map (λ (t : Span). record t { from = byte_at p }) span)
 cut-gone_on bytes p None k = tt
 cut-gone_on bytes p (Some span) k = k
 
@@ -500,13 +545,16 @@ cut-exit bytes p = record {
   quiet = λ s u b t k h. h;
 }
 
-cut-step : (bytes : List ℕ) (kind : Kind) (x : spelled.Role) (p : Point) (s : OutlineState) → is_plain x ≡ true → IsUtf8 bytes → is_between bytes p.index ≡ true → (not (is_told x) || is_between bytes (byte_at p)) ≡ true → parts_by bytes kind x p s.text ≡ true → IsCut bytes s →
+cut-step : (bytes : List ℕ) (kind : Kind) (x : spelled.Role) (p : Point) (s : OutlineState) → is_plain x ≡ true →
+    IsUtf8 bytes → is_between bytes p.index ≡ true → (not (is_told x) || is_between bytes (byte_at p)) ≡ true →
+    parts_by bytes kind x p s.text ≡ true → IsCut bytes s →
     IsCut bytes (state_by bytes kind (shown_as x) p s)
 cut-step bytes Enter x p s n u b t k h = by-role (CutBehind bytes Enter p) x (cut-enter bytes p) n s u b t k h
 cut-step bytes Exit x p s n u b t k h = by-role (CutBehind bytes Exit p) x (cut-exit bytes p) n s u b t k h
 
 -- what holds of all holds of each
-all-at : (p : Event → Bool) (events : List Event) (i : ℕ) (d : Event) → i < length events → list_all p events ≡ true → p (get_or events i d) ≡ true
+all-at : (p : Event → Bool) (events : List Event) (i : ℕ) (d : Event) → i < length events → list_all p events ≡ true →
+    p (get_or events i d) ≡ true
 all-at p events i d lt h = All-get_or (λ (e : Event). p e ≡ true) events i d lt (AllPass-from_list_all p events h)
 
 -- what is known before each event: where texts are cut, that the events to come stand where they may, and what they come to
@@ -516,7 +564,8 @@ pub record Goes (bytes : List ℕ) (events : List Event) (s all : OutlineState) 
   pub comes : state_after bytes s events ≡ all
 
 -- one event was read
-pub state-next : (bytes : List ℕ) (events : List Event) (i : ℕ) (d : Event) (s next all : OutlineState) → IsOutlined events bytes → i < length events → Goes bytes (drop i events) s all →
+pub state-next : (bytes : List ℕ) (events : List Event) (i : ℕ) (d : Event) (s next all : OutlineState) →
+    IsOutlined events bytes → i < length events → Goes bytes (drop i events) s all →
     (IsUtf8 bytes → IsCut bytes s → is_between bytes (get_or events i d).point.index ≡ true → next ≡ state_by bytes (get_or events i d).kind (shown_as (spelled.role (get_or events i d).name)) (get_or events i d).point s) →
     Goes bytes (drop (i + 1) events) next all
 state-next bytes events i d s next all is lt goes reads =
@@ -534,6 +583,8 @@ state-next bytes events i d s next all is lt goes reads =
     }
 
 -- all events were read
-pub state-end : (bytes : List ℕ) (events : List Event) (i : ℕ) (s : OutlineState) → IsOutlined events bytes → length events ≤ i → state_after bytes s (drop i events) ≡ state_after bytes before_all events → s.lines ≡ outline 0 (spelled events bytes)
+pub state-end : (bytes : List ℕ) (events : List Event) (i : ℕ) (s : OutlineState) → IsOutlined events bytes →
+    length events ≤ i → state_after bytes s (drop i events) ≡ state_after bytes before_all events →
+    s.lines ≡ outline 0 (spelled events bytes)
 state-end bytes events i s is le same =
     ap (λ (x : OutlineState). x.lines) (sym (at_drop_all (state_after bytes s) events i le) ∙ same) ∙ outline-spelled bytes events is

@@ -20,16 +20,19 @@ Pieces before depth lines true front = (full : List Entry) ×
     ((rest : List ℕ) → begins_with 10 rest ≡ false → text_entries (depth + 1) (front ++ rest) ≡ full ++ text_entries (depth + 1) rest))
 
 -- where it is not parted, nothing
-pub pieces-none : (before : List Entry) (depth : ℕ) (lines : List Entry) (x : Bool) (front : List ℕ) → not x ≡ true → Pieces before depth lines x front → (lines ≡ before) × (front ≡ [])
+pub pieces-none : (before : List Entry) (depth : ℕ) (lines : List Entry) (x : Bool) (front : List ℕ) → not x ≡ true →
+    Pieces before depth lines x front → (lines ≡ before) × (front ≡ [])
 pieces-none before depth lines true front h k = absurd (true≢false (sym h))
 pieces-none before depth lines false front h k = k
 
-pub pieces-from : (before : List Entry) (depth : ℕ) (lines : List Entry) (x : Bool) (front : List ℕ) → not x ≡ true → (lines ≡ before) × (front ≡ []) → Pieces before depth lines x front
+pub pieces-from : (before : List Entry) (depth : ℕ) (lines : List Entry) (x : Bool) (front : List ℕ) → not x ≡ true →
+    (lines ≡ before) × (front ≡ []) → Pieces before depth lines x front
 pieces-from before depth lines true front h k = absurd (true≢false (sym h))
 pieces-from before depth lines false front h k = k
 
 -- a piece that is not the first begins with no line feed
-begins-behind : (piece rest : List ℕ) → begins_with 10 piece ≡ false → begins_with 10 rest ≡ false → begins_with 10 (piece ++ rest) ≡ false
+begins-behind : (piece rest : List ℕ) → begins_with 10 piece ≡ false → begins_with 10 rest ≡ false →
+    begins_with 10 (piece ++ rest) ≡ false
 begins-behind [] rest h k = k
 begins-behind (b ∷ piece) rest h k = h
 
@@ -38,7 +41,8 @@ begins-other true h = absurd (true≢false (sym h))
 begins-other false h = refl
 
 -- one piece more is shown
-pub pieces-next : (before : List Entry) (depth : ℕ) (lines : List Entry) (x : Bool) (front piece : List ℕ) → (not x || not (begins_with 10 piece)) ≡ true → is_blank (last_line (split_lines piece)) ≡ true →
+pub pieces-next : (before : List Entry) (depth : ℕ) (lines : List Entry) (x : Bool) (front piece : List ℕ) →
+    (not x || not (begins_with 10 piece)) ≡ true → is_blank (last_line (split_lines piece)) ≡ true →
     Pieces before depth lines x front → Pieces before depth ((lines ++ begin_entries depth x) ++ full_entries (depth + 1) piece) true (front ++ piece)
 pieces-next before depth lines false front piece h blank k = (
   full_entries (depth + 1) piece,
@@ -61,7 +65,8 @@ pieces-next before depth lines true front piece h blank k =
     )
 
 -- the last piece is shown
-pub pieces-last : (before : List Entry) (depth : ℕ) (lines : List Entry) (x : Bool) (front piece : List ℕ) → (not x || not (begins_with 10 piece)) ≡ true → Pieces before depth lines x front →
+pub pieces-last : (before : List Entry) (depth : ℕ) (lines : List Entry) (x : Bool) (front piece : List ℕ) →
+    (not x || not (begins_with 10 piece)) ≡ true → Pieces before depth lines x front →
     (lines ++ begin_entries depth x) ++ text_entries (depth + 1) piece ≡ before ++ entry depth word.Paragraph ∷ text_entries (depth + 1) (front ++ piece)
 pieces-last before depth lines false front piece h k =
     ap (λ es. (es ++ entry depth word.Paragraph ∷ []) ++ text_entries (depth + 1) piece) k.0

@@ -1,6 +1,6 @@
 -- The setting of a tokenizer stays, whatever is read.
 use Rattle.std.proofs.Common.{◌≡◌, Bool, true, false, List, [], Option, refl, ap, ◌∙◌}
-use Rattle.md_engine.specs.declared.resolve.Name.{Name as ResolveName}
+use Rattle.md_engine.specs.declared.resolve.name.Name.{Name as ResolveName}
 use Rattle.md_engine.specs.declared.state.State.{State}
 use Rattle.md_engine.specs.Found.{Found}
 use Rattle.md_engine.specs.Run.{Flushes, Resolution, Resolved, ResolvedIf, Step}

@@ -3,7 +3,7 @@ use Rattle.std.proofs.Common.{◌-◌, ◌+◌, ℕ, ◌≡◌, true, refl, sym,
 use Rattle.std.specs.Prelude.{slice_index, IsTrue}
 use Rattle.markdown_blocks.proofs.BetweenFacts.{AreBetween, between-append, between-before, between-behind, between-more, between-unless, is_low, white-between}
 use Rattle.std.proofs.lemmas.Option.{get_or_from_slice_get}
-use Rattle.markdown_blocks.proofs.PrefixFacts.{Continues, Opens, PrefixFacts}
+use Rattle.markdown_blocks.proofs.PrefixFacts.{Continues, Opens, PrefixFacts, begins}
 use Rattle.markdown_blocks.proofs.PrefixNames.{ArePrefixes, prefixes-append, prefixes-front, prefixes-roles}
 use Rattle.std.proofs.lemmas.Bool.Decides.{nat_tests}
 use Rattle.md_engine.specs.declared.event.Event.{Event}
@@ -14,13 +14,14 @@ use Rattle.md_seam.specs.Events.Nested.{Balanced, enter, exit, pair, around}
 use Rattle.md_seam.specs.Events.Places.{at_or_before, same_place}
 use Rattle.md_seam.specs.Standard.State.{InQuote}
 use Rattle.md_seam.proofs.NestedLemmas.{at_or_before-refl}
-use Rattle.md_seam.proofs.SpelledLemmas.{QuietOrPrefix}
-use Rattle.markdown_blocks.proofs.FrontFacts.{IsPrefix}
+use Rattle.md_seam.proofs.SpelledLemmas.{QuietOrPrefix, read-prefixes}
+use Rattle.md_containers.proofs.QuoteLines.{IsPrefix}
 use Rattle.markdown_blocks.proofs.SpanLemmas.{Spans, order-grows}
 use Rattle.markdown_blocks.proofs.PartsStand.{Inside}
 use Rattle.md_outline.specs.Between.{is_between}
 use Rattle.markdown_blocks.proofs.PiecesLemmas.{Tiled, tiled-append, tiled-unless_empty, tiled-around, tiled-pair}
 use Rattle.markdown_blocks.proofs.BlockQuote.Pieces.{prefix-stood}
+use Rattle.markdown_blocks.proofs.BlockQuote.Collected.{collects-quote}
 use Rattle.markdown_blocks.proofs.BlockQuote.Parted.{prefix-clear, prefix-parted}
 use Rattle.markdown_blocks.proofs.BlockQuote.Grammar.{prefix-others, prefix-stays, prefix-begins}
 
@@ -158,6 +159,7 @@ quote-continues bytes p q es is = record {
   stays = prefix-stays bytes p q es is;
   parted = prefix-parted bytes p q es is;
   inside = prefix-inside bytes p q es is;
+  collects = λ ys end all. collects-quote bytes p q es ys end all is;
 }
 
 pub quote-opens : (bytes : List ℕ) (p q : Point) (es : List Event) → IsPrefix bytes p q es → Opens bytes InQuote p q es
@@ -166,6 +168,7 @@ quote-opens bytes p q es is = record {
   names = prefixes-front es (prefix-are bytes p q es is);
   roles = prefixes-roles QuietOrPrefix es tt tt (prefix-are bytes p q es is);
   leads = prefix-begins bytes p q es is;
+  read = λ r none. read-prefixes bytes (begins InQuote r) es none (prefixes-roles QuietOrPrefix es tt tt (prefix-are bytes p q es is));
   shown = refl;
   some = prefix-some bytes p q es is;
 }

@@ -8,8 +8,8 @@ use Rattle.md_seam.specs.Events.Nested.{enter, exit, pair}
 use Rattle.md_seam.specs.Events.Places.{same_place}
 use Rattle.md_seam.proofs.GrammarLemmas.{Leads}
 use Rattle.md_seam.proofs.EndingsLemmas.{AreOthers}
-use Rattle.markdown_blocks.proofs.FrontFacts.{IsPrefix}
-use Rattle.markdown_blocks.proofs.PrefixNames.{TakesPrefixes}
+use Rattle.md_containers.proofs.QuoteLines.{IsPrefix}
+use Rattle.markdown_blocks.proofs.ContainerNames.{TakesPrefixes}
 use Rattle.md_seam.proofs.QuoteGrammar.{leads-prefix}
 
 -- no ending stands in it, and no begin or end of a leaf

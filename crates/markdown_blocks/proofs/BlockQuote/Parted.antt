@@ -13,7 +13,7 @@ use Rattle.md_seam.specs.Events.Spelled.{byte_at}
 use Rattle.md_seam.specs.Standard.Texts.{split_lines}
 use Rattle.md_outline.specs.Between.{is_between}
 use Rattle.md_outline.specs.Outlined.{are_parted, begins_line}
-use Rattle.markdown_blocks.proofs.FrontFacts.{IsPrefix}
+use Rattle.md_containers.proofs.QuoteLines.{IsPrefix}
 use Rattle.markdown_blocks.proofs.SpanLemmas.{byte-order}
 use Rattle.markdown_blocks.proofs.PartedFacts.{clear, low-clear, behind_prefix, PartsText}
 use Rattle.markdown_blocks.proofs.BetweenFacts.{white-at}

@@ -8,7 +8,7 @@ use Rattle.md_engine.specs.declared.event.Point.{Point}
 use Rattle.md_seam.specs.Events.Nested.{enter, exit, pair}
 use Rattle.md_seam.specs.Events.Pieces.{piece_stands, stands_over}
 use Rattle.md_seam.specs.Events.Places.{same_place}
-use Rattle.markdown_blocks.proofs.FrontFacts.{IsPrefix}
+use Rattle.md_containers.proofs.QuoteLines.{IsPrefix}
 use Rattle.markdown_blocks.proofs.PieceFacts.{Stood, begins-cut, begins-whole, over-stands, piece-stands, span}
 
 -- one byte of a text

@@ -5,7 +5,7 @@ use Rattle.std.proofs.Common.{◌&&◌, nat_lt}
 use Rattle.md_seam.specs.Spaces.{ends_line, is_current, sees_white}
 use Rattle.std.proofs.Common.{Bool, true, false, refl}
 use Rattle.md_engine.specs.declared.event.Name.TheVariants as n
-use Rattle.md_engine.specs.declared.resolve.Name.TheVariants as r
+use Rattle.md_engine.specs.declared.resolve.name.Name.TheVariants as r
 use Rattle.md_engine.specs.Resolvers.{same_name}
 use Rattle.md_engine.specs.World.{World}
 use Rattle.md_leaves.specs.Heading as heading

@@ -1,6 +1,6 @@
 use Rattle.std.proofs.Common.{◌<◌, ◌∙◌, length, ap, arith}
 use Rattle.std.proofs.lemmas.List.{take_more}
-use Rattle.md_engine.specs.declared.resolve.Name.TheVariants.{Label}
+use Rattle.md_engine.specs.declared.resolve.name.Name.TheVariants.{Label}
 use Rattle.md_engine.specs.Run.Resolved.{More, NoneYet}
 use Rattle.md_engine.specs.World.{World}
 use Rattle.md_engine.proofs.table.resolve_all.Goals as goal

@@ -1,6 +1,6 @@
 use Rattle.std.proofs.Common.{Bool}
-use Rattle.md_engine.specs.contracts.resolve.NamePartialEq.TheImpl as names
-use Rattle.md_engine.specs.declared.resolve.Name.{Name as ResolveName}
+use Rattle.md_engine.specs.contracts.resolve.name.NamePartialEq.TheImpl as names
+use Rattle.md_engine.specs.declared.resolve.name.Name.{Name as ResolveName}
 use Rattle.md_engine.specs.World.{world}
 use Rattle.markdown_blocks.specs.States.{flow_table_scheme}
 use Rattle.markdown_blocks.proofs.States.{flow_does}

@@ -1,0 +1,79 @@
+-- A block quote goes on and opens by the cells of a line where it does by its bytes.
+use Rattle.std.proofs.Common.{◌≡◌, ℕ, ◌^◌, ◌<◌, Bool, true, false, cond, ◌&&◌, List, ◌∷◌, ◌++◌, length, Option, Some, None, refl, sym, subst, arith}
+use Rattle.md_engine.specs.declared.configuration.ParseOptions.{ParseOptions}
+use Rattle.md_engine.specs.declared.event.Event.{Event}
+use Rattle.md_engine.specs.declared.event.Point.{Point}
+use Rattle.md_engine.specs.declared.tokenizer.Line.{Line}
+use Rattle.md_engine.specs.Meaning.{Cell}
+use Rattle.md_containers.specs.QuoteRule.{prefix_end, prefix_events, prefix_rest, takes_prefix}
+use Rattle.md_containers.proofs.QuoteLines.{HasPrefix, PrefixIs, prefix-agrees, quote-container, quote-no_ending}
+use Rattle.md_seam.specs.Standard.Containers.{Taken, opens_quote, quote_taken}
+use Rattle.md_seam.specs.Events.Nested.{enter}
+use Rattle.md_seam.specs.Standard.Rest.{Rest}
+use Rattle.md_seam.specs.Standard.State.{InQuote}
+use Rattle.md_seam.proofs.FeedLines.{Stops}
+use Rattle.md_seam.proofs.RestCells.{RestAt, past_rest, rest_cells}
+use Rattle.md_seam.proofs.TextsLemmas.{NoEnding}
+use Rattle.markdown_blocks.specs.Containers.BlockQuote.{quote_new, quote_on}
+use Rattle.markdown_blocks.specs.Registry.{goes_at, opens_at}
+use Rattle.markdown_blocks.proofs.PassedFacts.{Agree, HasFurther, HasOpening, HasPassed}
+use Rattle.markdown_blocks.proofs.BlockQuote.Facts.{quote-continues, quote-opens}
+use Rattle.md_engine.specs.declared.event.Name.TheVariants as n
+
+-- what a quote leaves, whether its begin stands in front of its prefix or not
+quote-passes : (options : ParseOptions) (line : Line) (text past : List ℕ) (r : Rest) (end : Point) (stop cells : List Cell) (p : Point) (es : List Event) (t : Taken) → NoEnding r.bytes → quote_taken options r ≡ Some t → HasPrefix options line text past end stop cells p t.rest →
+    HasPassed line text past end stop cells (record { container = InQuote; events = es; cells = prefix_rest options cells; point = prefix_end options cells p }) t
+quote-passes options line text past r end stop cells p es t h e has = record {
+  container = sym (quote-container options r t e);
+  read = tt;
+  fed = has.fed;
+  stands = has.stands;
+  ends = has.ends;
+  no_ending = quote-no_ending options r t h e;
+  shorter = let lt = has.shorter in omega arith;
+}
+
+-- a quote goes on
+pub quote-goes : (options : ParseOptions) (line : Line) (text past : List ℕ) (r : Rest) (stop : List Cell) (p : Point) → RestAt text past r p → NoEnding r.bytes → Stops stop → length (rest_cells line r p ++ stop) < 2 ^ 63 →
+    Agree (HasFurther line text past p (past_rest r p) stop (rest_cells line r p ++ stop)) (goes_at options InQuote (rest_cells line r p ++ stop) p) (quote_taken options r)
+quote-goes options line text past r stop p is h k short = go (quote_taken options r) refl (prefix-agrees options line text past r stop p is k short)
+  where
+    cells : List Cell
+    cells = rest_cells line r p ++ stop
+
+    By : Bool → Option Taken → Type 0
+    By x taken = Agree (HasFurther line text past p (past_rest r p) stop cells) (cond x (Some (quote_on options cells p)) None) taken
+
+    go : (taken : Option Taken) → quote_taken options r ≡ taken → PrefixIs options line text past (past_rest r p) stop cells p taken → By (takes_prefix options cells) taken
+    go None e none = subst (λ (x : Bool). By x None) (sym none) tt
+    go (Some t) e has =
+        subst (λ (x : Bool). By x (Some t)) (sym has.takes)
+        (record { passes = quote-passes options line text past r (past_rest r p) stop cells p (prefix_events options cells p) t h e has; further = quote-continues text p (prefix_end options cells p) (prefix_events options cells p) has.prefix })
+
+-- a quote opens, if quotes are on
+pub quote-begins : (options : ParseOptions) (interrupting : Bool) (line : Line) (text past : List ℕ) (r : Rest) (stop : List Cell) (p : Point) → RestAt text past r p → NoEnding r.bytes → Stops stop → length (rest_cells line r p ++ stop) < 2 ^ 63 →
+    Agree (HasOpening line text past p (past_rest r p) stop (rest_cells line r p ++ stop)) (opens_at options interrupting (rest_cells line r p ++ stop) p) (opens_quote options r)
+unfolding opens_quote
+quote-begins options interrupting line text past r stop p is h k short = on options.constructs.block_quote
+  where
+    cells : List Cell
+    cells = rest_cells line r p ++ stop
+
+    By : Bool → Option Taken → Type 0
+    By x taken = Agree (HasOpening line text past p (past_rest r p) stop cells) (cond x (Some (quote_new options cells p)) None) taken
+
+    go : (taken : Option Taken) → quote_taken options r ≡ taken → PrefixIs options line text past (past_rest r p) stop cells p taken → By (takes_prefix options cells) taken
+    go None e none = subst (λ (x : Bool). By x None) (sym none) tt
+    go (Some t) e has =
+        subst (λ (x : Bool). By x (Some t)) (sym has.takes)
+        (record {
+          passes = quote-passes options line text past r (past_rest r p) stop cells p (enter n.BlockQuote p ∷ prefix_events options cells p) t h e has;
+          inside = prefix_events options cells p;
+          events = refl;
+          opening = quote-opens text p (prefix_end options cells p) (prefix_events options cells p) has.prefix;
+          fewer = has.shorter;
+        })
+
+    on : (x : Bool) → By (x && takes_prefix options cells) (cond x (quote_taken options r) None)
+    on true = go (quote_taken options r) refl (prefix-agrees options line text past r stop p is k short)
+    on false = tt
