@@ -21,11 +21,11 @@ use Rattle.md_seam.specs.Standard.Rest.{Rest}
 use Rattle.md_seam.specs.Standard.Tree.{Blocks}
 use Rattle.md_engine.specs.declared.tokenizer.container.ContainerKind.{ContainerKind}
 use Rattle.md_engine.specs.declared.tokenizer.container.ContainerKind.TheVariants as kind
-use Rattle.md_engine.specs.Ends.{name_of}
 use Rattle.md_engine.specs.declared.configuration.ParseOptions.{ParseOptions}
 use Rattle.md_seam.specs.Events.Inline.{is_line_ending}
 use Rattle.md_seam.specs.Events.Grammar.{Expression, behind}
 use Rattle.md_outline.specs.Roles.{is_plain}
+use Rattle.md_engine.specs.ContainerName.{name_of}
 
 -- events with names of prefixes or of containers, none of which begins a chunk
 abbrev pub is_front : Name → Bool

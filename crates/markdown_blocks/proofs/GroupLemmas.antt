@@ -26,10 +26,10 @@ use Rattle.md_seam.specs.Substituted.{Readings, Substituted, belongs, chunks_beh
 use Rattle.md_seam.specs.Standard.Texts.{split_lines}
 use Rattle.markdown_blocks.specs.Change.{ends_of}
 use Rattle.markdown_blocks.specs.Change as change
-use Rattle.markdown_blocks.specs.Registry.{LeafName, first_of, leaf as line_leaf, resolved, trials}
-use Rattle.markdown_blocks.specs.Rows.{BlankRow, Group, LeafRow, Lines, Row, RowKind, Single, TextRow, behind_row, blank_line, chunks_of, ending_events, ending_of, goes_on, group_events, groups, groups_events, is_text, kind_of, last_row, leaf_done, leaf_events, leaf_unread, line_kind, onto_groups, paragraph_events, read_lines, row_events, row_events_by, rows_events, single_events_by, tail_events}
+use Rattle.markdown_blocks.specs.Registry.{LeafName, first_of, leaf as line_leaf, resolved, trials, text_leaf}
+use Rattle.markdown_blocks.specs.Rows.{BlankRow, Group, LeafRow, Lines, Row, RowKind, Single, TextRow, behind_row, blank_line, chunks_of, ending_events, ending_of, goes_on, group_events, groups, groups_events, is_text, kind_of, last_row, leaf_done, leaf_events, leaf_unread, line_kind, onto_groups, read_lines, row_events, row_events_by, rows_events, single_events_by, tail_events}
 use Rattle.markdown_blocks.specs.Fronted.{contained, cut_tab, rest_from, rest_line}
-use Rattle.markdown_blocks.specs.Unread.{joined_groups, linked, linked_lines, listed_group, listed_groups, listed_row_by, unread_group, unread_groups, unread_paragraph}
+use Rattle.markdown_blocks.specs.Unread.{joined_groups, linked, linked_lines, listed_group, listed_groups, listed_row_by, unread_group, unread_groups, text_unread, unread_lines}
 use Rattle.md_seam.proofs.FeedLines.{ending-some}
 pub use Rattle.markdown_blocks.proofs.FrontNames.{HasFront}
 use Rattle.markdown_blocks.proofs.FrontNames.{ends-first, fronts-prefixes}
@@ -53,11 +53,11 @@ use Rattle.markdown_blocks.proofs.KindLemmas.{kind-starts}
 -- The groups of a text.
 
 -- lines of text that follow one another
-abbrev pub IsParagraph : ParseOptions → List ℕ → Row → List Row → Type 0
-IsParagraph options bytes row [] = (line : List ℕ) × (is : IsRow options bytes line row) × (row.kind ≡ TextRow)
-IsParagraph options bytes row (next ∷ rows) =
+abbrev pub AreLines : ParseOptions → List ℕ → Row → List Row → Type 0
+AreLines options bytes row [] = (line : List ℕ) × (is : IsRow options bytes line row) × (row.kind ≡ TextRow)
+AreLines options bytes row (next ∷ rows) =
     (line : List ℕ) × (is : IsRow options bytes line row) × (text : row.kind ≡ TextRow)
-    × (q : Point) × (after : row.after ≡ Some q) × (ending : IsEnding bytes row.end q) × (front : LinePrefix bytes [] q next.first next.front) × IsParagraph options bytes next rows
+    × (q : Point) × (after : row.after ≡ Some q) × (ending : IsEnding bytes row.end q) × (front : LinePrefix bytes [] q next.first next.front) × AreLines options bytes next rows
 
 -- a line has an ending if more follows
 abbrev pub EndsBeforeGroups : Row → List Group → Type 0
@@ -76,7 +76,7 @@ pub record IsSingle (options : ParseOptions) (bytes : List ℕ) (row : Row) : Ty
 abbrev pub AreGroups : ParseOptions → List ℕ → List Group → Type 0
 AreGroups options bytes [] = Unit {0}
 AreGroups options bytes (Single row ∷ gs) = IsSingle options bytes row × AreGroups options bytes gs
-AreGroups options bytes (Lines row rows ∷ gs) = IsParagraph options bytes row rows × EndsBeforeGroups (last_row row rows) gs × HasFront bytes row × AreGroups options bytes gs
+AreGroups options bytes (Lines row rows ∷ gs) = AreLines options bytes row rows × EndsBeforeGroups (last_row row rows) gs × HasFront bytes row × AreGroups options bytes gs
 
 -- the first line of groups stands behind this point
 abbrev FrontAt : List ℕ → Point → List Group → Type 0
@@ -134,7 +134,7 @@ first-front options bytes open_before going p (line ∷ []) row (below ∷ rows)
 first-front options bytes open_before going p (line ∷ next ∷ lines) row [] h = absurd h
 first-front options bytes open_before going p (line ∷ next ∷ lines) row (below ∷ rows) h = h.0.front
 
--- The groups of the lines of a text are paragraphs, and lines that are no text.
+-- The groups of the lines of a text are lines of text that belong together, and lines that are no text.
 pub groups-are : (options : ParseOptions) (bytes : List ℕ) (open_before : List Container) (going : Bool) (p : Point) (lines : List (List ℕ)) (rows : List Row) → AreRows options bytes open_before going p lines rows → EachNoContent rows → AreGroups options bytes (groups rows)
 groups-are options bytes open_before going p [] rows h k = absurd h
 groups-are options bytes open_before going p (line ∷ []) [] h k = absurd h
@@ -173,7 +173,7 @@ rows-front options bytes open_before going p (line ∷ next ∷ lines) (row ∷ 
 pub row-line : (options : ParseOptions) (bytes line : List ℕ) (row : Row) → IsRow options bytes line row → drop row.first.index bytes ≡ line ++ drop row.end.index bytes
 row-line options bytes line row is = piece bytes row.first.index row.end.index (omega (arith, is.size)) ∙ ap (λ (l : List ℕ). l ++ drop row.end.index bytes) is.text
 
--- The chunks of a paragraph are lines.
+-- The chunks of a text are lines.
 
 -- a line of text is not empty
 rest-some : (options : ParseOptions) (r : LineRest) (bytes : List ℕ) → r.bytes ≡ bytes → line_kind options r ≡ TextRow → 0 < length bytes
@@ -187,28 +187,28 @@ text-some options bytes line row is text =
     let size = ap length is.line_is ∙ length-append (cut_tab r.spaces) r.bytes in
     omega arith
 
-pub paragraph-lines : (options : ParseOptions) (bytes : List ℕ) (row : Row) (rows : List Row) → IsParagraph options bytes row rows → are_lines bytes (last_row row rows).end (chunks_of row rows) ≡ true
-paragraph-lines options bytes row [] h =
+pub chunks-lines : (options : ParseOptions) (bytes : List ℕ) (row : Row) (rows : List Row) → AreLines options bytes row rows → are_lines bytes (last_row row rows).end (chunks_of row rows) ≡ true
+chunks-lines options bytes row [] h =
     and_from _ _
     (ap (λ (l : List ℕ). is_one_line (split_lines l) (same_place row.end row.end)) h.1.text
     ∙ one-last h.0 (text-some options bytes h.0 row h.1 h.2) h.1.no_ending (same_place row.end row.end) (and_from _ _ (eq-eqb row.end.index row.end.index refl) (eq-eqb row.end.vs row.end.vs refl)))
     refl
-paragraph-lines options bytes row (next ∷ rows) h =
+chunks-lines options bytes row (next ∷ rows) h =
     let ends : Bool = is_none (chunks_of next rows) && same_place (behind_row row) (last_row next rows).end in
     and_from _ _
     (ap (λ (l : List ℕ). is_one_line (split_lines l) ends) (ap (λ (p : Point). slice_range bytes row.first.index p.index) (behind-is row h.3 h.4) ∙ line-text options bytes h.0 row h.3 h.1 h.5)
     ∙ one-next h.0 h.5.ending h.1.no_ending ends)
-    (paragraph-lines options bytes next rows h.7)
+    (chunks-lines options bytes next rows h.7)
 
 -- none of them ends within a tab
-pub paragraph-whole : (options : ParseOptions) (bytes : List ℕ) (row : Row) (rows : List Row) → IsParagraph options bytes row rows → list_all (λ (chunk : Chunk). chunk.after.vs == 0) (chunks_of row rows) ≡ true
-paragraph-whole options bytes row [] h = and_from (row.end.vs == 0) true (eq-eqb row.end.vs 0 h.1.end_whole) refl
-paragraph-whole options bytes row (next ∷ rows) h =
-    and_from ((behind_row row).vs == 0) (list_all (λ (chunk : Chunk). chunk.after.vs == 0) (chunks_of next rows)) (eq-eqb (behind_row row).vs 0 (ap (λ (p : Point). p.vs) (behind-is row h.3 h.4) ∙ h.5.whole)) (paragraph-whole options bytes next rows h.7)
+pub chunks-whole : (options : ParseOptions) (bytes : List ℕ) (row : Row) (rows : List Row) → AreLines options bytes row rows → list_all (λ (chunk : Chunk). chunk.after.vs == 0) (chunks_of row rows) ≡ true
+chunks-whole options bytes row [] h = and_from (row.end.vs == 0) true (eq-eqb row.end.vs 0 h.1.end_whole) refl
+chunks-whole options bytes row (next ∷ rows) h =
+    and_from ((behind_row row).vs == 0) (list_all (λ (chunk : Chunk). chunk.after.vs == 0) (chunks_of next rows)) (eq-eqb (behind_row row).vs 0 (ap (λ (p : Point). p.vs) (behind-is row h.3 h.4) ∙ h.5.whole)) (chunks-whole options bytes next rows h.7)
 
 -- Reading.
 
--- behind the lines of a paragraph no more of it stands
+-- behind the lines of a text no more of it stands
 behind-lines : (wants : Content → Bool) (row : Row) (gs : List Group) → EndsBeforeGroups row gs → chunks_behind wants (tail_events n.LineEnding row ++ joined_groups gs) ≡ []
 behind-lines wants row gs h = tail row.leaves
   where
@@ -237,12 +237,12 @@ front-unwanted wants bytes row h = no_content-unwanted wants row.front (has_fron
 single-unwanted : (options : ParseOptions) (bytes : List ℕ) (wants : Content → Bool) (row : Row) → IsSingle options bytes row → wants content.Text ≡ false → Unwanted wants (row_events row)
 single-unwanted options bytes wants row is w = no_content-unwanted wants (row_events row) (events-no_content wants row row.kind refl is.other (has_front-no_content wants bytes row is.front) (is.quiet wants w))
 
--- in front of the further lines of a paragraph stand prefixes alone
-pub paragraph-fronts : (options : ParseOptions) (bytes : List ℕ) (row : Row) (rows : List Row) → IsParagraph options bytes row rows → EachPrefixed rows
-paragraph-fronts options bytes row [] h = tt
-paragraph-fronts options bytes row (next ∷ rows) h = (fronts-prefixes bytes [] h.3 next.first next.front refl h.6, paragraph-fronts options bytes next rows h.7)
+-- in front of the further lines of a text stand prefixes alone
+pub lines-prefixed : (options : ParseOptions) (bytes : List ℕ) (row : Row) (rows : List Row) → AreLines options bytes row rows → EachPrefixed rows
+lines-prefixed options bytes row [] h = tt
+lines-prefixed options bytes row (next ∷ rows) h = (fronts-prefixes bytes [] h.3 next.first next.front refl h.6, lines-prefixed options bytes next rows h.7)
 
--- Where the lines of a paragraph stand.
+-- Where the lines of a text stand.
 
 -- a line of text is not empty
 pub line-grows : (options : ParseOptions) (bytes line : List ℕ) (row : Row) → IsRow options bytes line row → row.kind ≡ TextRow → row.first.index < row.end.index
@@ -254,14 +254,14 @@ pub record AreApart (row next : Row) : Type 0 where
   pub ending : row.end.index < (behind_row row).index
   pub front : (behind_row row).index ≤ next.first.index
 
-pub are-apart : (options : ParseOptions) (bytes : List ℕ) (row next : Row) (rows : List Row) → IsParagraph options bytes row (next ∷ rows) → AreApart row next
+pub are-apart : (options : ParseOptions) (bytes : List ℕ) (row next : Row) (rows : List Row) → AreLines options bytes row (next ∷ rows) → AreApart row next
 are-apart options bytes row next rows h =
     let behind : (behind_row row).index ≡ h.3.index = ap (λ (p : Point). p.index) (behind-is row h.3 h.4) in
     let some = ending-some h.5.ending in
     let grows = fronts-grow bytes [] h.3 next.first next.front h.6 in
     record { line = line-grows options bytes h.0 row h.1 h.2; ending = omega (arith, h.5.size); front = omega arith }
 
-first-grows : (options : ParseOptions) (bytes : List ℕ) (row : Row) (rows : List Row) → IsParagraph options bytes row rows → row.first.index < (line_after row rows).index
+first-grows : (options : ParseOptions) (bytes : List ℕ) (row : Row) (rows : List Row) → AreLines options bytes row rows → row.first.index < (line_after row rows).index
 first-grows options bytes row [] h = line-grows options bytes h.0 row h.1 h.2
 first-grows options bytes row (next ∷ rows) h = let apart = are-apart options bytes row next rows h in omega (arith, apart.line, apart.ending)
 
@@ -300,8 +300,8 @@ linked-next : (name : Name) (link : Link) (row : Row) (rows : List Row) (zs : Li
 linked-next name link row [] zs end h = begins-behind name row.first end h
 linked-next name link row (next ∷ rows) zs end h = begins-behind name row.first end h
 
--- the chunks of a paragraph, cut at the ends of its lines
-linked-cut : (options : ParseOptions) (bytes : List ℕ) (name : Name) (link : Link) (row : Row) (rows : List Row) (zs : List Event) → IsParagraph options bytes row rows →
+-- the chunks of a text, cut at the ends of its lines
+linked-cut : (options : ParseOptions) (bytes : List ℕ) (name : Name) (link : Link) (row : Row) (rows : List Row) (zs : List Event) → AreLines options bytes row rows →
     CutAt row rows (linked name link (chunks_of row rows) ++ zs) (linked_lines name link row rows ++ zs)
 linked-cut options bytes name link row [] zs h = refl
 linked-cut options bytes name link row (next ∷ rows) zs h =
@@ -318,19 +318,19 @@ linked-cut options bytes name link row (next ∷ rows) zs h =
       linked-cut options bytes name link next rows zs h.7,
     )
 
--- a reader of content gives for each paragraph of a text its lines, whose text is not read yet
+-- a reader of content gives for lines of text the leaf of these lines, which are not read yet
 abbrev pub ReadsContent : ParseOptions → List ℕ → Readings → Type 0
 ReadsContent options bytes reads =
-    (row : Row) (rows : List Row) → IsParagraph options bytes row rows → (answer : List Event) → reads content.Content (chunks_of row rows) answer →
-    answer ≡ around n.Paragraph row.first (last_row row rows).end (linked n.Data text_link (chunks_of row rows))
+    (row : Row) (rows : List Row) → AreLines options bytes row rows → (answer : List Event) → reads content.Content (chunks_of row rows) answer →
+    answer ≡ around text_leaf.name row.first (last_row row rows).end (linked n.Data text_link (chunks_of row rows))
 
--- a paragraph whose text is not read yet, cut so too
-paragraph-cut : (options : ParseOptions) (bytes : List ℕ) (row : Row) (rows : List Row) → IsParagraph options bytes row rows →
-    CutAt row rows (around n.Paragraph row.first (last_row row rows).end (linked n.Data text_link (chunks_of row rows))) (unread_paragraph row rows)
-paragraph-cut options bytes row rows h =
-    let end = exit n.Paragraph (last_row row rows).end ∷ [] in
-    cut-front row rows (enter n.Paragraph row.first ∷ []) (linked n.Data text_link (chunks_of row rows) ++ end) (linked_lines n.Data text_link row rows ++ end)
-    (begins-before n.Paragraph row.first (line_after row rows).index (first-grows options bytes row rows h), tt)
+-- a text that is not read yet, cut so too
+unread-cut : (options : ParseOptions) (bytes : List ℕ) (row : Row) (rows : List Row) → AreLines options bytes row rows →
+    CutAt row rows (around text_leaf.name row.first (last_row row rows).end (linked n.Data text_link (chunks_of row rows))) (text_unread row rows)
+unread-cut options bytes row rows h =
+    let end = exit text_leaf.name (last_row row rows).end ∷ [] in
+    cut-front row rows (enter text_leaf.name row.first ∷ []) (linked n.Data text_link (chunks_of row rows) ++ end) (unread_lines row rows ++ end)
+    (begins-before text_leaf.name row.first (line_after row rows).index (first-grows options bytes row rows h), tt)
     (linked-cut options bytes n.Data text_link row rows end h)
 
 group-joins : (front given tail rest out one two three : List Event) → out ≡ front ++ one → one ≡ given ++ two → two ≡ tail ++ three → three ≡ rest → out ≡ ((front ++ given) ++ tail) ++ rest
@@ -351,17 +351,17 @@ groups-content options bytes wants reads w other unique (Lines row rows ∷ gs) 
     let tail : List Event = tail_events n.LineEnding (last_row row rows) in
     let inside : List Event = linked_lines n.Content content_link row rows in
     let ys : List Event = tail ++ joined_groups gs in
-    let given : List Event = unread_paragraph row rows in
+    let given : List Event = text_unread row rows in
     let begun : (rest : List Event) × (is : out ≡ row.front ++ rest) × Substituted wants reads left 0 (inside ++ ys) rest =
     passes wants reads left 0 row.front (inside ++ ys) out (front-unwanted wants bytes row are.2)
     (subst (λ (l : List Event). Substituted wants reads left 0 l out) (append_assoc (row.front ++ inside) tail (joined_groups gs) ∙ append_assoc row.front inside ys) s) in
     let rest : Rest wants reads given ys begun.0 =
-    places wants reads left n.Content content_link row rows ys given begun.0 w (behind-lines wants (last_row row rows) gs are.1) (paragraph-fronts options bytes row rows are.0)
-    (λ answer read. subst (λ (l : List Event). CutAt row rows l given) (sym (unique row rows are.0 answer read)) (paragraph-cut options bytes row rows are.0)) begun.2 in
+    places wants reads left n.Content content_link row rows ys given begun.0 w (behind-lines wants (last_row row rows) gs are.1) (lines-prefixed options bytes row rows are.0)
+    (λ answer read. subst (λ (l : List Event). CutAt row rows l given) (sym (unique row rows are.0 answer read)) (unread-cut options bytes row rows are.0)) begun.2 in
     let two : (more : List Event) × (is : rest.0 ≡ tail ++ more) × Substituted wants reads rest.1 0 (joined_groups gs) more = passes wants reads rest.1 0 tail (joined_groups gs) rest.0 (tail-unwanted wants TextRow (last_row row rows)) rest.3 in
     group-joins row.front given tail (unread_groups gs) out begun.0 rest.0 two.0 begun.1 rest.2 two.1 (groups-content options bytes wants reads w other unique gs are.3 rest.1 two.0 two.2)
 
--- The events of the lines of a text, joined, and their content read: paragraphs whose text is not read yet.
+-- The events of the lines of a text, joined, and their content read: texts that are not read yet.
 pub content-read : (options : ParseOptions) (bytes : List ℕ) (open_before : List Container) (going : Bool) (p : Point) (lines : List (List ℕ)) (rows : List Row) → AreRows options bytes open_before going p lines rows → EachNoContent rows →
     (wants : Content → Bool) (reads : Readings) → wants content.Content ≡ true → wants content.Text ≡ false → ReadsContent options bytes reads →
     (unread : List Event) → Substituted wants reads [] 0 (joined (rows_events rows)) unread → unread ≡ unread_groups (groups rows)
@@ -397,8 +397,8 @@ groups-set options bytes (Single row ∷ gs) are =
     ∙ ap (λ (l : List Event). listed_row_by bytes row.kind row ++ l) (groups-set options bytes gs are.1)
 groups-set options bytes (Lines row rows ∷ gs) are =
     let last : Row = last_row row rows in
-    leaf-set row.front (unread_paragraph row rows) (unread_paragraph row rows) (tail_events n.LineEnding last) (unread_groups gs) (has_front-outside bytes row are.2) (tail-outside n.LineEnding last refl)
-    (λ es. outside-passes (unread_paragraph row rows) es (around-outside n.Paragraph row.first last.end (linked_lines n.Data text_link row rows) refl (linked-outside text_link row rows (paragraph-fronts options bytes row rows are.0))))
+    leaf-set row.front (text_unread row rows) (text_unread row rows) (tail_events n.LineEnding last) (unread_groups gs) (has_front-outside bytes row are.2) (tail-outside n.LineEnding last refl)
+    (λ es. outside-passes (text_unread row rows) es (around-outside text_leaf.name row.first last.end (unread_lines row rows) refl (linked-outside text_link row rows (lines-prefixed options bytes row rows are.0))))
     ∙ ap (λ (l : List Event). unread_group (Lines row rows) ++ l) (groups-set options bytes gs are.3)
 
 -- Each leaf is set, and all else stays.
@@ -406,7 +406,7 @@ pub leaves-set : (options : ParseOptions) (bytes : List ℕ) (open_before : List
     resolved (unread_groups (groups rows)) ≡ listed_groups bytes (groups rows)
 leaves-set options bytes open_before going p lines rows are quiet = groups-set options bytes (groups rows) (groups-are options bytes open_before going p lines rows are quiet)
 
--- The text of leaves and paragraphs.
+-- The text of leaves, and texts.
 
 -- what stands between the front of a line and its tail
 leaf-becomes : (wants : Content → Bool) (reads : Readings) (front leaf read tail : List Event) → Unwanted wants front → Unwanted wants tail → Becomes wants reads leaf read → Becomes wants reads ((front ++ leaf) ++ tail) ((front ++ read) ++ tail)
@@ -420,7 +420,7 @@ single-becomes options bytes row wants reads w rt is =
     leaf-becomes wants reads row.front (leaf_unread bytes row.kind row) (leaf_done bytes row.kind row) (tail_events (ending_of row.kind) row) (front-unwanted wants bytes row is.front) (tail-unwanted wants row.kind row)
     (row-becomes options bytes is.line row is.is is.other wants reads w rt)
 
--- The text of a paragraph, cut at the ends of its lines.
+-- The lines of a text, cut at the ends of its lines.
 
 -- what the plain layer gives for a line belongs to its chunk
 plain-belongs : (p e q : Point) → p.index < q.index → e.index < q.index → AllBelong q.index (pair_unless_empty n.Data p e ++ pair_unless_empty n.LineEnding e q)
@@ -453,8 +453,8 @@ line_end-ended options bytes line row q is ending =
 line-ended : (options : ParseOptions) (bytes line : List ℕ) (row : Row) (q : Point) → IsRow options bytes line row → row.after ≡ Some q → IsEnding bytes row.end q → line_end bytes (record { first = row.first; after = behind_row row }) ≡ row.end
 line-ended options bytes line row q is after ending = ap (λ (q : Point). line_end bytes (record { first = row.first; after = q })) (behind-is row q after) ∙ line_end-ended options bytes line row q is ending
 
--- the first line of a paragraph is not empty, so its text begins where it does
-plain-first : (options : ParseOptions) (bytes : List ℕ) (row : Row) (rows : List Row) (end : ℕ) → IsParagraph options bytes row rows → end ≤ row.first.index → NextBelongs end (plain_events bytes (record { kind = Text; chunks = chunks_of row rows }))
+-- the first line of a text is not empty, so its text begins where it does
+plain-first : (options : ParseOptions) (bytes : List ℕ) (row : Row) (rows : List Row) (end : ℕ) → AreLines options bytes row rows → end ≤ row.first.index → NextBelongs end (plain_events bytes (record { kind = Text; chunks = chunks_of row rows }))
 plain-first options bytes row [] end h k =
     let chunk : Chunk = record { first = row.first; after = row.end } in
     let ends = ap (λ (p : Point). p.index) (line_end-alone options bytes h.0 row h.1) in
@@ -466,8 +466,8 @@ plain-first options bytes row (next ∷ rows) end h k =
     let grows = line-grows options bytes h.0 row h.1 h.2 in
     plain-next row.first (line_end bytes chunk) (pair_unless_empty n.LineEnding (line_end bytes chunk) (behind_row row)) (plain_events bytes (record { kind = Text; chunks = chunks_of next rows })) end (omega arith) k
 
--- the text of a paragraph
-text-cut : (options : ParseOptions) (bytes : List ℕ) (row : Row) (rows : List Row) → IsParagraph options bytes row rows → CutAt row rows (plain_events bytes (record { kind = Text; chunks = chunks_of row rows })) (read_lines bytes row rows)
+-- the lines of a text
+text-cut : (options : ParseOptions) (bytes : List ℕ) (row : Row) (rows : List Row) → AreLines options bytes row rows → CutAt row rows (plain_events bytes (record { kind = Text; chunks = chunks_of row rows })) (read_lines bytes row rows)
 text-cut options bytes row [] h = sym (append-nil (plain_chunk bytes (record { first = row.first; after = row.end })))
 text-cut options bytes row (next ∷ rows) h =
     let chunk : Chunk = record { first = row.first; after = behind_row row } in
@@ -483,15 +483,15 @@ text-cut options bytes row (next ∷ rows) h =
       text-cut options bytes next rows h.7,
     )
 
-lines-become : (options : ParseOptions) (bytes : List ℕ) (row : Row) (rows : List Row) (wants : Content → Bool) (reads : Readings) → wants content.Text ≡ true → ReadsText bytes reads → IsParagraph options bytes row rows → HasFront bytes row →
-    Becomes wants reads (unread_group (Lines row rows)) (paragraph_events bytes row rows)
+lines-become : (options : ParseOptions) (bytes : List ℕ) (row : Row) (rows : List Row) (wants : Content → Bool) (reads : Readings) → wants content.Text ≡ true → ReadsText bytes reads → AreLines options bytes row rows → HasFront bytes row →
+    Becomes wants reads (unread_group (Lines row rows)) (group_events bytes (Lines row rows))
 lines-become options bytes row rows wants reads w rt is front =
     let last : Row = last_row row rows in
     let given : List Event = read_lines bytes row rows in
     let unique : (answer : List Event) → reads content.Text (chunks_of row rows) answer → answer ≡ plain_events bytes (record { kind = Text; chunks = chunks_of row rows }) =
-    λ answer r. rt (chunks_of row rows) answer r last.end (paragraph-lines options bytes row rows is) (paragraph-whole options bytes row rows is) in
-    leaf-becomes wants reads row.front (unread_paragraph row rows) (around n.Paragraph row.first last.end given) (tail_events n.LineEnding last) (front-unwanted wants bytes row front) (tail-unwanted wants TextRow last)
-    (lines-becomes wants reads n.Paragraph n.Data text_link row.first last.end row rows given w refl (paragraph-fronts options bytes row rows is)
+    λ answer r. rt (chunks_of row rows) answer r last.end (chunks-lines options bytes row rows is) (chunks-whole options bytes row rows is) in
+    leaf-becomes wants reads row.front (text_unread row rows) (around text_leaf.name row.first last.end given) (tail_events n.LineEnding last) (front-unwanted wants bytes row front) (tail-unwanted wants TextRow last)
+    (lines-becomes wants reads text_leaf.name n.Data text_link row.first last.end row rows given w refl (lines-prefixed options bytes row rows is)
     (λ answer r. subst (λ (l : List Event). CutAt row rows l given) (sym (unique answer r)) (text-cut options bytes row rows is)))
 
 groups-become : (options : ParseOptions) (bytes : List ℕ) (wants : Content → Bool) (reads : Readings) → wants content.Text ≡ true → ReadsText bytes reads →
@@ -504,7 +504,7 @@ groups-become options bytes wants reads w rt (Lines row rows ∷ gs) are =
     becomes-append wants reads (listed_group bytes (Lines row rows)) (group_events bytes (Lines row rows)) (listed_groups bytes gs) (groups_events bytes gs)
     (lines-become options bytes row rows wants reads w rt are.0 are.2) (groups-become options bytes wants reads w rt gs are.3)
 
--- The text of leaves and paragraphs, read: the events of a text.
+-- The text of leaves, and texts, read: the events of a text.
 pub text-read : (options : ParseOptions) (bytes : List ℕ) (open_before : List Container) (going : Bool) (p : Point) (lines : List (List ℕ)) (rows : List Row) → AreRows options bytes open_before going p lines rows → EachNoContent rows →
     (wants : Content → Bool) (reads : Readings) → wants content.Text ≡ true → ReadsText bytes reads →
     (events : List Event) → Substituted wants reads [] 0 (listed_groups bytes (groups rows)) events → events ≡ groups_events bytes (groups rows)

@@ -23,7 +23,7 @@ use Rattle.markdown_blocks.proofs.SubstitutedLemmas.{Becomes}
 use Rattle.md_seam.specs.Substituted.{Readings}
 use Rattle.markdown_blocks.proofs.ContentFacts.{NoContent}
 
--- a line that ends with what was added, where no paragraph is open
+-- a line that ends with what was added, where no text is open
 abbrev pub shut_line : List Event → List Cell → Here → Outcome
 shut_line added cells h = Accepts (record h { events = h.events ++ added; point = line_end cells h.point; flags = record h.flags { interrupt = false } }) (from_ending cells)
 

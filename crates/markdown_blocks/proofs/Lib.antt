@@ -28,6 +28,7 @@ pub mod PrefixNames
 pub mod PrefixFacts
 pub mod BlockQuote
 pub mod FrontLemmas
+pub mod FrontStands
 pub mod FrontPlaces
 pub mod FrontNames
 pub mod RowFacts
@@ -52,8 +53,10 @@ pub mod Registers
 pub mod StatesRegister
 pub mod JoinedLemmas
 pub mod GroupLemmas
+pub mod Text
 pub mod SimpleBlocks
 pub mod RegistryFound
+pub mod Paragraph
 pub mod LineSteps
 pub mod PlainRoles
 pub mod SpelledParagraphs
@@ -81,6 +84,7 @@ pub mod DocumentReads
 pub mod TileCovers
 pub mod TileReads
 pub mod RowLeaf
+pub mod GroupFacts
 pub mod BlankLine
 pub mod HeadingAtx
 pub mod ThematicBreak

@@ -1,4 +1,4 @@
--- What one line does to the containers and the paragraph that are open, where only leaves that are built may be on.
+-- What one line does to the containers and the text that are open, where only leaves that are built may be on.
 use Rattle.std.proofs.Common.{◌≡◌, ℕ, zero, suc, ◌+◌, ◌≤◌, Bool, true, false, cond, ◌&&◌, ◌||◌, List, [], ◌∷◌, ◌++◌, length, refl, ap, sym, ◌∙◌, subst, append-nil, arith}
 use Rattle.std.specs.Prelude.{Option, Some, None}
 use Rattle.std.specs.Option.{is_some}
@@ -7,7 +7,7 @@ use Rattle.md_engine.specs.declared.configuration.ParseOptions.{ParseOptions}
 use Rattle.md_seam.specs.Standard.Containers.{Taken, continues, opens}
 use Rattle.md_seam.specs.Standard.Leaves.{Came, LazyText, NoText, Text, with_line}
 use Rattle.md_seam.specs.Standard.Rest.{Rest, is_blank}
-use Rattle.md_seam.specs.Standard.State.{At, Container, Kept, Leaf, NoLeaf, OpenParagraph, Path, Spot, Within, at_spot, closed, container_block, kept, shut, shut_paragraph, spot, texts, then_block, then_paragraph}
+use Rattle.md_seam.specs.Standard.State.{At, Container, Kept, Leaf, Path, Spot, Within, at_spot, closed, container_block, kept, shut, spot, texts, then_block}
 use Rattle.md_seam.specs.Standard.Step.{all_continued, all_continued_by, entered, fresh_by, fresh_line, is_concrete, is_open_text, lazy_by, leaf_line, opened, spot_of, step, stopped, stopped_by, text_by, text_line, with_lazy}
 use Rattle.md_seam.specs.Standard.Tree.{Blocks, End}
 use Rattle.md_seam.proofs.ColumnLemmas.{opened_by, step_by}
@@ -16,9 +16,11 @@ use Rattle.md_seam.proofs.TakenLemmas.{LeavesFewer}
 use Rattle.markdown_blocks.specs.Change.{Change, change_by, interrupts, is_none, open_behind, others_of}
 use Rattle.markdown_blocks.specs.Fronted.{Contained, Prefixed, contained, no_prefix, one_more, prefixes_new, prefixes_on}
 use Rattle.markdown_blocks.specs.Parsed.{IsBuilt}
-use Rattle.markdown_blocks.specs.Registry.{LeafName, leaf}
+use Rattle.markdown_blocks.specs.Registry.{LeafName, leaf, text_leaf}
 use Rattle.markdown_blocks.specs.Rows.{BlankRow, LeafRow, RowKind, TextRow, is_lazy, is_text, kind_of, line_kind}
 use Rattle.markdown_blocks.specs.Stands.{IsPlain, IsPlainLeaf, containers_of, is_going}
+use Rattle.markdown_blocks.specs.Leaf.Paragraph.{held_of}
+use Rattle.markdown_blocks.proofs.Paragraph.Open.{open-cases, shut-lines}
 use Rattle.markdown_blocks.proofs.ContainedLemmas.{change-opens, contained-size, lazy-opens, lazy-some}
 use Rattle.markdown_blocks.proofs.RegistryFound.{came_of, leaf_at, starts-found, table-off, underline-off}
 
@@ -26,13 +28,9 @@ use Rattle.markdown_blocks.proofs.RegistryFound.{came_of, leaf_at, starts-found,
 
 -- what is open behind a line of this kind
 abbrev pub spot_by : Blocks → List Kept → Rest → RowKind → Spot
-spot_by bs held r BlankRow = spot_of (then_paragraph bs (texts held))
-spot_by bs held r (LeafRow l) = spot_of (then_block (then_paragraph bs (texts held)) ((leaf l).block r))
+spot_by bs held r BlankRow = spot_of (text_leaf.behind bs (texts held))
+spot_by bs held r (LeafRow l) = spot_of (then_block (text_leaf.behind bs (texts held)) ((leaf l).block r))
 spot_by bs held r TextRow = with_line bs held r
-
-pub shut-lines : (options : ParseOptions) (bs : Blocks) (lines : List (List ℕ)) → options.constructs.definition ≡ false → shut_paragraph options bs lines ≡ then_paragraph bs lines
-unfolding shut_paragraph
-shut-lines options bs lines off = rw off refl
 
 -- a line where nothing is open
 pub fresh-found : (options : ParseOptions) (bs : Blocks) (r : Rest) → IsBuilt options →
@@ -46,7 +44,7 @@ fresh-found options bs r built = rw (starts-found options NoText r built) (go (i
     go false (Some l) = refl
     go false None = refl
 
--- a line where a paragraph is open
+-- a line where text is open
 text-found : (options : ParseOptions) (bs : Blocks) (lines : List Kept) (k : Kept) (r : Rest) → IsBuilt options →
     text_line options bs (k ∷ lines) r ≡ spot_by bs (k ∷ lines) r (line_kind options r)
 unfolding text_line
@@ -54,7 +52,7 @@ text-found options bs lines k r built =
     rw (underline-off options r built, starts-found options Text r built, shut-lines options bs (texts (k ∷ lines)) built.definition) (go (is_blank r.bytes) (leaf_at options r))
   where
     go : (x : Bool) (o : Option LeafName) →
-        cond x (spot_of (then_paragraph bs (texts (k ∷ lines)))) (text_by options bs (k ∷ lines) r (came_of r o)) ≡ spot_by bs (k ∷ lines) r (cond x BlankRow (kind_of o))
+        cond x (spot_of (text_leaf.behind bs (texts (k ∷ lines)))) (text_by options bs (k ∷ lines) r (came_of r o)) ≡ spot_by bs (k ∷ lines) r (cond x BlankRow (kind_of o))
     go true o = refl
     go false (Some l) = ap (λ (x : Blocks). spot_of (then_block x ((leaf l).block r))) (shut-lines options bs (texts (k ∷ lines)) built.definition)
     go false None = rw (table-off options bs (k ∷ lines) r built) refl
@@ -85,7 +83,7 @@ new-enough options interrupting (suc n) (suc m) r h k = go (new-enough options f
     go below None less = refl
     go below (Some t) less = let fewer = less t refl in ap (one_more t.container) (below t.rest (omega arith) (omega arith))
 
--- all containers that open on a line; the first may interrupt a paragraph
+-- all containers that open on a line; the first may interrupt text
 abbrev pub all_new : ParseOptions → Bool → Rest → Prefixed
 all_new options interrupting r = prefixes_new options interrupting (length r.bytes) r
 
@@ -107,14 +105,9 @@ new-found options interrupting (suc n) r h = go (opens options interrupting r) (
 
 -- Paths.
 
--- the lines of an open paragraph
-abbrev pub held_of : Leaf → List Kept
-held_of (OpenParagraph lines) = lines
-held_of _ = []
-
--- with these lines more in the open paragraph, or in a new one
+-- with these lines more in the open text, or in a new one
 abbrev pub longer : Path → List Kept → Path
-longer (At s) lines = At (record { here = s.here; leaf = OpenParagraph (held_of s.leaf ++ lines) })
+longer (At s) lines = At (record { here = s.here; leaf = text_leaf.held (held_of s.leaf ++ lines) })
 longer (Within before container p) lines = Within before container (longer p lines)
 
 -- with these in the place of the outermost containers
@@ -139,7 +132,7 @@ abbrev pub new_line : ParseOptions → List Container → Rest → Blocks → Pa
 new_line options [] r bs = At (fresh_line options bs r)
 new_line options (c ∷ cs) r bs = Within bs c (new_line options cs r End)
 
--- What a line does where these containers went on, and these open on it: it goes on the open paragraph, and all containers stay, or
+-- What a line does where these containers went on, and these open on it: it goes on the open text, and all containers stay, or
 -- all else is closed, and it begins in the new ones.
 abbrev pub stepped : ParseOptions → Path → List Container → Prefixed → Path
 stepped options p went new =
@@ -177,20 +170,23 @@ entered-new options bs t = ap (Within bs t.container) (opened-new options (lengt
 
 -- where all containers go on, and none opens
 leaf-stepped : (options : ParseOptions) (bs : Blocks) (leaf : Leaf) (r : Rest) → IsBuilt options → IsPlainLeaf leaf → At (leaf_line options (record { here = bs; leaf = leaf }) r) ≡ stepped options (At (record { here = bs; leaf = leaf })) [] (no_prefix r)
-leaf-stepped options bs NoLeaf r built plain = refl
-leaf-stepped options bs (OpenParagraph (k ∷ ks)) r built plain =
-    ap At (text-found options bs ks k r built)
-    ∙ go (line_kind options r)
-    ∙ sym (ap (by (line_kind options r)) (ap (λ (x : Blocks). fresh_line options x r) (shut-lines options bs (texts (k ∷ ks)) built.definition) ∙ fresh-found options (then_paragraph bs (texts (k ∷ ks))) r built))
+leaf-stepped options bs leaf r built plain =
+    open-cases (λ (leaf : Leaf). At (leaf_line options (record { here = bs; leaf = leaf }) r) ≡ stepped options (At (record { here = bs; leaf = leaf })) [] (no_prefix r)) refl text leaf plain
   where
-    by : RowKind → Spot → Path
-    by kind s = cond (is_lazy true [] kind) (At (with_line bs (k ∷ ks) r)) (At s)
+    by : Kept → List Kept → RowKind → Spot → Path
+    by k ks kind s = cond (is_lazy true [] kind) (At (with_line bs (k ∷ ks) r)) (At s)
 
-    go : (kind : RowKind) → At (spot_by bs (k ∷ ks) r kind) ≡ by kind (spot_by (then_paragraph bs (texts (k ∷ ks))) [] r kind)
-    go BlankRow = refl
-    go (LeafRow l) = refl
-    go TextRow = refl
-leaf-stepped options bs leaf r built plain = absurd plain
+    go : (k : Kept) (ks : List Kept) (kind : RowKind) → At (spot_by bs (k ∷ ks) r kind) ≡ by k ks kind (spot_by (text_leaf.behind bs (texts (k ∷ ks))) [] r kind)
+    go k ks BlankRow = refl
+    go k ks (LeafRow l) = refl
+    go k ks TextRow = refl
+
+    text : (k : Kept) (ks : List Kept) →
+        At (leaf_line options (record { here = bs; leaf = text_leaf.held (k ∷ ks) }) r) ≡ stepped options (At (record { here = bs; leaf = text_leaf.held (k ∷ ks) })) [] (no_prefix r)
+    text k ks =
+        ap At (text-found options bs ks k r built)
+        ∙ go k ks (line_kind options r)
+        ∙ sym (ap (by k ks (line_kind options r)) (ap (λ (x : Blocks). fresh_line options x r) (shut-lines options bs (texts (k ∷ ks)) built.definition) ∙ fresh-found options (text_leaf.behind bs (texts (k ∷ ks))) r built))
 
 -- where all containers go on
 step-at : (options : ParseOptions) (s : Spot) (r : Rest) → IsBuilt options → IsPlainLeaf s.leaf → all_continued options s r ≡ stepped options (At s) [] (all_new options (interrupts (is_open_text s.leaf) []) r)
@@ -204,39 +200,42 @@ step-at options s r built plain =
     interrupting = interrupts (is_open_text s.leaf) []
 
     free : (leaf : Leaf) → IsPlainLeaf leaf → cond (is_concrete leaf) None (opens options (is_open_text leaf) r) ≡ opens options (interrupts (is_open_text leaf) []) r
-    free NoLeaf plain = refl
-    free (OpenParagraph (k ∷ ks)) plain = refl
-    free leaf plain = absurd plain
+    free leaf plain =
+        open-cases (λ (leaf : Leaf). cond (is_concrete leaf) None (opens options (is_open_text leaf) r) ≡ opens options (interrupts (is_open_text leaf) []) r) refl (λ k ks. refl) leaf plain
 
     go : (o : Option Taken) → all_continued_by options s r o ≡ stepped options (At s) [] (found_by options r o)
     go None = leaf-stepped options s.here s.leaf r built plain
     go (Some t) = entered-new options (shut options s) t ∙ sym (stepped-more options (At s) [] t.container (all_new options false t.rest))
 
-at_spot-longer : (p : Path) (lines more : List Kept) → (spot p).leaf ≡ OpenParagraph lines → at_spot p (record { here = (spot p).here; leaf = OpenParagraph (lines ++ more) }) ≡ longer p more
-at_spot-longer (At s) lines more e = ap (λ (x : Leaf). At (record { here = s.here; leaf = OpenParagraph (held_of x ++ more) })) (sym e)
+at_spot-longer : (p : Path) (lines more : List Kept) → (spot p).leaf ≡ text_leaf.held lines → at_spot p (record { here = (spot p).here; leaf = text_leaf.held (lines ++ more) }) ≡ longer p more
+at_spot-longer (At s) lines more e = ap (λ (x : Leaf). At (record { here = s.here; leaf = text_leaf.held (held_of x ++ more) })) (sym e)
 at_spot-longer (Within before container p) lines more e = ap (Within before container) (at_spot-longer p lines more e)
 
 -- where this container does not go on, and none opens
 lazy-stepped : (options : ParseOptions) (before : Blocks) (c : Container) (p : Path) (r : Rest) → IsBuilt options → (leaf : Leaf) → (spot p).leaf ≡ leaf → IsPlainLeaf leaf →
     lazy_by options before c p r (with_lazy options leaf r) ≡
     cond (is_lazy (is_open_text leaf) [] (line_kind options r)) (Within before c (longer (renewed (containers_of p) p) (kept r ∷ []))) (At (fresh_line options (then_block before (container_block c (closed options p))) r))
-lazy-stepped options before c p r built NoLeaf e plain = refl
-lazy-stepped options before c p r built (OpenParagraph (k ∷ ks)) e plain =
-    ap (λ (o : Option Came). lazy_by options before c p r (cond (is_blank r.bytes || is_some o) None (Some (OpenParagraph (k ∷ ks ++ kept r ∷ []))))) (starts-found options LazyText r built)
-    ∙ go (is_blank r.bytes) (leaf_at options r)
+lazy-stepped options before c p r built leaf e plain = open-cases By (λ e. refl) text leaf plain e
   where
     other : Path
     other = At (fresh_line options (then_block before (container_block c (closed options p))) r)
 
-    by : RowKind → Path
-    by kind = cond (is_lazy true [] kind) (Within before c (longer (renewed (containers_of p) p) (kept r ∷ []))) other
+    longer_by : Bool → RowKind → Path
+    longer_by going kind = cond (is_lazy going [] kind) (Within before c (longer (renewed (containers_of p) p) (kept r ∷ []))) other
 
-    go : (x : Bool) (o : Option LeafName) →
-        lazy_by options before c p r (cond (x || is_some (came_of r o)) None (Some (OpenParagraph (k ∷ ks ++ kept r ∷ [])))) ≡ by (cond x BlankRow (kind_of o))
-    go true o = refl
-    go false (Some l) = refl
-    go false None = ap (Within before c) (at_spot-longer p (k ∷ ks) (kept r ∷ []) e ∙ ap (λ (q : Path). longer q (kept r ∷ [])) (sym (renewed-same p)))
-lazy-stepped options before c p r built leaf e plain = absurd plain
+    By : Leaf → Type 0
+    By leaf = (spot p).leaf ≡ leaf → lazy_by options before c p r (with_lazy options leaf r) ≡ longer_by (is_open_text leaf) (line_kind options r)
+
+    go : (k : Kept) (ks : List Kept) → (spot p).leaf ≡ text_leaf.held (k ∷ ks) → (x : Bool) (o : Option LeafName) →
+        lazy_by options before c p r (cond (x || is_some (came_of r o)) None (Some (text_leaf.held (k ∷ ks ++ kept r ∷ [])))) ≡ longer_by true (cond x BlankRow (kind_of o))
+    go k ks e true o = refl
+    go k ks e false (Some l) = refl
+    go k ks e false None = ap (Within before c) (at_spot-longer p (k ∷ ks) (kept r ∷ []) e ∙ ap (λ (q : Path). longer q (kept r ∷ [])) (sym (renewed-same p)))
+
+    text : (k : Kept) (ks : List Kept) → By (text_leaf.held (k ∷ ks))
+    text k ks e =
+        ap (λ (o : Option Came). lazy_by options before c p r (cond (is_blank r.bytes || is_some o) None (Some (text_leaf.held (k ∷ ks ++ kept r ∷ []))))) (starts-found options LazyText r built)
+        ∙ go k ks e (is_blank r.bytes) (leaf_at options r)
 
 step-stopped : (options : ParseOptions) (before : Blocks) (c : Container) (p : Path) (r : Rest) → IsBuilt options → IsPlain p → stopped options before c p r ≡ stepped options (Within before c p) [] (all_new options (interrupts (is_going p) (c ∷ containers_of p)) r)
 unfolding stopped
@@ -287,7 +286,7 @@ step-new options (Within before c p) r built plain = go (λ s. step-new options 
 abbrev pub contained_at : ParseOptions → Path → Rest → Contained
 contained_at options p r = contained options (containers_of p) (is_going p) r
 
--- whether a line goes on the open paragraph
+-- whether a line goes on the open text
 abbrev pub goes_lazy : ParseOptions → Path → Contained → Bool
 goes_lazy options p c = is_lazy (is_going p) c.change.opens (line_kind options c.rest)
 
@@ -295,7 +294,7 @@ goes_lazy options p c = is_lazy (is_going p) c.change.opens (line_kind options c
 abbrev pub new_path : ParseOptions → Path → Contained → Path
 new_path options p c = behind_path (kept_to options c.change.stays p) (new_line options c.change.opens c.rest)
 
--- What a line does to the containers and the paragraph that are open, by its containers.
+-- What a line does to the containers and the text that are open, by its containers.
 pub step-contained : (options : ParseOptions) (p : Path) (r : Rest) → IsBuilt options → IsPlain p →
     let c = contained_at options p r in step options p r ≡ cond (goes_lazy options p c) (longer (renewed c.change.stays p) (kept c.rest ∷ [])) (new_path options p c)
 unfolding contained
@@ -320,7 +319,7 @@ step-contained options p r built plain = step-new options p r built plain ∙ go
     go true = refl
     go false = refl
 
--- a line that goes on the open paragraph closes nothing
+-- a line that goes on the open text closes nothing
 pub contained-lazy : (options : ParseOptions) (p : Path) (r : Rest) → goes_lazy options p (contained_at options p r) ≡ true → (contained_at options p r).change.closes ≡ []
 unfolding contained
 contained-lazy options p r h = go lazy (sym (ap (λ (opens : List Container). is_lazy (is_going p) opens (line_kind options new.rest)) (change-opens lazy on.containers others new.containers)) ∙ h)
@@ -343,21 +342,14 @@ contained-lazy options p r h = go lazy (sym (ap (λ (opens : List Container). is
 
 -- Plain paths stay such.
 
-plain-kept : (options : ParseOptions) (cs : List Container) (p : Path) → IsPlain (kept_to options cs p)
-plain-kept options [] p = tt
-plain-kept options (c ∷ cs) (At s) = tt
-plain-kept options (c ∷ cs) (Within before container p) = plain-kept options cs p
-
 plain-renewed : (cs : List Container) (p : Path) → IsPlain p → IsPlain (renewed cs p)
 plain-renewed cs p plain = subst (λ (s : Spot). IsPlainLeaf s.leaf) (sym (renewed-spot cs p)) plain
 
 pub plain-longer : (p : Path) (k : Kept) (ks : List Kept) → IsPlain p → IsPlain (longer p (k ∷ ks))
 plain-longer (At s) k ks plain = go s.leaf plain
   where
-    go : (leaf : Leaf) → IsPlainLeaf leaf → IsPlainLeaf (OpenParagraph (held_of leaf ++ k ∷ ks))
-    go NoLeaf h = tt
-    go (OpenParagraph (j ∷ js)) h = tt
-    go leaf h = absurd h
+    go : (leaf : Leaf) → IsPlainLeaf leaf → IsPlainLeaf (text_leaf.held (held_of leaf ++ k ∷ ks))
+    go leaf h = open-cases (λ (leaf : Leaf). IsPlainLeaf (text_leaf.held (held_of leaf ++ k ∷ ks))) tt (λ j js. tt) leaf h
 plain-longer (Within before container p) k ks plain = plain-longer p k ks plain
 
 plain-behind : (p : Path) (f : Blocks → Path) → ((bs : Blocks) → IsPlain (f bs)) → IsPlain (behind_path p f)
@@ -386,7 +378,7 @@ plain-step options p r built plain = subst IsPlain (sym (step-contained options 
     go true = plain-longer (renewed c.change.stays p) (kept c.rest) [] (plain-renewed c.change.stays p plain)
     go false = plain-behind (kept_to options c.change.stays p) (new_line options c.change.opens c.rest) (λ bs. plain-new_line options c.change.opens c.rest bs built)
 
--- a line that goes on the open paragraph is text
+-- a line that goes on the open text is text
 pub lazy-text : (going : Bool) (opens : List Container) (kind : RowKind) → is_lazy going opens kind ≡ true → is_text kind ≡ true
 lazy-text going opens kind e = (and_parts (going && is_none opens) (is_text kind) e).1
 
@@ -435,7 +427,7 @@ containers-step options p r built plain = ap containers_of (step-contained optio
         containers-behind (kept_to options c.change.stays p) (new_line options c.change.opens c.rest) c.change.opens (λ bs. containers-new_line options c.change.opens c.rest bs)
         ∙ ap (λ (l : List Container). l ++ c.change.opens) (containers-kept options c.change.stays p (omega (arith, sizes)))
 
--- Whether a paragraph is open behind a line.
+-- Whether text is open behind a line.
 
 going-longer : (p : Path) (ks : List Kept) → is_going (longer p ks) ≡ true
 going-longer (At s) ks = refl

@@ -28,7 +28,7 @@ use Rattle.md_seam.proofs.TextsLemmas.{Ending, EndsBefore, NoEnding, ending_byte
 use Rattle.markdown_blocks.specs.Rows.{Row, TextRow, behind_row, chunks_of, last_row}
 use Rattle.markdown_blocks.specs.Unread.{linked}
 use Rattle.markdown_blocks.proofs.FrontPlaces.{fronts-grow, fronts-line}
-use Rattle.markdown_blocks.proofs.GroupLemmas.{IsParagraph, ReadsContent, row-line, text-some}
+use Rattle.markdown_blocks.proofs.GroupLemmas.{AreLines, ReadsContent, row-line, text-some}
 use Rattle.markdown_blocks.proofs.LineTexts.{piece}
 use Rattle.markdown_blocks.proofs.RowFacts.{IsRow}
 
@@ -43,12 +43,12 @@ row-within options bytes line row is text =
     let more = length-drop row.end.index bytes in
     omega (arith, is.size)
 
-first-row : (options : ParseOptions) (bytes : List ℕ) (row : Row) (rows : List Row) → IsParagraph options bytes row rows → (line : List ℕ) × IsRow options bytes line row
+first-row : (options : ParseOptions) (bytes : List ℕ) (row : Row) (rows : List Row) → AreLines options bytes row rows → (line : List ℕ) × IsRow options bytes line row
 first-row options bytes row [] h = (h.0, h.1)
 first-row options bytes row (next ∷ rows) h = (h.0, h.1)
 
 -- the first line ends where the last does, or before
-ends-grow : (options : ParseOptions) (bytes : List ℕ) (row : Row) (rows : List Row) → IsParagraph options bytes row rows → row.end.index ≤ (last_row row rows).end.index
+ends-grow : (options : ParseOptions) (bytes : List ℕ) (row : Row) (rows : List Row) → AreLines options bytes row rows → row.end.index ≤ (last_row row rows).end.index
 ends-grow options bytes row [] h = omega arith
 ends-grow options bytes row (next ∷ rows) h =
     let more = ends-grow options bytes next rows h.7 in
@@ -56,7 +56,7 @@ ends-grow options bytes row (next ∷ rows) h =
     let front = fronts-grow bytes [] h.3 next.first next.front h.6 in
     omega (arith, h.5.size, line.size)
 
-last-within : (options : ParseOptions) (bytes : List ℕ) (row : Row) (rows : List Row) → IsParagraph options bytes row rows → (last_row row rows).end.index ≤ length bytes
+last-within : (options : ParseOptions) (bytes : List ℕ) (row : Row) (rows : List Row) → AreLines options bytes row rows → (last_row row rows).end.index ≤ length bytes
 last-within options bytes row [] h = row-within options bytes h.0 row h.1 h.2
 last-within options bytes row (next ∷ rows) h = last-within options bytes next rows h.7
 
@@ -180,7 +180,7 @@ past_text-line [] p = refl
 past_text-line (b ∷ bs) p = past_text-line bs (past_byte b p)
 
 -- the next line is the one behind it
-next-line : (options : ParseOptions) (bytes : List ℕ) (row next : Row) (rows : List Row) → IsParagraph options bytes row (next ∷ rows) → next.first.line ≡ row.first.line + 1
+next-line : (options : ParseOptions) (bytes : List ℕ) (row next : Row) (rows : List Row) → AreLines options bytes row (next ∷ rows) → next.first.line ≡ row.first.line + 1
 next-line options bytes row next rows h =
     let front = fronts-line bytes [] h.3 next.first next.front h.6 in
     let end = ap (λ (p : Point). p.line) h.1.end ∙ past_text-line h.0 row.first in
@@ -194,7 +194,7 @@ begun-next x p s at line le =
     ap (λ (o : Option Point). begun_at o p) some ∙ ap (λ (t : Bool). cond t s p) further
 
 -- each line is one part, which ends where its chunk does
-lines-read : (options : ParseOptions) (bytes : List ℕ) (x : Setting) (k : ℕ) (row : Row) (rows : List Row) (behind : List Event) → IsParagraph options bytes row rows → AreRead x bytes k row rows →
+lines-read : (options : ParseOptions) (bytes : List ℕ) (x : Setting) (k : ℕ) (row : Row) (rows : List Row) (behind : List Event) → AreLines options bytes row rows → AreRead x bytes k row rows →
     (settled (chunks_of row rows) (enter_link n.Data row.first text_link ∷ line_events (text_feed x row.first) row.first ++ behind) ≡ linked n.Data text_link (chunks_of row rows) ++ behind)
     × (point_after (text_feed x row.first) row.first ≡ (last_row row rows).end)
 lines-read options bytes x k row [] behind h r =
@@ -240,7 +240,7 @@ skip-here w p e = go (w.point.line == p.line) (nat_le w.point.index p.index)
 skip-later : (w : World) (p : Point) → w.point.line < p.line → (skipping w p).point ≡ w.point
 skip-later w p lt = let other : (w.point.line == p.line) ≡ false = grind (arith, nat_tests) in rw other refl
 
-skips-later : (options : ParseOptions) (bytes : List ℕ) (w : World) (row : Row) (rows : List Row) → IsParagraph options bytes row rows → w.point.line < row.first.line → (skipping_all w (chunks_of row rows)).point ≡ w.point
+skips-later : (options : ParseOptions) (bytes : List ℕ) (w : World) (row : Row) (rows : List Row) → AreLines options bytes row rows → w.point.line < row.first.line → (skipping_all w (chunks_of row rows)).point ≡ w.point
 skips-later options bytes w row [] h lt = skip-later w row.first lt
 skips-later options bytes w row (next ∷ rows) h lt =
     let stays = skip-later w row.first lt in
@@ -248,7 +248,7 @@ skips-later options bytes w row (next ∷ rows) h lt =
     let number = next-line options bytes row next rows h in
     skips-later options bytes (skipping w row.first) next rows h.7 (omega arith) ∙ stays
 
-skips-here : (options : ParseOptions) (bytes : List ℕ) (w : World) (row : Row) (rows : List Row) → IsParagraph options bytes row rows → w.point ≡ row.first → (skipping_all w (chunks_of row rows)).point ≡ row.first
+skips-here : (options : ParseOptions) (bytes : List ℕ) (w : World) (row : Row) (rows : List Row) → AreLines options bytes row rows → w.point ≡ row.first → (skipping_all w (chunks_of row rows)).point ≡ row.first
 skips-here options bytes w row [] h e = skip-here w row.first e
 skips-here options bytes w row (next ∷ rows) h e =
     let stays = skip-here w row.first e in
@@ -277,7 +277,7 @@ end-is row [] = refl
 end-is row (next ∷ []) = refl
 end-is row (next ∷ below ∷ rows) = end-is next (below ∷ rows)
 
-part-read : (options under : ParseOptions) (bytes : List ℕ) → length bytes < 2 ^ 61 → (row : Row) (rows : List Row) → IsParagraph options bytes row rows → AreRead (part_world bytes under (chunks_of row rows)).setting bytes 0 row rows
+part-read : (options under : ParseOptions) (bytes : List ℕ) → length bytes < 2 ^ 61 → (row : Row) (rows : List Row) → AreLines options bytes row rows → AreRead (part_world bytes under (chunks_of row rows)).setting bytes 0 row rows
 part-read options under bytes small row rows h =
     let chunks = chunks_of row rows in
     let start = fresh bytes under (first_of chunks) in
@@ -289,7 +289,7 @@ part-read options under bytes small row rows h =
     record { small = omega arith; bytes_are = ap (λ (w : World). w.setting.bytes) same; limit = end; skips = skips-are start chunks ∙ begins-are row rows; line = omega arith }
 
 -- A part of content that is lines of a text is read as a paragraph of these lines.
-pub paragraph-reads : (options under : ParseOptions) (bytes : List ℕ) → length bytes < 2 ^ 61 → (row : Row) (rows : List Row) → IsParagraph options bytes row rows →
+pub paragraph-reads : (options under : ParseOptions) (bytes : List ℕ) → length bytes < 2 ^ 61 → (row : Row) (rows : List Row) → AreLines options bytes row rows →
     content_events bytes under (chunks_of row rows) ≡ around n.Paragraph row.first (last_row row rows).end (linked n.Data text_link (chunks_of row rows))
 unfolding content_events
 paragraph-reads options under bytes small row rows h =

@@ -84,7 +84,7 @@ inside-append bytes cs ds xs ys h k = record {
   stand = λ zs. ap (chunks_stand 1) (append_assoc xs ys zs) ∙ h.stand (ys ++ zs) ∙ k.stand zs;
 }
 
--- the lines of a paragraph
+-- the lines of a text
 pub inside-chunk : (bytes : List ℕ) (p q : Point) → Inside bytes ((record { first = p; after = q }) ∷ []) (enter_link n.Data p text_link ∷ exit n.Data q ∷ [])
 inside-chunk bytes p q = record { outside = (refl, (refl, tt)); ends = refl; white = refl; has = refl; stand = λ ys. refl }
 

@@ -1,5 +1,7 @@
 -- The events of a text are those that an outline can be made of.
-use Rattle.std.proofs.Common.{◌≡◌, ◌≢◌, ℕ, ◌+◌, Bool, true, false, ◌||◌, ◌==◌, not, List, [], ◌∷◌, ◌++◌, map, refl, sym, ap, subst}
+use Rattle.md_outline.specs.Roles.{is_plain, is_told}
+use Rattle.md_outline.specs.HeadingDepths.{are_shallow}
+use Rattle.std.proofs.Common.{◌≡◌, ℕ, ◌+◌, Bool, true, false, ◌||◌, not, List, [], ◌∷◌, ◌++◌, map, refl, sym, subst}
 use Rattle.std.specs.Prelude.{Option, Some, None}
 use Rattle.std.specs.List.{list_all}
 use Rattle.std.specs.Str.{IsUtf8}
@@ -7,11 +9,8 @@ use Rattle.std.proofs.lemmas.Bool.{and_from, and_parts}
 use Rattle.md_engine.specs.declared.configuration.ParseOptions.{ParseOptions}
 use Rattle.md_engine.specs.declared.event.Event.{Event}
 use Rattle.md_engine.specs.declared.event.Name.{Name}
-use Rattle.md_engine.specs.declared.event.Name.TheVariants as n
 use Rattle.md_engine.specs.declared.event.Point.{Point}
-use Rattle.md_seam.specs.declared.inline.Chunk.{Chunk}
-use Rattle.md_seam.specs.Events.Inline.{plain_chunk}
-use Rattle.md_seam.specs.Events.Nested.{Balanced, around, enter, exit, pair}
+use Rattle.md_seam.specs.Events.Nested.{Balanced, exit, pair}
 use Rattle.md_seam.specs.Events.Spelled.{Holds, Shape, byte_at, role, spelled}
 use Rattle.md_seam.specs.Standard.State.{Container}
 use Rattle.md_seam.proofs.SpelledLemmas.{Roles, roles-append}
@@ -19,21 +18,19 @@ use Rattle.md_outline.specs.Between.{is_between}
 use Rattle.md_outline.specs.Outlined.{IsOutlined, tells_between}
 use Rattle.markdown_blocks.specs.Change.{Change, ends_of}
 use Rattle.markdown_blocks.specs.Fronted.{contained, rest_from, rest_line}
-use Rattle.markdown_blocks.specs.Rows.{BlankRow, Group, Lines, Row, RowKind, Single, TextRow, behind_row, ending_events, group_events, groups, groups_events, is_text, last_row, read_lines, single_events_by, tail_events, LeafRow, ending_of, leaf_done, leaf_events}
+use Rattle.markdown_blocks.specs.Rows.{final_row, first_row, group_done, group_kind, BlankRow, Group, Lines, Row, RowKind, Single, TextRow, ending_events, group_events, groups, groups_events, is_text, tail_events, LeafRow, ending_of}
 use Rattle.markdown_blocks.specs.ContainerKinds.{container_name, shape_of}
 use Rattle.markdown_blocks.proofs.ContainedLemmas.{contained-shapes}
 use Rattle.markdown_blocks.proofs.EachRow.{EachGroup, EachRow, OfGroup, groups-each, last-each}
 use Rattle.markdown_blocks.proofs.FrontFacts.{Begins, Behind, LinePrefix, Goes}
-use Rattle.markdown_blocks.proofs.PartedRows.{rest-clear, rows-parted}
+use Rattle.markdown_blocks.proofs.PartedRows.{rows-parted}
+use Rattle.markdown_blocks.proofs.Text.Parted.{rest-clear}
+use Rattle.markdown_blocks.proofs.FrontStands.{plain-front}
 use Rattle.markdown_blocks.proofs.RowFacts.{AreRows, IsLine, behind_line}
-use Rattle.markdown_blocks.proofs.PlainFacts.{ArePlain, Untold, chunk-plain, is_clear, plain-append, plain-around, plain-nil, plain-untold}
+use Rattle.markdown_blocks.proofs.PlainFacts.{ArePlain, Untold, is_clear, plain-append, plain-nil, plain-untold}
 use Rattle.markdown_blocks.proofs.PartedFacts.{clear, clear-between}
-use Rattle.markdown_blocks.proofs.RowLeaf.{row-leaf}
+use Rattle.markdown_blocks.proofs.NestedRows.{ByGroups, rows-hold}
 use Rattle.markdown_blocks.proofs.ContainerNames.{container-untold}
-use Rattle.markdown_blocks.proofs.PrefixFacts.{Opens}
-use Rattle.markdown_blocks.proofs.PrefixNames.{prefixes-roles, quiets-roles}
-use Rattle.md_outline.specs.Roles.{is_plain, is_told}
-use Rattle.md_outline.specs.HeadingDepths.{are_shallow}
 
 -- Containers.
 
@@ -73,26 +70,12 @@ fronts-shown bytes _ p _ _ (Behind _) = tt
 fronts-shown bytes opens p r _ (Goes _ _ q _ es fs is more) = fronts-shown bytes opens q r fs more
 fronts-shown bytes _ p r _ (Begins c opens _ q _ es fs is more) = (is.shown, fronts-shown bytes opens q r fs more)
 
--- what stands in front of a line
-plain-front : (bytes : List ℕ) (opens : List Container) (p q : Point) (front : List Event) →
-    LinePrefix bytes opens p q front → ArePlain bytes front
-plain-front bytes _ p _ _ (Behind _) = plain-nil bytes
-plain-front bytes opens p r _ (Goes _ _ q _ es fs is more) = plain-append bytes es fs (plain-untold bytes es (prefixes-roles Untold es (refl, refl) (refl, refl) is.names)) (plain-front bytes opens q r fs more)
-plain-front bytes _ p r _ (Begins c opens _ q _ es fs is more) =
-    let facts : Opens bytes c p q es = is in
-    let begin : Untold (role (container_name c)) = container-untold c facts.shown in
-    let behind : ArePlain bytes es = plain-untold bytes es (quiets-roles Untold es (refl, refl) (refl, refl) facts.roles) in
-    plain-append bytes (enter (container_name c) p ∷ []) (es ++ fs) (plain-untold bytes (enter (container_name c) p ∷ []) (begin, tt)) (plain-append bytes es fs behind (plain-front bytes opens q r fs more))
-
 -- Rows.
 
--- a row without names of other blocks, whose ends are clear
+-- a row behind which containers end that an outline shows, and that begins clear
 record IsPlainRow (bytes : List ℕ) (row : Row) : Type 0 where
-  front : ArePlain bytes row.front
   leaves : AreShown row.leaves
-  leaf : row.kind ≢ TextRow → ArePlain bytes (leaf_done bytes row.kind row)
   first : clear bytes row.first ≡ true
-  end : clear bytes row.end ≡ true
 
 -- what stands in front of a line, a block, and what follows it
 plain-line : (bytes : List ℕ) (name : Name) (front inside : List Event) (row : Row) → Untold (role name) →
@@ -106,40 +89,29 @@ ending-untold BlankRow = (refl, refl)
 ending-untold (LeafRow l) = (refl, refl)
 ending-untold TextRow = (refl, refl)
 
--- the place of text that is not read
-plain-place : (bytes : List ℕ) (row : Row) → ArePlain bytes (leaf_events TextRow row)
-plain-place bytes row = record { names = refl; texts = refl }
+-- of a group, the first line and the last
+first-plain : (bytes : List ℕ) (group : Group) → OfGroup (IsPlainRow bytes) group → IsPlainRow bytes (first_row group)
+first-plain bytes (Single row) h = h
+first-plain bytes (Lines row rows) h = h.0
 
-plain-row : (bytes : List ℕ) (row : Row) → IsPlainRow bytes row → ArePlain bytes (single_events_by bytes row.kind row)
-plain-row bytes row h = plain-line bytes (ending_of row.kind) row.front (leaf_done bytes row.kind row) row (ending-untold row.kind) h.leaves h.front (go row.kind refl)
-  where
-    go : (kind : RowKind) → row.kind ≡ kind → ArePlain bytes (leaf_done bytes kind row)
-    go TextRow e = plain-place bytes row
-    go BlankRow e = subst (λ (kind : RowKind). ArePlain bytes (leaf_done bytes kind row)) e (h.leaf (λ k. cc))
-    go (LeafRow l) e = subst (λ (kind : RowKind). ArePlain bytes (leaf_done bytes kind row)) e (h.leaf (λ k. cc))
+final-plain : (bytes : List ℕ) (group : Group) → OfGroup (IsPlainRow bytes) group → IsPlainRow bytes (final_row group)
+final-plain bytes (Single row) h = h
+final-plain bytes (Lines row rows) h = last-each (IsPlainRow bytes) row rows h.0 h.1
 
--- the text of a paragraph
-plain-lines : (bytes : List ℕ) (row : Row) (rows : List Row) → EachRow (IsPlainRow bytes) rows →
-    ArePlain bytes (read_lines bytes row rows)
-plain-lines bytes row [] h = chunk-plain bytes (record { first = row.first; after = row.end })
-plain-lines bytes row (next ∷ rows) h =
-    let chunk : Chunk = record { first = row.first; after = behind_row row } in
-    plain-append bytes (plain_chunk bytes chunk ++ next.front) (read_lines bytes next rows) (plain-append bytes (plain_chunk bytes chunk) next.front (chunk-plain bytes chunk) h.0.front) (plain-lines bytes next rows h.1)
+-- groups of such rows
+abbrev PlainGroups : List ℕ → List Name → Point → List Group → Type 0
+PlainGroups bytes names p gs = EachGroup (IsPlainRow bytes) gs → ArePlain bytes (groups_events bytes gs)
 
-plain-group : (bytes : List ℕ) (group : Group) → OfGroup (IsPlainRow bytes) group →
-    ArePlain bytes (group_events bytes group)
-plain-group bytes (Single row) h = plain-row bytes row h
-plain-group bytes (Lines row rows) h =
-    let last : Row = last_row row rows in
-    let is : IsPlainRow bytes row = h.0 in
-    let last_is : IsPlainRow bytes last = last-each (IsPlainRow bytes) row rows h.0 h.1 in
-    let inside : List Event = read_lines bytes row rows in
-    plain-line bytes n.LineEnding row.front (around n.Paragraph row.first last.end inside) last (refl, refl) last_is.leaves is.front (plain-around bytes n.Paragraph row.first last.end inside refl is.first last_is.end (plain-lines bytes row rows h.1))
-
-plain-all : (bytes : List ℕ) (gs : List Group) → EachGroup (IsPlainRow bytes) gs →
-    ArePlain bytes (groups_events bytes gs)
-plain-all bytes [] h = plain-nil bytes
-plain-all bytes (group ∷ gs) h = plain-append bytes (group_events bytes group) (groups_events bytes gs) (plain-group bytes group h.0) (plain-all bytes gs h.1)
+plain-by_groups : (bytes : List ℕ) → ByGroups bytes (PlainGroups bytes)
+plain-by_groups bytes = record {
+  none = λ p h. plain-nil bytes;
+  group = λ names kept p group gs o keeps on h.
+      let row : Row = first_row group in
+      let kind : RowKind = group_kind group in
+      plain-append bytes (group_events bytes group) (groups_events bytes gs)
+      (plain-line bytes (ending_of kind) row.front (group_done bytes group) (final_row group) (ending-untold kind) (final-plain bytes group h.0).leaves (plain-front bytes row.change.opens p row.first row.front o.front) (o.leaf.1.plain (first-plain bytes group h.0).first))
+      (on h.1);
+}
 
 -- The rows of a text are such rows.
 
@@ -165,14 +137,7 @@ line-plain : (options : ParseOptions) (bytes : List ℕ) (open_before : List Con
     IsLine options bytes open_before going p line row → AreShown row.leaves → IsPlainRow bytes row
 line-plain options bytes open_before going p line row at leaves =
     let rest : List ℕ = rest_line (contained options open_before going (rest_from p line)).rest in
-    let first : clear bytes row.first ≡ true = rest-clear options bytes rest row at.is in
-    record {
-      front = plain-front bytes row.change.opens p row.first row.front at.front;
-      leaves = leaves;
-      leaf = λ other. (row-leaf options bytes rest row at.is other).1.plain first;
-      first = first;
-      end = ap (λ (v : ℕ). (v == 0) || is_between bytes (byte_at row.end)) at.is.end_whole;
-    }
+    record { leaves = leaves; first = rest-clear options bytes rest row at.is }
 
 plain-rows : (options : ParseOptions) (bytes : List ℕ) (open_before : List Container) (going : Bool) (p : Point) (lines : List (List ℕ)) (rows : List Row) →
     AreRows options bytes open_before going p lines rows → AreShown open_before → EachRow (IsPlainRow bytes) rows
@@ -209,13 +174,13 @@ pub groups-outlined : (options : ParseOptions) (bytes : List ℕ) (p : Point) (l
     are_shallow (spelled (groups_events bytes (groups rows)) bytes) ≡ true →
     IsOutlined (groups_events bytes (groups rows)) bytes
 groups-outlined options bytes p lines rows are utf8 balanced between depths =
-    let plain : ArePlain bytes (groups_events bytes (groups rows)) = plain-all bytes (groups rows) (groups-each (IsPlainRow bytes) rows (plain-rows options bytes [] false p lines rows are tt)) in
+    let plain : ArePlain bytes (groups_events bytes (groups rows)) = rows-hold bytes (PlainGroups bytes) (plain-by_groups bytes) options p lines rows are (groups-each (IsPlainRow bytes) rows (plain-rows options bytes [] false p lines rows are tt)) in
     record {
       balanced = balanced;
       names = plain.names;
       text = utf8;
       between = between;
       texts = all-tell bytes (groups_events bytes (groups rows)) plain.texts between;
-      parted = rows-parted options bytes [] false p lines rows are;
+      parted = rows-parted options bytes p lines rows are;
       depths = depths;
     }

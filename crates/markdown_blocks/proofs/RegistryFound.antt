@@ -85,7 +85,7 @@ html-off : (options : ParseOptions) (against : ParagraphContext) (r : Rest) → 
 unfolding html_at
 html-off options against r off = rw off refl
 
--- no line turns the open paragraph into something else: it is no underline, and no row of a table begins behind it
+-- no line turns the open text into something else: it is no underline, and no row of a table begins behind it
 pub underline-off : (options : ParseOptions) (r : Rest) → IsBuilt options → underline_depth options r ≡ None
 unfolding underline_depth
 underline-off options r built = rw built.heading_setext refl
@@ -95,7 +95,7 @@ pub table-off : (options : ParseOptions) (bs : Blocks) (lines : List Kept) (r : 
 unfolding table_at
 table-off options bs lines r built = rw built.gfm_table refl
 
--- The first leaf that starts on a line, other than a paragraph, is the first of the registry that does.
+-- The first leaf that starts on a line, other than text, is the first of the registry that does.
 pub starts-found : (options : ParseOptions) (against : ParagraphContext) (r : Rest) → IsBuilt options →
     starts options against r ≡ came_of r (leaf_at options r)
 unfolding starts

@@ -50,7 +50,7 @@ line-at options bytes line row is = record {
   cut = is.cut;
 }
 
--- a line from a point on, where these containers are open, and a paragraph or none: what it does to the containers, and its rest as
+-- a line from a point on, where these containers are open, and a text or none: what it does to the containers, and its rest as
 -- a row
 pub record IsLine (options : ParseOptions) (bytes : List ℕ) (open_before : List Container) (going : Bool) (p : Point) (line : List ℕ) (row : Row) : Type 0 where
   pub is : IsRow options bytes (rest_line (contained options open_before going (rest_from p line)).rest) row
@@ -65,7 +65,7 @@ pub record IsLine (options : ParseOptions) (bytes : List ℕ) (open_before : Lis
 abbrev pub behind_line : ParseOptions → List Container → Bool → Point → List ℕ → List Container
 behind_line options open_before going p line = open_behind (contained options open_before going (rest_from p line)).change
 
--- These lines, from this point to the end of the text, where these containers are open, and a paragraph or none.
+-- These lines, from this point to the end of the text, where these containers are open, and a text or none.
 abbrev pub AreRows : ParseOptions → List ℕ → List Container → Bool → Point → List (List ℕ) → List Row → Type 0
 AreRows options bytes open_before going p (line ∷ []) (row ∷ []) =
     (is : IsLine options bytes open_before going p line row) × (leaves : row.leaves ≡ behind_line options open_before going p line) × (last : row.after ≡ None) × (row.end.index ≡ length bytes)

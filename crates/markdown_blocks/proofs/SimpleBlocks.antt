@@ -33,5 +33,5 @@ pub simple-then : (bs : Blocks) (b : Block) → AreSimple bs → IsSimple b → 
 simple-then End b h k = (k, tt)
 simple-then (More a bs) b h k = (h.0, simple-then bs b h.1 k)
 
-pub simple-paragraph : (lines : List (List ℕ)) → IsSimple (Paragraph lines)
-simple-paragraph lines = record { shallow = refl; grouped_same = refl; in_front = λ bs. refl }
+pub simple-text : (lines : List (List ℕ)) → IsSimple (Paragraph lines)
+simple-text lines = record { shallow = refl; grouped_same = refl; in_front = λ bs. refl }

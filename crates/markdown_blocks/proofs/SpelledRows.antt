@@ -1,5 +1,5 @@
 -- What the events of a text are read as, where only leaves that are built may be on: what its lines do to the containers and the
--- paragraph that are open.
+-- text that are open.
 use Rattle.std.proofs.Common.{◌≡◌, ◌≢◌, ℕ, zero, suc, ◌+◌, ◌-◌, Bool, true, false, cond, ◌&&◌, List, [], ◌∷◌, ◌++◌, length, map, take, refl, ap, ap₂, sym, ◌∙◌, subst, append_assoc, take_all, inl, inr, ◌⊎◌, arith}
 use Rattle.std.specs.Prelude.{Option, Some, None}
 use Rattle.md_engine.specs.declared.configuration.ParseOptions.{ParseOptions}
@@ -11,10 +11,11 @@ use Rattle.md_seam.specs.Events.Nested.{around, enter, exit}
 use Rattle.md_seam.specs.Standard.Preamble.{rest_at}
 use Rattle.md_seam.specs.Standard.Rest.{Rest}
 use Rattle.md_seam.specs.Events.Spelled.{Around, Reading, Shape, add_block, left, read, role, spelled, unread}
-use Rattle.md_seam.specs.Standard.State.{At, Container, Kept, Leaf, NoLeaf, OpenParagraph, Path, Spot, Within, closed, kept, shut, spot, texts, then_block, then_leaf}
+use Rattle.md_seam.specs.Standard.State.{At, Container, Kept, Leaf, NoLeaf, Path, Spot, Within, closed, kept, shut, spot, texts, then_block, then_leaf}
 use Rattle.md_seam.specs.Standard.Step.{spot_of, step, steps}
-use Rattle.md_seam.specs.Standard.Tree.{Block, Blocks, End, Paragraph}
+use Rattle.md_seam.specs.Standard.Tree.{Block, Blocks, End}
 use Rattle.md_seam.proofs.SpelledLemmas.{Between, QuietOrPrefix, Roles, read-between, read-from, read-prefixes}
+use Rattle.markdown_blocks.specs.Registry.{text_leaf}
 use Rattle.markdown_blocks.specs.Change.{Change, ends_of, is_none}
 use Rattle.markdown_blocks.specs.ContainerKinds.{container_name, shape_of}
 use Rattle.markdown_blocks.specs.Fed.{last_leaves, close_containers, rests_from}
@@ -24,7 +25,9 @@ use Rattle.markdown_blocks.specs.Rows.{BlankRow, Group, LeafRow, Lines, Row, Row
 use Rattle.markdown_blocks.specs.Stands.{IsPlain, around_of, containers_of, final, final_on, is_going, outer_on, reading, reading_on}
 use Rattle.markdown_blocks.proofs.ContainedLemmas.{contained-shapes, lazy-opens}
 use Rattle.markdown_blocks.proofs.FrontFacts.{Behind, Begins, LinePrefix, Goes}
-use Rattle.markdown_blocks.proofs.LineSteps.{behind_path, contained-lazy, contained_at, containers-step, fresh-found, going-step, goes_lazy, held_of, kept_to, lazy-text, longer, new_line, new_path, plain-step, renewed, shut-lines, spot_by, step-contained}
+use Rattle.markdown_blocks.proofs.LineSteps.{behind_path, contained-lazy, contained_at, containers-step, fresh-found, going-step, goes_lazy, kept_to, lazy-text, longer, new_line, new_path, plain-step, renewed, spot_by, step-contained}
+use Rattle.markdown_blocks.specs.Leaf.Paragraph.{held_of}
+use Rattle.markdown_blocks.proofs.Paragraph.Open.{shut-lines}
 use Rattle.markdown_blocks.proofs.RowFacts as f
 use Rattle.markdown_blocks.proofs.LeafFacts.{shown}
 use Rattle.markdown_blocks.proofs.RowLeaf.{block_of, row-facts}
@@ -99,7 +102,7 @@ abbrev new_none : List Container → Blocks → Path
 new_none [] bs = At (spot_of bs)
 new_none (c ∷ cs) bs = Within bs c (new_none cs End)
 
--- what is open behind the containers of a line, where it does not go on a paragraph
+-- what is open behind the containers of a line, where it does not go on a text
 abbrev open_path : ParseOptions → Path → Contained → Path
 open_path options p c = behind_path (kept_to options c.change.stays p) (new_none c.change.opens)
 
@@ -184,19 +187,19 @@ reading-with options p s none =
     ∙ ap (λ (x : Spot). record { outer = outer_on [] p; here = shut options x; leaf = None; text = None }) (spot-with p s)
     ∙ ap (λ (bs : Blocks). record { outer = outer_on [] p; here = shut options (s bs); leaf = None; text = None }) (sym (none-shut options (spot p) none))
 
--- a paragraph with more lines
-longer-with : (p : Path) (lines : List Kept) → (spot p).leaf ≡ NoLeaf → longer p lines ≡ with_spot p (λ bs. record { here = bs; leaf = OpenParagraph lines })
-longer-with (At s) lines none = ap (λ (x : Leaf). At (record { here = s.here; leaf = OpenParagraph (held_of x ++ lines) })) none
+-- a text with more lines
+longer-with : (p : Path) (lines : List Kept) → (spot p).leaf ≡ NoLeaf → longer p lines ≡ with_spot p (λ bs. record { here = bs; leaf = text_leaf.held lines })
+longer-with (At s) lines none = ap (λ (x : Leaf). At (record { here = s.here; leaf = text_leaf.held (held_of x ++ lines) })) none
 longer-with (Within before container p) lines none = ap (Within before container) (longer-with p lines none)
 
 longer-longer : (p : Path) (xs ys : List Kept) → longer (longer p xs) ys ≡ longer p (xs ++ ys)
-longer-longer (At s) xs ys = ap (λ (l : List Kept). At (record { here = s.here; leaf = OpenParagraph l })) (append_assoc (held_of s.leaf) xs ys)
+longer-longer (At s) xs ys = ap (λ (l : List Kept). At (record { here = s.here; leaf = text_leaf.held l })) (append_assoc (held_of s.leaf) xs ys)
 longer-longer (Within before container p) xs ys = ap (Within before container) (longer-longer p xs ys)
 
-reading-longer : (options : ParseOptions) (p : Path) (k : Kept) (ks : List Kept) → IsBuilt options → (spot p).leaf ≡ NoLeaf → reading options (longer p (k ∷ ks)) ≡ add_block (Paragraph (texts (k ∷ ks))) (reading options p)
+reading-longer : (options : ParseOptions) (p : Path) (k : Kept) (ks : List Kept) → IsBuilt options → (spot p).leaf ≡ NoLeaf → reading options (longer p (k ∷ ks)) ≡ add_block (text_leaf.block (texts (k ∷ ks))) (reading options p)
 reading-longer options p k ks built none =
     ap (reading options) (longer-with p (k ∷ ks) none)
-    ∙ reading-with options p (λ bs. record { here = bs; leaf = OpenParagraph (k ∷ ks) }) none
+    ∙ reading-with options p (λ bs. record { here = bs; leaf = text_leaf.held (k ∷ ks) }) none
     ∙ ap (λ (bs : Blocks). record (reading options p) { here = bs }) (shut-lines options (reading options p).here (texts (k ∷ ks)) built.definition)
 
 -- Events.
@@ -239,7 +242,7 @@ read-parts bytes r a b c d xs ys zs more e f g h = read-from bytes r c (xs ++ ys
 abbrev Reads : ParseOptions → List ℕ → Path → List Container → List Group → Reading → Type 0
 Reads options bytes p closes gs last = read bytes (close_containers (length closes) (reading options p)) (groups_events bytes gs) ≡ last
 
--- the lines of a paragraph go on an open one or begin one, and with what follows are read as this
+-- the lines of a text go on an open one or begin one, and with what follows are read as this
 record ReadsLines (options : ParseOptions) (bytes : List ℕ) (p : Path) (row : Row) (rows : List Row) (gs : List Group) (last : Reading) : Type 0 where
   first : Kept
   lines : List Kept
@@ -252,12 +255,12 @@ record StartsLines (options : ParseOptions) (bytes : List ℕ) (p : Path) (row :
   groups_are : gs ≡ Lines row rows ∷ below
   reads : ReadsLines options bytes p row rows below last
 
--- by whether the first line goes on the open paragraph
+-- by whether the first line goes on the open text
 abbrev Means : ParseOptions → List ℕ → Path → Bool → Row → List Group → Reading → Type 0
 Means options bytes p true row gs last = StartsLines options bytes p row gs last
 Means options bytes p false row gs last = Reads options bytes p row.change.closes gs last
 
--- Behind a line: what follows does not go on a paragraph,
+-- Behind a line: what follows does not go on a text,
 record Parts (options : ParseOptions) (bytes : List ℕ) (p : Path) (row : Row) (gs : List Group) (last : Reading) : Type 0 where
   apart : row.kind ≡ TextRow → onto_groups row TextRow gs ≡ Lines row [] ∷ gs
   reads : Reads options bytes p row.leaves gs last
@@ -279,7 +282,7 @@ Follows options bytes p row gs last = Parts options bytes p row gs last ⊎ Join
 onto-joined : (row next : Row) (rows : List Row) (gs : List Group) → row.leaves ≡ [] → next.change.opens ≡ [] → onto_lines row next rows gs ≡ Lines row (next ∷ rows) ∷ gs
 onto-joined row next rows gs e h = ap₂ (λ (xs ys : List Container). cond (is_none xs && is_none ys) (Lines row (next ∷ rows) ∷ gs) (Lines row [] ∷ Lines next rows ∷ gs)) e h
 
--- A line of text goes on a paragraph as well where the path is another that is read alike.
+-- A line of text goes on a text as well where the path is another that is read alike.
 starts-alike : (options : ParseOptions) (bytes : List ℕ) (p q : Path) (row : Row) (gs : List Group) (last : Reading) → ((lines : List Kept) → reading options (longer p lines) ≡ reading options (longer q lines)) →
     StartsLines options bytes p row gs last → StartsLines options bytes q row gs last
 starts-alike options bytes p q row gs last alike starts =
@@ -363,7 +366,7 @@ line-is : (options : ParseOptions) (bytes : List ℕ) (cs : List Container) (goi
     f.IsLine options bytes cs going p line row → row.kind ≡ line_kind options (contained options cs going (rest_from p line)).rest
 line-is options bytes cs going p line row is = is.is.kind ∙ ap (λ (r : Rest). line_kind options r) is.rest_is
 
--- and whether a paragraph is open behind it
+-- and whether text is open behind it
 pub going-line : (options : ParseOptions) (bytes : List ℕ) (a : Path) (p : Point) (line : List ℕ) (row : Row) → IsBuilt options →
     IsPlain a → f.IsLine options bytes (containers_of a) (is_going a) p line row →
     is_going (step options a (rest_from p line)) ≡ is_text row.kind
@@ -433,15 +436,15 @@ row-means options bytes p a line row gs last built plain is follows = go (goes_l
         (ending-role row.kind) (no-joins options bytes (to row.kind) row gs last (other-kind row.kind other) further)
 
     -- text is read with the lines that go on it
-    paragraph : StartsLines options bytes o row (onto_groups row TextRow gs) last →
+    text-reads : StartsLines options bytes o row (onto_groups row TextRow gs) last →
         Reads options bytes p row.change.closes (onto_groups row TextRow gs) last
-    paragraph starts =
+    text-reads starts =
         let start : Reading = close_containers (length row.change.closes) (reading options p) in
         let begin : Reading = enters row.change.opens start in
         let text = close_containers-between (length row.change.closes) (reading options p) refl refl in
         let same : begin ≡ reading options o = read-open options p c row shapes is.change in
         let reads = starts.reads in
-        let whole : List Event = around n.Paragraph row.first (last_row row starts.rows).end (read_lines bytes row starts.rows) in
+        let whole : List Event = around text_leaf.name row.first (last_row row starts.rows).end (read_lines bytes row starts.rows) in
         let tail : List Event = tail_events n.LineEnding (last_row row starts.rows) in
         let new : Reading = reading options (longer o (reads.first ∷ reads.lines)) in
         ap (λ (l : List Group). read bytes start (groups_events bytes l)) starts.groups_are
@@ -460,7 +463,7 @@ row-means options bytes p a line row gs last built plain is follows = go (goes_l
     by TextRow e further =
         let on : to row.kind ≡ longer o (kept is.is.rest ∷ []) =
         ap to e ∙ sym (longer-with o (kept c.rest ∷ []) none) ∙ ap (λ (r : Rest). longer o (kept r ∷ [])) (sym is.rest_is) in
-        paragraph (starts-lines options bytes (rest_line c.rest) o row gs last is.is e (subst (λ (x : Path). Follows options bytes x row gs last) on further))
+        text-reads (starts-lines options bytes (rest_line c.rest) o row gs last is.is e (subst (λ (x : Path). Follows options bytes x row gs last) on further))
 
     go : (x : Bool) → goes_lazy options p c ≡ x → Means options bytes p (is_lazy (is_going p) row.change.opens row.kind) row (onto_groups row row.kind gs) last
     go true e =
@@ -497,7 +500,7 @@ first-line options bytes cs going p (line ∷ []) (row ∷ []) are = are.0
 first-line options bytes cs going p (line ∷ next ∷ lines) (row ∷ below ∷ rows) are = are.0
 first-line options bytes cs going p lines rows are = absurd are
 
--- where a line of text follows that goes on no paragraph, a new one begins
+-- where a line of text follows that goes on no text, a new one begins
 not-joined : (row below : Row) (gs : List Group) → is_lazy true below.change.opens below.kind ≡ false → onto_groups row TextRow (onto_groups below below.kind gs) ≡ Lines row [] ∷ onto_groups below below.kind gs
 not-joined row below gs lazy = go below.kind lazy
   where

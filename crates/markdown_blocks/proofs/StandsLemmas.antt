@@ -30,7 +30,7 @@ use Rattle.markdown_blocks.proofs.SpelledRows.{going-line, lines-read, rests-beh
 
 -- Lines, one after another.
 
--- a path is open as these lines leave it, where these containers were open before them, and a paragraph or none
+-- a path is open as these lines leave it, where these containers were open before them, and a text or none
 abbrev IsLeft : List Container → Bool → Path → List Row → Type 0
 IsLeft cs going p rows = (containers_of p ≡ open_after cs rows) × (is_going p ≡ text_after going rows)
 
@@ -58,7 +58,7 @@ steps-left options bytes a p (suc n) (line ∷ next ∷ lines) (row ∷ below �
 steps-left options bytes a p (suc n) lines rows built plain are = absurd are
 
 -- What was read of so many lines of a text, but for the containers that end behind them, stands for what they come to: where the
--- flags hold the containers of this path, and whether a paragraph is open.
+-- flags hold the containers of this path, and whether text is open.
 pub flags-stand : (options : ParseOptions) (bytes : List ℕ) (p : Point) (n : ℕ) (lines : List (List ℕ)) (rows : List Row) (g : Flags) → IsBuilt options → f.AreRows options bytes [] false p lines rows →
     let path : Path = steps options (At (spot_of End)) (take n (rests_from p lines)) in
     AreOpen g.containers (containers_of path) → g.interrupt ≡ is_going path →

@@ -9,20 +9,22 @@ use Rattle.md_engine.specs.declared.event.Name.TheVariants as n
 use Rattle.md_engine.specs.declared.event.Point.{Point}
 use Rattle.md_content.specs.Paragraph.{text_link}
 use Rattle.md_seam.specs.Events.Inline.{Covers, pieces}
-use Rattle.md_seam.specs.Events.Nested.{around, enter, enter_link, exit, pair}
+use Rattle.md_seam.specs.Events.Nested.{around, enter_link, exit, pair}
 use Rattle.md_seam.specs.Events.Places.{first_point, same_place}
 use Rattle.md_seam.specs.Standard.Preamble.{has_mark}
 use Rattle.md_seam.specs.Standard.State.{Container}
 use Rattle.md_seam.specs.Events.Tiles.{end_point}
 use Rattle.md_seam.proofs.InlineLemmas.{same-refl}
+use Rattle.markdown_blocks.specs.Registry.{text_leaf}
 use Rattle.markdown_blocks.specs.Change.{ends_of}
 use Rattle.markdown_blocks.specs.Document.{body_point, mark_end, mark_events}
 use Rattle.markdown_blocks.specs.Fronted.{contained, rest_from, rest_line}
 use Rattle.markdown_blocks.specs.Rows.{LeafRow, ending_of, leaf_unread, BlankRow, Group, Lines, Row, RowKind, Single, TextRow, behind_row, ending_events, goes_on as joins_on, groups, is_text, last_row, onto_groups, tail_events}
-use Rattle.markdown_blocks.specs.Unread.{linked_lines, listed_group, listed_groups, listed_row_by}
+use Rattle.markdown_blocks.specs.Unread.{listed_group, listed_groups, listed_row_by, unread_lines}
 use Rattle.markdown_blocks.proofs.JoinedLemmas.{behind-is, behind-none}
-use Rattle.markdown_blocks.proofs.PiecesLemmas.{Follows, Tiled, follows-append, follows-tiled, tiled-append, tiled-around, tiled-none, tiled-pair, tiled-two, tiled-within}
-use Rattle.markdown_blocks.proofs.FrontFacts.{Behind, Begins, LinePrefix, Goes}
+use Rattle.markdown_blocks.proofs.PiecesLemmas.{Follows, Tiled, follows-append, follows-tiled, tiled-append, tiled-around, tiled-none, tiled-pair}
+use Rattle.markdown_blocks.proofs.FrontStands.{fronts-tiled}
+use Rattle.markdown_blocks.proofs.Text.Places.{chunk-tiled}
 use Rattle.markdown_blocks.proofs.RowLeaf.{row-facts}
 use Rattle.markdown_blocks.proofs.RowFacts.{AreRows, IsLine, behind_line}
 use Rattle.markdown_blocks.specs.ContainerKinds.{container_name}
@@ -37,18 +39,6 @@ ending-tiled name row = go row.after
     go (Some q) = tiled-pair name row.end q
 
 -- Containers.
-
--- the begin of a container in front of events
-begun-tiled : (name : Name) (p q : Point) (xs ys : List Event) → xs ≢ [] → Tiled p q (xs ++ ys) → Tiled p q (enter name p ∷ xs ++ ys)
-begun-tiled name p q [] ys some h = absurd (some refl)
-begun-tiled name p q (e ∷ xs) ys some h = tiled-within (enter name p) e q (xs ++ ys) refl h
-
--- so what stands in front of a line covers it
-fronts-tiled : (bytes : List ℕ) (opens : List Container) (p q : Point) (es : List Event) → LinePrefix bytes opens p q es → Tiled p q es
-fronts-tiled bytes opens p q es (Behind at) = tiled-none at at (same-refl at)
-fronts-tiled bytes opens first last es (Goes same p q r xs ys is more) = tiled-append p q r xs ys is.common.tiled (fronts-tiled bytes same q r ys more)
-fronts-tiled bytes opens first last es (Begins c before p q r xs ys is more) =
-    begun-tiled (container_name c) p r xs ys is.some (tiled-append p q r xs ys is.common.tiled (fronts-tiled bytes before q r ys more))
 
 -- the end of a container covers nothing, nor do the ends of more
 end-covers : (name : Name) (p : Point) → Follows p p (exit name p ∷ [])
@@ -69,16 +59,12 @@ line-covers : (name : Name) (row last : Row) (p : Point) (es : List Event) → T
 line-covers name row last p es front h =
     follows-append p last.end (behind_row last) (row.front ++ es) (tail_events name last) (follows-tiled p last.end (row.front ++ es) (tiled-append p row.first last.end row.front es front h)) (tail-covers name last)
 
--- What groups cover, from a point to a point: of a paragraph, what stands in front of it and its lines.
+-- What groups cover, from a point to a point: of a text, what stands in front of it and its lines.
 abbrev Laid : List ℕ → Point → Point → List Group → Type 0
 Laid bytes p end [] = same_place p end ≡ true
 Laid bytes p end (Single row ∷ gs) = Follows p (behind_row row) (listed_row_by bytes row.kind row) × Laid bytes (behind_row row) end gs
 Laid bytes p end (Lines row rows ∷ gs) =
-    (front : Tiled p row.first row.front) × (lines : Tiled row.first (last_row row rows).end (linked_lines n.Data text_link row rows)) × Laid bytes (behind_row (last_row row rows)) end gs
-
--- a chunk
-chunk-tiled : (p q : Point) → Tiled p q (enter_link n.Data p text_link ∷ exit n.Data q ∷ [])
-chunk-tiled p q = tiled-two (enter_link n.Data p text_link) (exit n.Data q) refl refl
+    (front : Tiled p row.first row.front) × (lines : Tiled row.first (last_row row rows).end (unread_lines row rows)) × Laid bytes (behind_row (last_row row rows)) end gs
 
 -- the leaf of a line that is no text covers the line
 abbrev Covered : List ℕ → Row → Type 0
@@ -97,7 +83,7 @@ onto-laid bytes row p end (Single next ∷ gs) front c more TextRow e = (front, 
 onto-laid bytes row p end (Lines next rows ∷ gs) front c more TextRow e = joins (joins_on row next)
   where
     lines : List Event
-    lines = linked_lines n.Data text_link next rows
+    lines = unread_lines next rows
 
     joins : (on : Bool) → Laid bytes p end (cond on (Lines row (next ∷ rows) ∷ gs) (Lines row [] ∷ Lines next rows ∷ gs))
     joins true = (
@@ -129,9 +115,9 @@ laid-covers bytes p end [] h = record { ends = refl; covers = h }
 laid-covers bytes p end (Single row ∷ gs) h = follows-append p (behind_row row) end (listed_row_by bytes row.kind row) (listed_groups bytes gs) h.0 (laid-covers bytes (behind_row row) end gs h.1)
 laid-covers bytes p end (Lines row rows ∷ gs) h =
     let last : Row = last_row row rows in
-    let lines : List Event = linked_lines n.Data text_link row rows in
+    let lines : List Event = unread_lines row rows in
     follows-append p (behind_row last) end (listed_group bytes (Lines row rows)) (listed_groups bytes gs)
-    (line-covers n.LineEnding row last p (around n.Paragraph row.first last.end lines) h.0 (tiled-around n.Paragraph row.first last.end lines h.1)) (laid-covers bytes (behind_row last) end gs h.2)
+    (line-covers n.LineEnding row last p (around text_leaf.name row.first last.end lines) h.0 (tiled-around text_leaf.name row.first last.end lines h.1)) (laid-covers bytes (behind_row last) end gs h.2)
 
 -- So do the events of a text with its mark.
 mark-tiled : (bytes : List ℕ) → Tiled first_point (body_point bytes) (mark_events bytes)

@@ -29,12 +29,13 @@ use Rattle.markdown_blocks.specs.Rows.{BlankRow, LeafRow, Row, RowKind, TextRow,
 use Rattle.markdown_blocks.specs.Stands.{IsPlain, IsPlainLeaf, containers_of, is_going}
 use Rattle.markdown_blocks.proofs.ContainedLemmas.{contained-shapes}
 use Rattle.markdown_blocks.proofs.KindLemmas.{kind-starts}
-use Rattle.markdown_blocks.proofs.LineSteps.{behind_path, contained_at, fresh-found, goes_lazy, kept_to, longer, new_line, new_path, plain-step, renewed, shut-lines, spot_by, step-contained, step-new, stepped_on}
+use Rattle.markdown_blocks.proofs.Paragraph.Open.{shut-lines}
+use Rattle.markdown_blocks.proofs.LineSteps.{behind_path, contained_at, fresh-found, goes_lazy, kept_to, longer, new_line, new_path, plain-step, renewed, spot_by, step-contained, step-new, stepped_on}
 use Rattle.markdown_blocks.proofs.MarkLemmas.{without-mark}
 use Rattle.markdown_blocks.proofs.RowFacts as f
 use Rattle.markdown_blocks.proofs.SpelledRows.{spelled-rows}
 use Rattle.markdown_blocks.proofs.RegistryFound.{leaf-simple}
-use Rattle.markdown_blocks.proofs.SimpleBlocks.{AreSimple, grouped-blocks, shallow-blocks, simple-paragraph, simple-then}
+use Rattle.markdown_blocks.proofs.SimpleBlocks.{AreSimple, grouped-blocks, shallow-blocks, simple-text, simple-then}
 use Rattle.markdown_blocks.proofs.RegistryRead.{AreRead, IsRead, IsReadTaken, read-front, shapes-read}
 use Rattle.markdown_blocks.proofs.RegistryContainers.{empty-ends, opens-read, read-simple}
 use Rattle.md_outline.specs.HeadingDepths.{are_shallow}
@@ -92,7 +93,7 @@ simple-shut options s built plain h = go s.leaf plain
     go : (leaf : Leaf) → IsPlainLeaf leaf → AreSimple (then_leaf options s.here leaf)
     go NoLeaf plain = h
     go (OpenParagraph (k ∷ ks)) plain =
-        subst AreSimple (sym (shut-lines options s.here (texts (k ∷ ks)) built.definition)) (simple-then s.here (Paragraph (texts (k ∷ ks))) h (simple-paragraph (texts (k ∷ ks))))
+        subst AreSimple (sym (shut-lines options s.here (texts (k ∷ ks)) built.definition)) (simple-then s.here (Paragraph (texts (k ∷ ks))) h (simple-text (texts (k ∷ ks))))
     go leaf plain = absurd plain
 
 simple-closed : (options : ParseOptions) (p : Path) → IsBuilt options → IsPlain p → HoldsSimple p →

@@ -2,21 +2,20 @@
 --
 -- They are those of its byte order mark, if it has one, and then those of its lines. A line adds, from left to right: what stands in
 -- front of it (the begins and the prefixes of its containers, from the outermost in), its leaf, the ends of the containers that end
--- behind it, and its ending. The lines of a paragraph are one leaf: a chunk for each line, with its ending but the last, and in front
+-- behind it, and its ending. Lines of text that belong together are one leaf: a chunk for each line, with its ending but the last, and in front
 -- of each further chunk what stands in front of its line.
 --
--- What the lines are (`Row`), and which of them are a paragraph (`groups`), stands in `Rows`; the events of a leaf on one line in its own file
--- of `Leaf`.
+-- What the lines are (`Row`), and which of them are one text (`groups`), stands in `Rows`; the events of each leaf in its own file of `Leaf`.
 use Rattle.std.specs.Prelude.{ℕ, List, [], ◌∷◌, ◌++◌}
 use Rattle.md_engine.specs.declared.configuration.ParseOptions.{ParseOptions}
 use Rattle.md_engine.specs.declared.event.Event.{Event}
 use Rattle.md_engine.specs.declared.event.Link.{Link}
 use Rattle.md_engine.specs.declared.event.Name.{Name}
 use Rattle.md_engine.specs.declared.event.Name.TheVariants as n
-use Rattle.md_content.specs.Paragraph.{text_link}
 use Rattle.md_seam.specs.Events.Nested.{around, enter_link, exit}
 use Rattle.markdown_blocks.specs.Document.{body_point, mark_events}
-use Rattle.markdown_blocks.specs.Rows.{Group, Lines, Row, RowKind, Single, behind_row, ending_of, groups, last_row, leaf_unread, tail_events}
+use Rattle.markdown_blocks.specs.Registry.{text_leaf}
+use Rattle.markdown_blocks.specs.Rows.{Group, Lines, Row, final_row, first_row, group_kind, RowKind, Single, behind_row, ending_of, groups, last_row, leaf_unread, tail_events}
 use Rattle.markdown_blocks.specs.TextRows.{text_rows}
 
 -- the lines of a part that is not read yet, each a chunk; in front of each further one stand the prefixes of its containers
@@ -24,18 +23,26 @@ abbrev pub linked_lines : Name → Link → Row → List Row → List Event
 linked_lines name link row [] = enter_link name row.first link ∷ exit name row.end ∷ []
 linked_lines name link row (next ∷ rows) = enter_link name row.first link ∷ exit name (behind_row row) ∷ next.front ++ linked_lines name link next rows
 
--- a paragraph of these lines
-abbrev pub unread_paragraph : Row → List Row → List Event
-unread_paragraph row rows = around n.Paragraph row.first (last_row row rows).end (linked_lines n.Data text_link row rows)
+-- the lines of a text that is not read yet
+abbrev pub unread_lines : Row → List Row → List Event
+unread_lines row rows = linked_lines n.Data text_leaf.link row rows
+
+-- and the leaf of these lines
+abbrev pub text_unread : Row → List Row → List Event
+text_unread row rows = around text_leaf.name row.first (last_row row rows).end (unread_lines row rows)
 
 -- a line that is no text
 abbrev pub listed_row_by : List ℕ → RowKind → Row → List Event
 listed_row_by bytes kind row = row.front ++ leaf_unread bytes kind row ++ tail_events (ending_of kind) row
 
--- such a line, or the lines of a paragraph
+-- the leaf of such a line, or of the lines of a text
+abbrev pub group_unread : List ℕ → Group → List Event
+group_unread bytes (Single row) = leaf_unread bytes row.kind row
+group_unread bytes (Lines row rows) = text_unread row rows
+
+-- with what stands in front of it, and behind it
 abbrev pub listed_group : List ℕ → Group → List Event
-listed_group bytes (Single row) = listed_row_by bytes row.kind row
-listed_group bytes (Lines row rows) = row.front ++ unread_paragraph row rows ++ tail_events n.LineEnding (last_row row rows)
+listed_group bytes group = (first_row group).front ++ group_unread bytes group ++ tail_events (ending_of (group_kind group)) (final_row group)
 
 abbrev pub listed_groups : List ℕ → List Group → List Event
 listed_groups bytes [] = []

@@ -19,7 +19,7 @@ pub record Change : Type 0 where
 abbrev pub open_behind : Change → List Container
 open_behind c = c.stays ++ c.opens
 
--- some containers went on, and some open; the others stay too where the line goes on the open paragraph, and end where it does not
+-- some containers went on, and some open; the others stay too where the line goes on the open text, and end where it does not
 abbrev pub change_by : Bool → List Container → List Container → List Container → Change
 change_by true went others opens = record { stays = went ++ others; closes = []; opens = opens }
 change_by false went others opens = record { stays = went; closes = others; opens = opens }
@@ -32,7 +32,7 @@ abbrev pub is_none : List Container → Bool
 is_none [] = true
 is_none (c ∷ cs) = false
 
--- whether a container that opens would interrupt a paragraph: one is open, and all containers went on
+-- whether a container that opens would interrupt text: one is open, and all containers went on
 abbrev pub interrupts : Bool → List Container → Bool
 interrupts going others = going && is_none others
 

@@ -1,3 +1,4 @@
--- The leaves on one line, each with what the frame asks of it (`LineLeaf`).
+-- The leaves, each with what the frame asks of it: those on one line (`LineLeaf`), and text (`TextLeaf`).
 pub mod HeadingAtx
+pub mod Paragraph
 pub mod ThematicBreak

@@ -10,6 +10,7 @@ pub mod MarkRuns
 pub mod Passed
 pub mod Containers
 pub mod LineLeaf
+pub mod TextLeaf
 pub mod Leaf
 pub mod Registry
 pub mod Rows

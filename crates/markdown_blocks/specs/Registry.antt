@@ -14,7 +14,9 @@ use Rattle.md_engine.specs.declared.resolve.name.Name.{Name as ResolveName}
 use Rattle.md_engine.specs.declared.resolve.name.Name.TheVariants as r
 use Rattle.markdown_blocks.specs.Leaf.HeadingAtx.{heading_leaf}
 use Rattle.markdown_blocks.specs.Leaf.ThematicBreak.{break_leaf}
+use Rattle.markdown_blocks.specs.Leaf.Paragraph.{paragraph_leaf}
 use Rattle.markdown_blocks.specs.LineLeaf.{LineLeaf}
+use Rattle.markdown_blocks.specs.TextLeaf.{TextLeaf}
 
 -- Leaves on one line.
 
@@ -34,6 +36,11 @@ trials = HeadingAtx ∷ ThematicBreak ∷ []
 abbrev pub first_of : (LeafName → Bool) → List LeafName → Option LeafName
 first_of test [] = None
 first_of test (l ∷ ls) = if test l then Some l else first_of test ls
+
+-- Lines of text.
+
+abbrev pub text_leaf : TextLeaf
+text_leaf = paragraph_leaf
 
 -- Resolvers, behind that of content. There is one yet.
 
@@ -60,6 +67,6 @@ abbrev pub goes_at : ParseOptions → Container → List Cell → Point → Opti
 goes_at options InQuote cells p = if takes_prefix options cells then Some (quote_on options cells p) else None
 goes_at options container cells p = None
 
--- the container that opens, if one does, where it would interrupt a paragraph or not
+-- the container that opens, if one does, where it would interrupt text or not
 abbrev pub opens_at : ParseOptions → Bool → List Cell → Point → Option Passed
 opens_at options interrupting cells p = if options.constructs.block_quote && takes_prefix options cells then Some (quote_new options cells p) else None

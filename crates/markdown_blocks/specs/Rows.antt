@@ -16,7 +16,7 @@ use Rattle.md_seam.specs.Events.Nested.{around, enter_link, exit, pair}
 use Rattle.md_seam.specs.Standard.Rest.{Rest, is_blank}
 use Rattle.md_seam.specs.Standard.State.{Container}
 use Rattle.markdown_blocks.specs.Passed.{Passed}
-use Rattle.markdown_blocks.specs.Registry.{LeafName, first_of, goes_at, leaf, opens_at, trials}
+use Rattle.markdown_blocks.specs.Registry.{LeafName, first_of, goes_at, leaf, opens_at, text_leaf, trials}
 use Rattle.markdown_blocks.specs.Change.{Change, change_by, ends_of, interrupts, is_none, open_behind, others_of}
 
 -- what the rest of a line is, behind the prefixes of its containers
@@ -91,7 +91,7 @@ abbrev pub went_front : ParseOptions → List Container → List Cell → Point 
 went_front options [] cells p = no_front cells p
 went_front options (c ∷ cs) cells p = elim (goes_at options c cells p) [ None ↦ no_front cells p | Some t ↦ in_front t (went_front options cs t.cells t.point) ]
 
--- containers open as often as they do, at most so many; the first may interrupt a paragraph
+-- containers open as often as they do, at most so many; the first may interrupt text
 abbrev pub new_front : ParseOptions → Bool → ℕ → List Cell → Point → Front
 new_front options interrupting zero cells p = no_front cells p
 new_front options interrupting (suc size) cells p =
@@ -108,7 +108,7 @@ abbrev pub is_text : RowKind → Bool
 is_text TextRow = true
 is_text _ = false
 
--- whether a line goes on the open paragraph, whatever containers go on (CommonMark 5.1, "laziness")
+-- whether a line goes on the open text, whatever containers go on (CommonMark 5.1, "laziness")
 abbrev pub is_lazy : Bool → List Container → RowKind → Bool
 is_lazy going opens kind = going && is_none opens && is_text kind
 
@@ -122,7 +122,7 @@ abbrev pub held_behind : ParseOptions → List Container → Bool → Front → 
 held_behind options cs going went =
     held_of options cs going went (new_front options (interrupts going (others_of cs went.containers)) (length went.cells) went.cells went.point)
 
--- where these containers are open before it, and a paragraph or none
+-- where these containers are open before it, and a text or none
 unfoldable pub held_at : ParseOptions → List Container → Bool → List Cell → Point → Held
 held_at options cs going cells p = held_behind options cs going (went_front options cs cells p)
 
@@ -153,7 +153,7 @@ abbrev pub rows_by : ParseOptions → Held → (List Container → Bool → List
 rows_by options h further =
     onto_rows options h (elim (from_ending h.cells) [ [] ↦ [] | c ∷ cs ↦ further (open_behind h.change) (is_text (row_kind options h.cells)) cs c.after ])
 
--- At most so many lines, where these containers are open, and a paragraph or none; behind the last ending stands an empty line.
+-- At most so many lines, where these containers are open, and a text or none; behind the last ending stands an empty line.
 abbrev pub rows_at : ParseOptions → ℕ → List Container → Bool → List Cell → Point → List Row
 rows_at options zero open_before going cells p = []
 rows_at options (suc size) open_before going cells p = rows_by options (held_at options open_before going cells p) (rows_at options size)
@@ -211,14 +211,14 @@ leaf_done bytes TextRow row = leaf_events TextRow row
 abbrev pub single_events_by : List ℕ → RowKind → Row → List Event
 single_events_by bytes kind row = row.front ++ leaf_done bytes kind row ++ tail_events (ending_of kind) row
 
--- Paragraphs.
+-- Texts.
 
--- a line that is no text, or the lines of a paragraph
+-- a line that is no text, or the lines of a text
 pub data Group : Type 0 where
   Single : Row → Group
   Lines : Row → List Row → Group
 
--- whether a line of text goes on the paragraph of the one before: no container ends or opens between them
+-- whether a line of text goes on the text of the one before: no container ends or opens between them
 abbrev pub goes_on : Row → Row → Bool
 goes_on row next = is_none row.leaves && is_none next.change.opens
 
@@ -230,7 +230,7 @@ onto_groups row TextRow (Lines next rows ∷ groups) = onto_lines row next rows 
 onto_groups row TextRow groups = Lines row [] ∷ groups
 onto_groups row kind groups = Single row ∷ groups
 
--- lines of text that follow one another are a paragraph, unless containers end or open between them
+-- lines of text that follow one another are one text, unless containers end or open between them
 abbrev pub groups : List Row → List Group
 groups [] = []
 groups (row ∷ rows) = onto_groups row row.kind (groups rows)
@@ -243,25 +243,41 @@ last_row row (next ∷ rows) = last_row next rows
 abbrev pub behind_row : Row → Point
 behind_row row = elim row.after [ None ↦ row.end | Some q ↦ q ]
 
--- the chunks of a paragraph: each line with its ending but the last
+-- the chunks of a text: each line with its ending but the last
 abbrev pub chunks_of : Row → List Row → List Chunk
 chunks_of row [] = (record { first = row.first; after = row.end }) ∷ []
 chunks_of row (next ∷ rows) = (record { first = row.first; after = behind_row row }) ∷ chunks_of next rows
 
--- the text of a paragraph, once it is read: in front of each further line stand the prefixes of its containers
+-- the lines of a text, once they are read: in front of each further line stand the prefixes of its containers
 abbrev pub read_lines : List ℕ → Row → List Row → List Event
 read_lines bytes row [] = plain_chunk bytes (record { first = row.first; after = row.end })
 read_lines bytes row (next ∷ rows) = plain_chunk bytes (record { first = row.first; after = behind_row row }) ++ next.front ++ read_lines bytes next rows
 
--- the events of a paragraph, once its text is read
-abbrev pub paragraph_events : List ℕ → Row → List Row → List Event
-paragraph_events bytes row rows =
-    let last = last_row row rows in
-    row.front ++ around n.Paragraph row.first last.end (read_lines bytes row rows) ++ tail_events n.LineEnding last
+-- the leaf of these lines, once they are read
+abbrev pub text_done : List ℕ → Row → List Row → List Event
+text_done bytes row rows = around text_leaf.name row.first (last_row row rows).end (read_lines bytes row rows)
 
+-- Of a group: its first line and its last, what its last line is, and its leaf.
+
+abbrev pub first_row : Group → Row
+first_row (Single row) = row
+first_row (Lines row rows) = row
+
+abbrev pub final_row : Group → Row
+final_row (Single row) = row
+final_row (Lines row rows) = last_row row rows
+
+abbrev pub group_kind : Group → RowKind
+group_kind (Single row) = row.kind
+group_kind (Lines row rows) = TextRow
+
+abbrev pub group_done : List ℕ → Group → List Event
+group_done bytes (Single row) = leaf_done bytes row.kind row
+group_done bytes (Lines row rows) = text_done bytes row rows
+
+-- what stands in front of its first line, its leaf, and what stands behind its last line
 abbrev pub group_events : List ℕ → Group → List Event
-group_events bytes (Single row) = single_events_by bytes row.kind row
-group_events bytes (Lines row rows) = paragraph_events bytes row rows
+group_events bytes group = (first_row group).front ++ group_done bytes group ++ tail_events (ending_of (group_kind group)) (final_row group)
 
 -- the events of a text, once all its parts are read
 abbrev pub groups_events : List ℕ → List Group → List Event

@@ -10,7 +10,8 @@ use Rattle.md_engine.specs.declared.tokenizer.container.Container.{Container as 
 use Rattle.md_engine.specs.World.{Flags}
 use Rattle.md_seam.specs.Events.Spelled.{Around, Reading}
 use Rattle.markdown_blocks.specs.ContainerKinds.{MatchesContainer, shape_of}
-use Rattle.md_seam.specs.Standard.State.{At, Container, Leaf, NoLeaf, OpenParagraph, Path, Within, closed, shut, spot}
+use Rattle.md_seam.specs.Standard.State.{At, Container, Leaf, NoLeaf, Path, Within, closed, shut, spot}
+use Rattle.markdown_blocks.specs.Leaf.Paragraph.{IsOpenText}
 use Rattle.md_seam.specs.Standard.Step.{is_open_text}
 use Rattle.md_seam.specs.Standard.Tree.{Blocks}
 
@@ -52,7 +53,7 @@ abbrev pub containers_of : Path → List Container
 containers_of (At s) = []
 containers_of (Within before container p) = container ∷ containers_of p
 
--- whether a paragraph is open
+-- whether text is open
 abbrev pub is_going : Path → Bool
 is_going p = is_open_text (spot p).leaf
 
@@ -62,11 +63,10 @@ pub record StandsFor (options : ParseOptions) (g : Flags) (r : Reading) (p : Pat
   pub going : g.interrupt ≡ is_going p
   pub reading : r ≡ reading options p
 
--- What may be open in what is built: nothing or a paragraph, in containers.
+-- What may be open in what is built: nothing or a text, in containers.
 abbrev pub IsPlainLeaf : Leaf → Type 0
 IsPlainLeaf NoLeaf = Unit {0}
-IsPlainLeaf (OpenParagraph (k ∷ ks)) = Unit {0}
-IsPlainLeaf _ = ⊥
+IsPlainLeaf leaf = IsOpenText leaf
 
 abbrev pub IsPlain : Path → Type 0
 IsPlain p = IsPlainLeaf (spot p).leaf

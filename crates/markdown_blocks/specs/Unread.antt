@@ -7,7 +7,7 @@ use Rattle.md_engine.specs.declared.event.Name.TheVariants as n
 use Rattle.md_content.specs.Chunks.{content_link}
 use Rattle.md_seam.specs.declared.inline.Chunk.{Chunk}
 use Rattle.md_seam.specs.Events.Nested.{enter_link, exit}
-pub use Rattle.markdown_blocks.specs.BlockList.{linked_lines, listed_group, listed_groups, listed_row_by, unread_paragraph}
+pub use Rattle.markdown_blocks.specs.BlockList.{group_unread, linked_lines, text_unread, listed_group, listed_groups, listed_row_by, unread_lines}
 use Rattle.markdown_blocks.specs.Rows.{Group, Lines, Single, last_row, row_events, tail_events}
 
 -- the chunks of a part that is not read yet
@@ -24,10 +24,10 @@ abbrev pub joined_groups : List Group → List Event
 joined_groups [] = []
 joined_groups (group ∷ groups) = joined_group group ++ joined_groups groups
 
--- Paragraphs, before their text is read; leaves as their states leave them.
+-- Texts, before they are read; leaves as their states leave them.
 abbrev pub unread_group : Group → List Event
 unread_group (Single row) = row_events row
-unread_group (Lines row rows) = row.front ++ unread_paragraph row rows ++ tail_events n.LineEnding (last_row row rows)
+unread_group (Lines row rows) = row.front ++ text_unread row rows ++ tail_events n.LineEnding (last_row row rows)
 
 abbrev pub unread_groups : List Group → List Event
 unread_groups [] = []

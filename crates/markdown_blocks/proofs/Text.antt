@@ -1,0 +1,9 @@
+-- The lines of a text that are joined and read later: what is known of their events.
+pub mod Order
+pub mod Words
+pub mod Endings
+pub mod Parts
+pub mod Parted
+pub mod Places
+pub mod Pieces
+pub mod Facts

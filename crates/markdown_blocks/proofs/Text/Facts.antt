@@ -1,0 +1,90 @@
+-- All that the frame asks of the events of a text: lines that follow one another, as one leaf.
+use Rattle.std.proofs.Common.{◌≡◌, ◌<◌, ℕ, Bool, true, List, [], ◌∷◌, refl, ap}
+use Rattle.std.specs.Prelude.{◌==◌, ◌||◌, Some}
+use Rattle.md_engine.specs.declared.configuration.ParseOptions.{ParseOptions}
+use Rattle.md_engine.specs.declared.event.Event.{Event}
+use Rattle.md_engine.specs.declared.event.Point.{Point}
+use Rattle.md_seam.specs.declared.inline.Chunk.{Chunk}
+use Rattle.md_seam.specs.declared.inline.PartKind.TheVariants.{Text}
+use Rattle.md_seam.specs.Events.Grammar.{blocks, plain_text, unread_text}
+use Rattle.md_seam.specs.Events.Spelled.{byte_at}
+use Rattle.md_seam.specs.Standard.State.{Kept, kept, texts}
+use Rattle.md_seam.proofs.EndingsLemmas.{leaf-leads}
+use Rattle.md_seam.proofs.GrammarLemmas.{leads-around}
+use Rattle.md_seam.proofs.InlineLemmas.{plain-fills}
+use Rattle.md_outline.specs.Between.{is_between}
+use Rattle.markdown_blocks.specs.Registry.{text_leaf}
+use Rattle.markdown_blocks.specs.Rows.{Row, chunks_of, last_row, read_lines, text_done}
+use Rattle.markdown_blocks.specs.Unread.{text_unread, unread_lines}
+use Rattle.markdown_blocks.proofs.BetweenFacts.{around-between}
+use Rattle.markdown_blocks.proofs.FillFacts.{fill-part}
+use Rattle.markdown_blocks.proofs.GroupLemmas.{AreLines, chunks-lines}
+use Rattle.markdown_blocks.proofs.LeafFacts.{LeafFacts}
+use Rattle.markdown_blocks.proofs.PartedFacts.{clear}
+use Rattle.markdown_blocks.proofs.PartsStand.{stands-part}
+use Rattle.markdown_blocks.proofs.PieceFacts.{stood-around}
+use Rattle.markdown_blocks.proofs.PiecesLemmas.{tiled-around}
+use Rattle.markdown_blocks.proofs.PlainFacts.{plain-around}
+use Rattle.markdown_blocks.proofs.SpanLemmas.{around-nested}
+use Rattle.markdown_blocks.proofs.SpelledParagraphs.{IsRead, read-lines, read-more, read-one}
+use Rattle.markdown_blocks.proofs.Text.Endings.{linked-filling, read-filling}
+use Rattle.markdown_blocks.proofs.Text.Order.{chunks-order}
+use Rattle.markdown_blocks.proofs.Text.Parted.{text-sits}
+use Rattle.markdown_blocks.proofs.Text.Parts.{chunks-begin, lines-filled, lines-inside}
+use Rattle.markdown_blocks.proofs.Text.Pieces.{linked-starts, read-starts, read-stood, unread-stood}
+use Rattle.markdown_blocks.proofs.Text.Places.{read-between, read-nested, read-plain, unread-nested, unread-tiled}
+use Rattle.markdown_blocks.proofs.Text.Words.{linked-word, read-word}
+
+-- its lines, as the line definition keeps them
+abbrev pub kept-of : (options : ParseOptions) (bytes : List ℕ) (row : Row) (rows : List Row) → AreLines options bytes row rows → List Kept
+kept-of options bytes row [] h = kept h.1.rest ∷ []
+kept-of options bytes row (next ∷ rows) h = kept h.1.rest ∷ kept-of options bytes next rows h.7
+
+-- they are read as these
+lines-read : (options : ParseOptions) (bytes : List ℕ) (row : Row) (rows : List Row) → (h : AreLines options bytes row rows) →
+    IsRead bytes row rows (kept-of options bytes row rows h)
+lines-read options bytes row [] h = read-one options bytes h.0 row h.1 h.2
+lines-read options bytes row (next ∷ rows) h =
+    read-more options bytes h.0 row next rows h.3 (kept-of options bytes next rows h.7) h.1 h.2 h.5 h.6 (lines-read options bytes next rows h.7)
+
+-- the last one ends in no tab
+end-clear : (options : ParseOptions) (bytes : List ℕ) (row : Row) (rows : List Row) → AreLines options bytes row rows →
+    clear bytes (last_row row rows).end ≡ true
+end-clear options bytes row [] h = ap (λ (v : ℕ). (v == 0) || is_between bytes (byte_at row.end)) h.1.end_whole
+end-clear options bytes row (next ∷ rows) h = end-clear options bytes next rows h.7
+
+pub text-facts : (options : ParseOptions) (bytes : List ℕ) (row : Row) (rows : List Row) → (h : AreLines options bytes row rows) →
+    LeafFacts bytes (Some (text_leaf.block (texts (kept-of options bytes row rows h)))) row.first (last_row row rows).end
+    (text_unread row rows) (text_done bytes row rows)
+text-facts options bytes row rows h = record {
+  unread_nested = around-nested text_leaf.name row.first end unread (unread-nested options bytes row rows h);
+  nested = around-nested text_leaf.name row.first end done (read-nested options bytes row rows h);
+  tiled = tiled-around text_leaf.name row.first end unread (unread-tiled options bytes row rows h);
+  unread_stood = stood-around bytes text_leaf.name row.first end unread (linked-starts row rows) (unread-stood options bytes row rows h);
+  stood = stood-around bytes text_leaf.name row.first end done (read-starts options bytes row rows h) (read-stood options bytes row rows h);
+  unread_word = leads-around unread_text blocks text_leaf.name row.first end unread (linked-word options bytes unread_text row rows refl h);
+  word = leads-around plain_text blocks text_leaf.name row.first end done (read-word options bytes true row rows h);
+  unread_ending = leaf-leads text_leaf.name row.first end unread refl (linked-filling options bytes row rows h true);
+  ending = leaf-leads text_leaf.name row.first end done refl (read-filling options bytes row rows h true);
+  parts =
+      stands-part bytes text_leaf.name Text row.first end chunks unread refl (lines-inside options bytes row rows h) (chunks-begin row rows) (chunks-lines options bytes row rows h);
+  filled =
+      fill-part bytes text_leaf.name Text row.first end chunks unread done refl (lines-inside options bytes row rows h)
+      (plain-fills bytes row.first chunks (chunks-order options bytes row rows h)) (lines-filled options bytes row rows h);
+  between = λ first last. around-between bytes text_leaf.name row.first end done first last (read-between options bytes row rows h first last);
+  parted = text-sits options bytes row rows h;
+  plain = λ first. plain-around bytes text_leaf.name row.first end done refl first (end-clear options bytes row rows h) (read-plain options bytes row rows h);
+  reads = λ r text leaf. read-lines bytes row rows (kept-of options bytes row rows h) r (lines-read options bytes row rows h) text;
+}
+  where
+    end : Point
+    end = (last_row row rows).end
+
+    unread : List Event
+    unread = unread_lines row rows
+
+    done : List Event
+    done = read_lines bytes row rows
+
+    chunks : List Chunk
+    chunks = chunks_of row rows

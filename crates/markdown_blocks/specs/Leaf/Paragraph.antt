@@ -1,0 +1,26 @@
+-- Paragraphs (CommonMark 4.8), as a leaf of lines of text.
+use Rattle.md_engine.specs.declared.event.Name.TheVariants as n
+use Rattle.md_content.specs.Paragraph.{text_link}
+use Rattle.std.specs.Prelude.{List, [], ◌∷◌}
+use Rattle.md_seam.specs.Standard.State.{Kept, Leaf, OpenParagraph, then_paragraph}
+use Rattle.md_seam.specs.Standard.Tree.{Paragraph}
+use Rattle.markdown_blocks.specs.TextLeaf.{TextLeaf}
+
+abbrev pub paragraph_leaf : TextLeaf
+paragraph_leaf = record {
+  name = n.Paragraph;
+  link = text_link;
+  block = λ lines. Paragraph lines;
+  held = λ lines. OpenParagraph lines;
+  behind = λ bs lines. then_paragraph bs lines;
+}
+
+-- the lines of an open text
+abbrev pub held_of : Leaf → List Kept
+held_of (OpenParagraph lines) = lines
+held_of _ = []
+
+-- a leaf that is open, and is a text with a line at least
+abbrev pub IsOpenText : Leaf → Type 0
+IsOpenText (OpenParagraph (k ∷ ks)) = Unit {0}
+IsOpenText _ = ⊥

@@ -1,0 +1,17 @@
+-- The interface of a leaf of lines of text, which are joined and read later, as a paragraph: what the frame knows of it.
+use Rattle.std.specs.Prelude.{ℕ, List}
+use Rattle.md_engine.specs.declared.event.Link.{Link}
+use Rattle.md_engine.specs.declared.event.Name.{Name}
+use Rattle.md_seam.specs.Standard.State.{Kept, Leaf}
+use Rattle.md_seam.specs.Standard.Tree.{Block, Blocks}
+
+pub record TextLeaf : Type 0 where
+  -- its name, from the point where its first line begins to the one where its last ends
+  pub name : Name
+  -- how each of its lines is linked, so that it is read later
+  pub link : Link
+  -- its block, by the texts of its lines, and what the line definition holds of it where it is open
+  pub block : List (List ℕ) → Block
+  pub held : List Kept → Leaf
+  -- blocks, with its block behind them if it has lines
+  pub behind : Blocks → List (List ℕ) → Blocks
