@@ -8,3 +8,4 @@ pub mod Collected
 pub mod Cells
 pub mod Fronts
 pub mod Tree
+pub mod Trial

@@ -5,19 +5,18 @@ use Rattle.md_engine.specs.declared.tokenizer.container.Container.{Container}
 use Rattle.md_engine.specs.declared.tokenizer.Scratch.{Scratch}
 use Rattle.md_engine.specs.Meaning.{Accepts, Cell, Fails, Here, Outcome, Refuses}
 use Rattle.md_engine.specs.World.{Flags}
-use Rattle.md_containers.specs.QuoteRule.{quote_at}
-use Rattle.md_containers.proofs.QuoteShorter.{quote-shortens}
-use Rattle.md_containers.proofs.Shorter.{Shortens}
 use Rattle.md_content.specs.ChunkRule.{chunk_at, inside_chunk}
 use Rattle.md_leaves.specs.BlankRule.{blank_at}
 use Rattle.md_seam.proofs.FeedLines.{Stops}
-use Rattle.markdown_blocks.specs.FlowRule.{Rule, blank_ended, content_of, continues_at, ended, ended_to, existing_by, existing_from, flow_at, flow_lines, leaf_of, leaves_of, line_ended, line_then, new_from, new_of, quote_opened, tried}
+use Rattle.markdown_blocks.specs.FlowRule.{Rule, blank_ended, content_of, ended, ended_to, existing_by, existing_from, flow_at, flow_lines, leaf_of, leaves_of, line_ended, line_then, new_from, new_of, opened, tried}
 use Rattle.markdown_blocks.specs.LineFlags.{begun_line, blanked, next_container, stays, went_on}
-use Rattle.markdown_blocks.specs.Registry.{LeafName, leaf, trials}
-use Rattle.markdown_blocks.proofs.FlowLemmas.{blank_at-shrinks, chunk_at-shrinks, continues-shortens}
+use Rattle.markdown_blocks.specs.Registry.{LeafName, continues_at, leaf, new_container_at, trials}
+use Rattle.markdown_blocks.proofs.FlowLemmas.{blank_at-shrinks, chunk_at-shrinks}
 use Rattle.markdown_blocks.proofs.FromEnding.{stops-same}
 use Rattle.markdown_blocks.proofs.LeafLaws.{Shrinks}
 use Rattle.markdown_blocks.proofs.Registry.{laws}
+use Rattle.markdown_blocks.proofs.TableLaws.{continues-shortens, new-shortens}
+use Rattle.md_containers.proofs.Shorter.{Shortens}
 
 -- all is taken
 abbrev pub Finishes : Outcome → Type 0
@@ -88,7 +87,7 @@ new-finishes : (options : ParseOptions) (next : Rule) (n : ℕ) (cells : List Ce
 unfolding new_from
 new-finishes options next zero cells h ends = leaf-finishes options next cells (record h { flags = begun_line h.flags }) ends
 new-finishes options next (suc n) cells h ends =
-    tried-shorter (length cells) _ _ (quote_at options cells h) (quote-shortens options cells h) (λ rest k lt. new-finishes options next n rest (quote_opened k) (shorter (length cells) (length rest) next (omega (arith, lt)) ends))
+    tried-shorter (length cells) _ _ (new_container_at options cells h) (new-shortens options cells h) (λ rest k lt. new-finishes options next n rest (opened k) (shorter (length cells) (length rest) next (omega (arith, lt)) ends))
     (λ s g. leaf-finishes options next cells (record h { scratch = s; flags = begun_line g }) ends)
 
 opened-finishes : (options : ParseOptions) (next : Rule) (cells : List Cell) (h : Here) → Ends (length cells) next → Finishes (new_of options next cells h)

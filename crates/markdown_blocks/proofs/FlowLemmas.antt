@@ -2,24 +2,21 @@
 use Rattle.std.proofs.Common.{◌≡◌, ℕ, zero, suc, ◌<◌, ◌≤◌, cond, nat_eq, List, [], ◌∷◌, length, Option, Some, None, refl, ap, arith}
 use Rattle.md_engine.specs.declared.configuration.ParseOptions.{ParseOptions}
 use Rattle.md_engine.specs.declared.tokenizer.container.Container.{Container}
-use Rattle.md_engine.specs.declared.tokenizer.container.ContainerKind.{ContainerKind}
-use Rattle.md_engine.specs.declared.tokenizer.container.ContainerKind.TheVariants.{BlockQuote}
 use Rattle.md_engine.specs.declared.tokenizer.Scratch.{Scratch}
 use Rattle.md_engine.specs.Meaning.{Accepts, Cell, Fails, Here, Outcome, Refuses}
 use Rattle.md_engine.specs.World.{Flags}
-use Rattle.md_containers.specs.QuoteRule.{quote_at}
-use Rattle.md_containers.proofs.QuoteShorter.{prefix-shortens, quote-shortens}
-use Rattle.md_containers.proofs.Shorter.{Shortens}
 use Rattle.md_content.specs.ChunkRule.{chunk_at, inside_chunk}
 use Rattle.md_leaves.specs.BlankRule.{blank_at}
 use Rattle.md_seam.specs.Ahead.{line_bytes}
 use Rattle.md_seam.specs.Standard.Rest.{is_blank}
-use Rattle.markdown_blocks.specs.FlowRule.{Rule, behind_containers, blank_ended, continues_at, ended, ended_to, existing_by, existing_from, flow_at, flow_lines, leaf_of, leaves_of, line_ended, line_then, new_from, new_of, quote_opened, tried}
+use Rattle.markdown_blocks.specs.FlowRule.{Rule, behind_containers, blank_ended, ended, ended_to, existing_by, existing_from, flow_at, flow_lines, leaf_of, leaves_of, line_ended, line_then, new_from, new_of, opened, tried}
 use Rattle.markdown_blocks.specs.LineFlags.{begun_line, blanked, next_container, stays, went_on}
-use Rattle.markdown_blocks.specs.Registry.{LeafName, leaf, trials}
+use Rattle.markdown_blocks.specs.Registry.{LeafName, continues_at, leaf, new_container_at, trials}
 use Rattle.markdown_blocks.proofs.FromEnding.{from_ending-again, from_ending-shrinks}
 use Rattle.markdown_blocks.proofs.LeafLaws.{Shrinks, cond-shrinks}
 use Rattle.markdown_blocks.proofs.Registry.{laws}
+use Rattle.markdown_blocks.proofs.TableLaws.{continues-shortens, new-shortens}
+use Rattle.md_containers.proofs.Shorter.{Shortens}
 
 -- Blank lines and content: a line is taken or refused.
 
@@ -78,14 +75,11 @@ leaf_of-same options f g cells h agree =
 
 -- Containers.
 
-pub continues-shortens : (options : ParseOptions) (kind : ContainerKind) (cells : List Cell) (h : Here) → Shortens (length cells) (continues_at options kind cells h)
-continues-shortens options BlockQuote cells h = prefix-shortens options cells h
-
 new_from-same : (options : ParseOptions) (f g : Rule) (n : ℕ) (cells : List Cell) (h : Here) → Agree (length cells) f g → new_from options f n cells h ≡ new_from options g n cells h
 unfolding new_from
 new_from-same options f g zero cells h agree = leaf_of-same options f g cells (record h { flags = begun_line h.flags }) agree
 new_from-same options f g (suc n) cells h agree =
-    tried-shorter (length cells) _ _ (λ rest k lt. new_from-same options f g n rest (quote_opened k) (λ cs j less. agree cs j (omega (arith, less, lt)))) (quote_at options cells h) _ _ (quote-shortens options cells h)
+    tried-shorter (length cells) _ _ (λ rest k lt. new_from-same options f g n rest (opened k) (λ cs j less. agree cs j (omega (arith, less, lt)))) (new_container_at options cells h) _ _ (new-shortens options cells h)
     (λ s t. leaf_of-same options f g cells (record h { scratch = s; flags = begun_line t }) agree)
 
 -- more containers than cells change nothing
@@ -94,14 +88,14 @@ unfolding new_from
 new_from-enough options next zero m cells h a b = absurd (omega arith)
 new_from-enough options next (suc n) zero cells h a b = absurd (omega arith)
 new_from-enough options next (suc n) (suc m) cells h a b =
-    tried-shorter (length cells) _ _ (λ rest k lt. new_from-enough options next n m rest (quote_opened k) (omega (arith, lt, a)) (omega (arith, lt, b))) (quote_at options cells h) _ _ (quote-shortens options cells h) (λ s t. refl)
+    tried-shorter (length cells) _ _ (λ rest k lt. new_from-enough options next n m rest (opened k) (omega (arith, lt, a)) (omega (arith, lt, b))) (new_container_at options cells h) _ _ (new-shortens options cells h) (λ s t. refl)
 
 -- a container opens, or the leaf of the line follows
 pub new_by_container : (options : ParseOptions) (next : Rule) (cells : List Cell) (h : Here) →
-    new_of options next cells h ≡ tried (quote_at options cells h) (λ rest k. new_of options next rest (quote_opened k)) (λ s g. behind_containers options next cells (record h { scratch = s; flags = g }))
+    new_of options next cells h ≡ tried (new_container_at options cells h) (λ rest k. new_of options next rest (opened k)) (λ s g. behind_containers options next cells (record h { scratch = s; flags = g }))
 unfolding new_of new_from
 new_by_container options next cells h =
-    tried-shorter (length cells) _ _ (λ rest k lt. new_from-enough options next (length cells) (suc (length rest)) rest (quote_opened k) lt (omega arith)) (quote_at options cells h) _ _ (quote-shortens options cells h) (λ s t. refl)
+    tried-shorter (length cells) _ _ (λ rest k lt. new_from-enough options next (length cells) (suc (length rest)) rest (opened k) lt (omega arith)) (new_container_at options cells h) _ _ (new-shortens options cells h) (λ s t. refl)
 
 new_of-same : (options : ParseOptions) (f g : Rule) (cells : List Cell) (h : Here) → Agree (length cells) f g → new_of options f cells h ≡ new_of options g cells h
 unfolding new_of

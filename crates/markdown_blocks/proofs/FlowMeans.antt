@@ -12,47 +12,38 @@ use Rattle.md_engine.specs.declared.state.document.State.TheVariants as document
 use Rattle.md_engine.specs.declared.state.flow.State.{State as FlowState}
 use Rattle.md_engine.specs.declared.state.flow.State.TheVariants as flow
 use Rattle.md_engine.specs.declared.state.blank_line.State.TheVariants as blank_line
-use Rattle.md_engine.specs.declared.state.block_quote.State.TheVariants as block_quote
 use Rattle.md_engine.specs.declared.state.content.State.TheVariants as content
-use Rattle.md_engine.specs.declared.state.heading_atx.State.TheVariants as heading_atx
-use Rattle.md_engine.specs.declared.state.thematic_break.State.TheVariants as thematic_break
 use Rattle.md_engine.specs.declared.state.State.{State}
 use Rattle.md_engine.specs.declared.state.State.TheVariants.{Nok, Next}
 use Rattle.md_engine.specs.declared.tokenizer.container.Container.{Container}
-use Rattle.md_engine.specs.declared.tokenizer.container.ContainerKind.{ContainerKind}
-use Rattle.md_engine.specs.declared.tokenizer.container.ContainerKind.TheVariants as kind
 use Rattle.md_engine.specs.declared.tokenizer.Frame.{Frame}
 use Rattle.md_engine.specs.declared.tokenizer.Scratch.{Scratch}
 use Rattle.md_engine.specs.Meaning.{Accepts, Behaviour, Cell, Fails, Feed, Here, Outcome, Refuses, Steps, goes, here, resume}
 use Rattle.md_engine.specs.Run.{reading}
-use Rattle.md_engine.specs.Scheme.{stands}
+use Rattle.md_engine.specs.Scheme.{after_all, spot, stands}
 use Rattle.md_engine.specs.Standing.{MeansAt, StandsOn}
 use Rattle.md_engine.specs.World.{Flags, World, after, closed}
 use Rattle.md_engine.proofs.StepOf.{Sees, ahead, begins_only, changes, outermost-frames, passes, sees, steps-as}
-use Rattle.md_containers.specs.QuoteRule.{quote_at}
-use Rattle.md_containers.proofs.QuoteSteps.{quote_steps}
 use Rattle.md_content.specs.ChunkRule.{chunk_at}
 use Rattle.md_content.proofs.ContentSteps.{chunk_steps}
 use Rattle.md_leaves.specs.BlankRule.{blank_at}
-use Rattle.md_leaves.specs.BreakRule.{break_at}
-use Rattle.md_leaves.specs.HeadingRule.{heading_at}
 use Rattle.md_leaves.proofs.BlankSteps.{blank_steps}
-use Rattle.md_leaves.proofs.BreakSteps.{break_steps}
-use Rattle.md_leaves.proofs.HeadingSteps.{heading_steps}
-use Rattle.md_seam.specs.Ahead.{HasWhite}
 use Rattle.md_seam.specs.Events.Nested.{enter, exit, pair}
 use Rattle.md_seam.specs.Transition.{Transition, entered, exited, taken}
 use Rattle.md_seam.proofs.SpacesGoods.{does-stands}
 use Rattle.md_seam.proofs.WhiteSteps.{white_steps}
 use Rattle.markdown_blocks.specs.Document.{document_own_transition}
 use Rattle.markdown_blocks.specs.Fed.{feeds}
-use Rattle.markdown_blocks.specs.Flow.{after_transition, before_content_transition, before_heading_atx_transition, before_thematic_break_transition, blank_line_after_transition, blank_line_before_transition, containers_after_transition, existing_after_transition, existing_before_code, flow_end_code, flow_end_transition, flow_own_transition, goes_on_with, new_after_transition, new_before_transition, start_transition}
-use Rattle.markdown_blocks.specs.FlowRule.{HasFlow, Rule, behind_containers, blank_ended, continues_at, ended, ended_to, existing_by, flow_at, flow_behaves, flow_behaves_by, line_ended, line_then, new_of, quote_opened, tried}
+use Rattle.markdown_blocks.specs.Flow.{after_transition, before_content_transition, before_transition, blank_line_after_transition, blank_line_before_transition, containers_after_transition, existing_after_transition, existing_before_code, flow_end_code, flow_end_transition, flow_own_transition, leaf_transition, new_after_transition, new_before_transition, start_transition}
+use Rattle.markdown_blocks.specs.FlowRule.{HasFlow, Rule, behind_containers, blank_ended, ended, ended_to, existing_by, flow_at, leaves_of, line_ended, line_then, new_of, opened, tried}
 use Rattle.markdown_blocks.specs.LineFlags as flags
 use Rattle.markdown_blocks.specs.LineFlags.{ending_name, next_container, next_line, went_on}
-use Rattle.markdown_blocks.specs.States.{FlowStep, flow_table_scheme, flow_transition}
+use Rattle.markdown_blocks.specs.States.{FlowStep, flow_behaves, flow_behaves_by, flow_table_scheme, flow_transition, leaf_owner}
+use Rattle.markdown_blocks.specs.Table.{before, behind, front_of, next_of, tried_at}
 use Rattle.markdown_blocks.proofs.FlowLemmas.{flow_by_line, line_by_container, new_by_container}
 use Rattle.markdown_blocks.proofs.States.{flow_does}
+use Rattle.markdown_blocks.proofs.TableLaws.{construct-steps, container-starts, goes_on-starts, leaf-starts, left-before, left-next, tried-before, white_has}
+use Rattle.markdown_blocks.specs.Registry.{LeafName, continues_at, leaf, new_container_at, trials}
 
 -- an attempt that was begun here
 abbrev frame_here : State → State → World → Frame
@@ -70,10 +61,6 @@ resumed B feed w ok nok Fails y z a b = refl
 
 -- Containers.
 
--- a container is asked by its own prefix
-asked : (B : Behaviour) (options : ParseOptions) (next : Rule) → HasFlow B options next → (k : ContainerKind) (cells : List Cell) (h : Here) → continues_at options k cells h ≡ B (goes_on_with k) cells h
-asked B options next has kind.BlockQuote cells h = sym (has.quote.each block_quote.ContStart cells h)
-
 existing_before_steps : (B : Behaviour) (feed : Feed) (w : World) (options : ParseOptions) (next : Rule) (o : Option Container) → HasFlow B options next → next_container w.flags ≡ o →
     Steps B feed (Next (n.Document document.ContainerExistingBefore)) w (existing_before_code w o).to (existing_before_code w o).world
 existing_before_steps B feed w options next None has e =
@@ -87,7 +74,7 @@ existing_before_steps B feed w options next (Some c) has e =
     ∙ ap (λ (o : Option Container). existing_by options next (line_then options next) o (feed w.point) (here w)) e
     ∙ resumed B feed w (Next (n.Document document.ContainerExistingAfter)) (Next (n.Document document.ContainerNewBefore)) (continues_at options c.kind (feed w.point) (here w))
     (λ rest k. line_then options next rest (record k { flags = went_on k.flags })) (λ s g. new_of options next (feed w.point) (record (here w) { scratch = s; flags = g })) (has.containers document.ContainerExistingAfter) (λ s g. has.containers document.ContainerNewBefore _ _)
-    ∙ ap (resume B feed w.events f) (asked B options next has c.kind _ _))
+    ∙ ap (resume B feed w.events f) (sym (has.goes_on c.kind _ _)))
 
 existing_after_steps : (B : Behaviour) (feed : Feed) (w : World) (options : ParseOptions) (next : Rule) →
     HasFlow B options next →
@@ -102,9 +89,9 @@ new_before_steps B feed w options next has =
     let f : Frame = frame_here (Next (n.Document document.ContainerNewAfter)) (Next (n.Document document.ContainersAfter)) w in
     begins_only B feed _ _ w (new_before_transition w).world f refl refl
     (has.containers document.ContainerNewBefore _ _ ∙ new_by_container options next (feed w.point) (here w)
-    ∙ resumed B feed w (Next (n.Document document.ContainerNewAfter)) (Next (n.Document document.ContainersAfter)) (quote_at options (feed w.point) (here w))
-    (λ rest k. new_of options next rest (quote_opened k)) (λ s g. behind_containers options next (feed w.point) (record (here w) { scratch = s; flags = g })) (has.containers document.ContainerNewAfter) (λ s g. has.containers document.ContainersAfter _ _)
-    ∙ ap (resume B feed w.events f) (sym (has.quote.each block_quote.Start _ _)))
+    ∙ resumed B feed w (Next (n.Document document.ContainerNewAfter)) (Next (n.Document document.ContainersAfter)) (new_container_at options (feed w.point) (here w))
+    (λ rest k. new_of options next rest (opened k)) (λ s g. behind_containers options next (feed w.point) (record (here w) { scratch = s; flags = g })) (has.containers document.ContainerNewAfter) (λ s g. has.containers document.ContainersAfter _ _)
+    ∙ ap (resume B feed w.events f) (sym (has.opens _ _)))
 
 -- where containers end no attempt is around, so none goes back to events before these ends
 new_after_steps : (B : Behaviour) (feed : Feed) (w : World) (options : ParseOptions) (next : Rule) →
@@ -130,29 +117,22 @@ start_steps B feed w options next has =
 blank_line_before_steps : (B : Behaviour) (feed : Feed) (w : World) (options : ParseOptions) (next : Rule) → HasFlow B options next →
     Steps B feed (Next (n.Flow flow.BlankLineBefore)) w (blank_line_before_transition w).to (blank_line_before_transition w).world
 blank_line_before_steps B feed w options next has =
-    let f : Frame = frame_here (Next (n.Flow flow.BlankLineAfter)) (Next (n.Flow flow.BeforeHeadingAtx)) w in
+    let f : Frame = frame_here (Next (n.Flow flow.BlankLineAfter)) (Next (n.Flow (front_of trials))) w in
     begins_only B feed _ _ w (blank_line_before_transition w).world f refl refl
     (has.leaves flow.BlankLineBefore _ _
-    ∙ resumed B feed w (Next (n.Flow flow.BlankLineAfter)) (Next (n.Flow flow.BeforeHeadingAtx)) (blank_at (feed w.point) (here w)) (blank_ended next) _ (has.leaves flow.BlankLineAfter) (λ s g. has.leaves flow.BeforeHeadingAtx _ _)
+    ∙ resumed B feed w (Next (n.Flow flow.BlankLineAfter)) (Next (n.Flow (front_of trials))) (blank_at (feed w.point) (here w)) (blank_ended next) _ (has.leaves flow.BlankLineAfter) (λ s g. has.leaves (front_of trials) _ _)
     ∙ ap (resume B feed w.events f) (sym (has.blank.each blank_line.Start _ _)))
 
-before_heading_atx_steps : (B : Behaviour) (feed : Feed) (w : World) (options : ParseOptions) (next : Rule) → HasFlow B options next →
-    Steps B feed (Next (n.Flow flow.BeforeHeadingAtx)) w (before_heading_atx_transition w).to (before_heading_atx_transition w).world
-before_heading_atx_steps B feed w options next has =
-    let f : Frame = frame_here (Next (n.Flow flow.After)) (Next (n.Flow flow.BeforeThematicBreak)) w in
-    begins_only B feed _ _ w (before_heading_atx_transition w).world f refl refl
-    (has.leaves flow.BeforeHeadingAtx _ _
-    ∙ resumed B feed w (Next (n.Flow flow.After)) (Next (n.Flow flow.BeforeThematicBreak)) (heading_at options (feed w.point) (here w)) (line_ended next) _ (has.leaves flow.After) (λ s g. has.leaves flow.BeforeThematicBreak _ _)
-    ∙ ap (resume B feed w.events f) (sym (has.heading.each heading_atx.Start _ _)))
-
-before_thematic_break_steps : (B : Behaviour) (feed : Feed) (w : World) (options : ParseOptions) (next : Rule) → HasFlow B options next →
-    Steps B feed (Next (n.Flow flow.BeforeThematicBreak)) w (before_thematic_break_transition w).to (before_thematic_break_transition w).world
-before_thematic_break_steps B feed w options next has =
-    let f : Frame = frame_here (Next (n.Flow flow.After)) (Next (n.Flow flow.BeforeContent)) w in
-    begins_only B feed _ _ w (before_thematic_break_transition w).world f refl refl
-    (has.leaves flow.BeforeThematicBreak _ _
-    ∙ resumed B feed w (Next (n.Flow flow.After)) (Next (n.Flow flow.BeforeContent)) (break_at options (feed w.point) (here w)) (line_ended next) _ (has.leaves flow.After) (λ s g. has.leaves flow.BeforeContent _ _)
-    ∙ ap (resume B feed w.events f) (sym (has.break.each thematic_break.Start _ _)))
+before_steps : (l : LeafName) (B : Behaviour) (feed : Feed) (w : World) (options : ParseOptions) (next : Rule) → HasFlow B options next →
+    Steps B feed (Next (n.Flow (before l))) w (before_transition l w).to (before_transition l w).world
+before_steps l B feed w options next has =
+    let f : Frame = frame_here (Next (n.Flow flow.After)) (Next (n.Flow (next_of l))) w in
+    begins_only B feed _ _ w (before_transition l w).world f refl refl
+    (has.leaves (before l) _ _ ∙ left-before options next l _ _
+    ∙ resumed B feed w (Next (n.Flow flow.After)) (Next (n.Flow (next_of l))) ((leaf l).trial options (feed w.point) (here w)) (line_ended next)
+    (λ s g. leaves_of options next (behind l) (feed w.point) (record (here w) { scratch = s; flags = g })) (has.leaves flow.After)
+    (λ s g. has.leaves (next_of l) _ _ ∙ left-next options next l _ _)
+    ∙ ap (resume B feed w.events f) (sym (has.starts l _ _)))
 
 before_content_steps : (B : Behaviour) (feed : Feed) (w : World) (options : ParseOptions) (next : Rule) →
     HasFlow B options next →
@@ -220,17 +200,14 @@ flow_end_steps B feed w options next has s none on =
 
 flow_has : (options : ParseOptions) (next : Rule) → HasFlow (flow_behaves_by options next) options next
 flow_has options next = record {
-  blank = record { white = white; each = λ _ _ _. refl };
-  heading = record { white = white; each = λ _ _ _. refl };
-  break = record { white = white; each = λ _ _ _. refl };
+  blank = record { white = white_has options next; each = λ _ _ _. refl };
   chunk = record { each = λ _ _ _. refl };
-  quote = record { white = white; each = λ _ _ _. refl };
+  starts = leaf-starts options next;
+  opens = container-starts options next;
+  goes_on = goes_on-starts options next;
   containers = λ _ _ _. refl;
   leaves = λ _ _ _. refl;
 }
-  where
-    white : HasWhite (flow_behaves_by options next)
-    white = record { each = λ _ _ _. refl }
 
 -- the states between the containers of a line
 containers_steps : (B : Behaviour) (feed : Feed) (next : Rule) (state : DocumentState) (w : World) →
@@ -248,19 +225,27 @@ containers_steps B feed next document.FlowEnd w has s at on =
     flow_end_steps B feed w _ _ has s (outermost-frames flow_table_scheme w.frames at.1) on
 containers_steps B feed next state w has s at on = absurd at
 
--- the states in front of a leaf, and behind it
+-- the states in front of a leaf,
+leaf_steps : (B : Behaviour) (feed : Feed) (next : Rule) (state : FlowState) (o : Option LeafName) → tried_at state ≡ o → (w : World) →
+    HasFlow B w.setting.options next →
+    (leaf_owner o).ready (n.Flow state) (spot w) (after_all flow_table_scheme w.frames) →
+    Steps B feed (Next (n.Flow state)) w (leaf_transition o w).to (leaf_transition o w).world
+leaf_steps B feed next state None e w has at = absurd at
+leaf_steps B feed next state (Some l) e w has at =
+    let P : FlowState → Type 0 = λ x. Steps B feed (Next (n.Flow x)) w (before_transition l w).to (before_transition l w).world in
+    subst P (tried-before state l e) (before_steps l B feed w _ _ has)
+
+-- and those in front of none, or behind it
 leaves_steps : (B : Behaviour) (feed : Feed) (next : Rule) (state : FlowState) (w : World) →
     HasFlow B w.setting.options next →
     stands flow_table_scheme w (Next (n.Flow state)) →
     Steps B feed (Next (n.Flow state)) w (flow_own_transition state w).to (flow_own_transition state w).world
 leaves_steps B feed next flow.Start w has at = start_steps B feed w _ _ has
 leaves_steps B feed next flow.BlankLineBefore w has at = blank_line_before_steps B feed w _ _ has
-leaves_steps B feed next flow.BeforeHeadingAtx w has at = before_heading_atx_steps B feed w _ _ has
-leaves_steps B feed next flow.BeforeThematicBreak w has at = before_thematic_break_steps B feed w _ _ has
 leaves_steps B feed next flow.BeforeContent w has at = before_content_steps B feed w _ _ has
 leaves_steps B feed next flow.BlankLineAfter w has at = blank_line_after_steps B feed w _ _ has
 leaves_steps B feed next flow.After w has at = after_steps B feed w _ _ has
-leaves_steps B feed next state w has at = absurd at
+leaves_steps B feed next state w has at = leaf_steps B feed next state (tried_at state) refl w has at
 
 -- each state takes one step of what it means
 each_steps : (is_name : ResolveName → ResolveName → Bool) (feed : Feed) (next : Rule) (name : StateName) (w : World) → Sees feed w → stands flow_table_scheme w (Next name) →
@@ -276,14 +261,11 @@ each_steps is_name feed next name w s at on = go name at on
 
     go : (name : StateName) → stands flow_table_scheme w (Next name) → GoesOn B next (feeds name w.current) → Steps B feed (Next name) w (flow_transition is_name name w).to (flow_transition is_name name w).world
     go (n.BlankLine state) at on = blank_steps B feed state w has.blank s at.0
-    go (n.BlockQuote state) at on = quote_steps B feed state w has.quote s
     go (n.Content state) at on = chunk_steps B feed (is_name r.Content) state w has.chunk s
     go (n.Document state) at on = containers_steps B feed next state w has s at on
     go (n.Flow state) at on = leaves_steps B feed next state w has at
-    go (n.HeadingAtx state) at on = heading_steps B feed (is_name r.HeadingAtx) state w _ has.heading s at
     go (n.SpaceOrTab state) at on = white_steps B feed state w has.blank.white s
-    go (n.ThematicBreak state) at on = break_steps B feed state w _ has.break s at
-    go name at on = absurd at
+    go name at on = construct-steps is_name feed next name w s at
 
 -- whatever follows behind the line, a call that takes no ending is one step of what flow means
 pub flow-steps-by : (is_name : ResolveName → ResolveName → Bool) (feed : Feed) (next : Rule) (name : StateName) (w : World) → Sees feed w → stands flow_table_scheme w (Next name) → feeds name w.current ≡ 0 →

@@ -16,8 +16,6 @@ use Rattle.md_engine.specs.Found.{Found, nothing, with_found}
 use Rattle.md_engine.specs.Meaning.{Accepts, comes_to, goes, here}
 use Rattle.md_engine.specs.Resolvers.{same_name}
 use Rattle.md_engine.specs.Run.{Flushes, IsEnd, Resolution, Resolved, Runs, goes_back, left, plain, reading}
-use Rattle.md_engine.specs.Run.Resolved.{More, NoneYet}
-use Rattle.md_engine.specs.Run.Runs.{Stays, ThenCalls, ThenLeaves}
 use Rattle.md_engine.specs.Scheme.{stands}
 use Rattle.md_engine.specs.TextFeed.{text_feed}
 use Rattle.md_engine.specs.World.{Setting, World, fresh, reads_to}
@@ -29,10 +27,10 @@ use Rattle.md_seam.specs.Substituted.{Substituted}
 use Rattle.markdown_blocks.specs.Fed.{FlowRan}
 use Rattle.markdown_blocks.specs.FlowReads.{FlowReads, has_text, text_cells, text_rows, text_setting}
 use Rattle.markdown_blocks.specs.Resolved.{resolved_as}
-use Rattle.markdown_blocks.specs.FlowRule.{flow_at, flow_behaves}
+use Rattle.markdown_blocks.specs.FlowRule.{flow_at}
 use Rattle.markdown_blocks.specs.Registry.{is_own, resolved, resolver}
 use Rattle.markdown_blocks.specs.Rows.{BlankRow, LeafRow, Row, RowKind, TextRow, is_text, leaf_events, row_events, row_events_by, rows_events, tail_events}
-use Rattle.markdown_blocks.specs.States.{FlowStep, flow_table_scheme}
+use Rattle.markdown_blocks.specs.States.{FlowStep, flow_behaves, flow_table_scheme}
 use Rattle.markdown_blocks.proofs.EachEvent.{each-behind, each-front}
 use Rattle.markdown_blocks.proofs.EachRow.{EachRow}
 use Rattle.markdown_blocks.proofs.FlowLemmas.{flow_by_line}
@@ -45,6 +43,7 @@ use Rattle.markdown_blocks.proofs.OutsideLemmas.{outside-same}
 use Rattle.markdown_blocks.proofs.Registers.{Registers, goes-back, named, none-yet}
 use Rattle.markdown_blocks.proofs.StandsLemmas.{flow-ran}
 use Rattle.markdown_blocks.proofs.StatesRegister.{went-registers}
+use Rattle.md_engine.specs.Run.{More, NoneYet, Stays, ThenCalls, ThenLeaves}
 
 left-registers : (w : World) (outer : List Frame) (f : Frame) (b : Bool) → Registers w → Registers (left w outer f b)
 left-registers w outer f true h = goes-back f.events_len w.events w.resolvers h

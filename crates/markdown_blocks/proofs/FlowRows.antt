@@ -3,7 +3,7 @@ use Rattle.std.proofs.Common.{◌≡◌, ℕ, zero, suc, ◌+◌, ◌<◌, ◌�
 use Rattle.std.specs.Prelude.{nat_lt, slice_get}
 use Rattle.std.proofs.Math.ListN.{drop_of_length-le}
 use Rattle.std.proofs.Math.Seq.{drop-append_seam, drop-length, take-append_seam, take-length}
-use Rattle.std.proofs.lemmas.Bool.{and_parts, lt-ltb}
+use Rattle.std.proofs.lemmas.Bool.{lt-ltb}
 use Rattle.std.proofs.lemmas.List.{take-append-drop}
 use Rattle.std.proofs.lemmas.Option.{slice_get_past}
 use Rattle.md_engine.specs.declared.configuration.ParseOptions.{ParseOptions}
@@ -12,33 +12,28 @@ use Rattle.md_engine.specs.declared.event.Name.{Name}
 use Rattle.md_engine.specs.declared.event.Name.TheVariants as n
 use Rattle.md_engine.specs.declared.event.Point.{Point}
 use Rattle.md_engine.specs.declared.tokenizer.container.Container.{Container as Known}
-use Rattle.md_engine.specs.declared.tokenizer.container.ContainerKind.{ContainerKind}
-use Rattle.md_engine.specs.declared.tokenizer.container.ContainerKind.TheVariants as kind
-use Rattle.md_engine.specs.ContainerName.{name_of}
 use Rattle.md_engine.specs.Ends.{ends_at, point_of, put}
 use Rattle.md_engine.specs.Meaning.{Accepts, Cell, Here, Outcome, Refuses}
 use Rattle.md_engine.specs.World.{closed_events}
-use Rattle.md_containers.specs.QuoteRule.{prefix_at, prefix_rest, quote_at, takes_prefix}
-use Rattle.md_containers.proofs.QuoteCells.{prefix-is, prefix-shorter, quote-is}
 use Rattle.md_content.specs.Chunks.{content_link}
 use Rattle.md_seam.specs.Ahead.{from_ending, line_bytes, line_end}
 use Rattle.md_seam.specs.Events.Nested.{enter, enter_link, exit, pair}
 use Rattle.md_seam.specs.Standard.Rest.{is_blank}
 use Rattle.md_seam.specs.Spaces.{IsRest}
-use Rattle.md_seam.specs.Standard.State.{Container, InQuote}
+use Rattle.md_seam.specs.Standard.State.{Container}
 use Rattle.markdown_blocks.specs.Change.{Change, change_by, ends_of, interrupts, open_behind, others_of}
-use Rattle.markdown_blocks.specs.FlowRule.{Rule, behind_containers, blank_ended, continues_at, ended, ended_to, existing_by, existing_from, flow_at, flow_lines, leaf_of, leaves_of, line_ended, line_then, new_from, new_of, nonblank_of, quote_opened, tried}
+use Rattle.markdown_blocks.specs.FlowRule.{Rule, behind_containers, blank_ended, ended, ended_to, existing_by, existing_from, flow_at, flow_lines, leaf_of, leaves_of, line_ended, line_then, new_from, new_of, nonblank_of, opened, tried}
 use Rattle.markdown_blocks.specs.LineFlags.{begun_line, ending_name, next_line, stays, went_on}
-use Rattle.markdown_blocks.specs.Registry.{LeafName, first_of, goes_at, leaf, opens_at, trials}
+use Rattle.markdown_blocks.specs.Passed.{Passed, passed_by, passed_here}
+use Rattle.markdown_blocks.specs.Registry.{LeafName, first_of, goes_at, leaf, new_kind, opens_at, trials}
 use Rattle.markdown_blocks.specs.Rows.{BlankRow, Front, Held, LeafRow, Row, RowKind, TextRow, after_ending, closes_before, ending_of, held_at, held_by, held_of, in_front, inside_of, is_lazy, is_text, kind_of, leaf_events, new_front, no_front, row_events, row_kind, row_of, rows_at, rows_events, went_front}
 use Rattle.markdown_blocks.specs.Stands.{AreOpen}
 use Rattle.markdown_blocks.proofs.ContainedLemmas.{lazy-some}
 use Rattle.markdown_blocks.proofs.FromEnding.{from_ending-shrinks}
 use Rattle.markdown_blocks.proofs.LeafRows.{blank-refused, blank-took, chunk-took}
 use Rattle.markdown_blocks.proofs.Registry.{laws}
-use Rattle.markdown_blocks.specs.Passed.{Passed}
-use Rattle.markdown_blocks.specs.Containers.BlockQuote.{quote_new, quote_on}
-use Rattle.markdown_blocks.specs.ContainerKinds.{MatchesContainer, container_name}
+use Rattle.markdown_blocks.proofs.TableLaws.{further-is, goes-same, goes-shorter, known-name, opening-is, opens-same, opens-shorter}
+use Rattle.markdown_blocks.specs.ContainerKinds.{MatchesContainer}
 
 -- The leaf of a line, by its kind.
 
@@ -103,10 +98,6 @@ leaf-is options next cells h is = go (is_blank (line_bytes cells)) refl
     go false e = ap onward (blank-refused cells h e) ∙ leaves-are options next trials cells h is ∙ ap behind (sym (kind-by options cells false e))
 
 -- The containers that the tokenizer holds.
-
-known-name : (k : Known) (c : Container) → MatchesContainer k c → name_of k.kind ≡ container_name c
-known-name k InQuote is = ap name_of is
-known-name k c is = absurd is
 
 open-length : (ks : List Known) (cs : List Container) → AreOpen ks cs → length ks ≡ length cs
 open-length [] [] are = refl
@@ -176,71 +167,6 @@ closed-none keep at ks es q all =
     ap (λ (xs : List Known). put at (ends_at xs (point_of (drop at es) q)) es) (drop_of_length-le ks all)
     ∙ ap (λ (xs : List Event). xs ++ drop at es) (append-nil (take at es))
     ∙ take-append-drop at es
-
--- What is tried for a container.
-
--- behind its prefix
-abbrev passed_here : Passed → Here → Here
-passed_here t h = record h { events = h.events ++ t.events; point = t.point }
-
--- taken where it goes on or opens, and refused elsewhere
-abbrev passed_by : Option Passed → Here → Outcome
-passed_by None h = Refuses h.scratch h.flags
-passed_by (Some t) h = Accepts (passed_here t h) t.cells
-
-asked : (options : ParseOptions) (k : ContainerKind) (cells : List Cell) (h : Here) → continues_at options k cells h ≡ prefix_at options cells h
-asked options kind.BlockQuote cells h = refl
-
--- an open container goes on where its cells say so;
-further-is : (options : ParseOptions) (k : Known) (c : Container) (cells : List Cell) (h : Here) → IsRest h.scratch → MatchesContainer k c → continues_at options k.kind cells h ≡ passed_by (goes_at options c cells h.point) h
-further-is options k InQuote cells h is same = asked options k.kind cells h ∙ prefix-is options cells h is ∙ go (takes_prefix options cells)
-  where
-    go : (x : Bool) → cond x (Accepts (passed_here (quote_on options cells h.point) h) (prefix_rest options cells)) (Refuses h.scratch h.flags) ≡ passed_by (cond x (Some (quote_on options cells h.point)) None) h
-    go true = refl
-    go false = refl
-further-is options k c cells h is same = absurd same
-
--- then it is still the same container,
-goes-same : (options : ParseOptions) (k : Known) (c : Container) (cells : List Cell) (p : Point) (t : Passed) → MatchesContainer k c → goes_at options c cells p ≡ Some t → MatchesContainer k t.container
-goes-same options k InQuote cells p t is e = go (takes_prefix options cells) e
-  where
-    go : (x : Bool) → cond x (Some (quote_on options cells p)) None ≡ Some t → MatchesContainer k t.container
-    go true e = let same : quote_on options cells p ≡ t = cc in let P : Passed → Type 0 = λ x. MatchesContainer k x.container in subst P same is
-    go false e = cc
-goes-same options k c cells p t is e = absurd is
-
--- and takes a cell at least
-goes-shorter : (options : ParseOptions) (c : Container) (cells : List Cell) (p : Point) (t : Passed) → goes_at options c cells p ≡ Some t → length t.cells < length cells
-goes-shorter options InQuote cells p t e = go (takes_prefix options cells) refl e
-  where
-    go : (x : Bool) → takes_prefix options cells ≡ x → cond x (Some (quote_on options cells p)) None ≡ Some t → length t.cells < length cells
-    go true takes e = let same : prefix_rest options cells ≡ t.cells = cc in omega (arith, prefix-shorter options cells takes, ap length same)
-    go false takes e = cc
-goes-shorter options c cells p t e = cc
-
--- the same of one that opens
-opening-is : (options : ParseOptions) (interrupting : Bool) (cells : List Cell) (h : Here) → IsRest h.scratch → quote_at options cells h ≡ passed_by (opens_at options interrupting cells h.point) h
-opening-is options interrupting cells h is = quote-is options cells h is ∙ go (options.constructs.block_quote && takes_prefix options cells)
-  where
-    go : (x : Bool) → cond x (Accepts (passed_here (quote_new options cells h.point) h) (prefix_rest options cells)) (Refuses h.scratch h.flags) ≡ passed_by (cond x (Some (quote_new options cells h.point)) None) h
-    go true = refl
-    go false = refl
-
-opens-same : (options : ParseOptions) (interrupting : Bool) (cells : List Cell) (p : Point) (t : Passed) → opens_at options interrupting cells p ≡ Some t → MatchesContainer (record { kind = kind.BlockQuote }) t.container
-opens-same options interrupting cells p t e = go (options.constructs.block_quote && takes_prefix options cells) e
-  where
-    go : (x : Bool) → cond x (Some (quote_new options cells p)) None ≡ Some t → MatchesContainer (record { kind = kind.BlockQuote }) t.container
-    go true e = let same : quote_new options cells p ≡ t = cc in let P : Passed → Type 0 = λ x. MatchesContainer (record { kind = kind.BlockQuote }) x.container in subst P same refl
-    go false e = cc
-
-opens-shorter : (options : ParseOptions) (interrupting : Bool) (cells : List Cell) (p : Point) (t : Passed) → opens_at options interrupting cells p ≡ Some t → length t.cells < length cells
-opens-shorter options interrupting cells p t e = go (options.constructs.block_quote && takes_prefix options cells) refl e
-  where
-    go : (x : Bool) → (options.constructs.block_quote && takes_prefix options cells) ≡ x → cond x (Some (quote_new options cells p)) None ≡ Some t → length t.cells < length cells
-    go true takes e =
-        let same : prefix_rest options cells ≡ t.cells = cc in
-        omega (arith, prefix-shorter options cells (and_parts options.constructs.block_quote (takes_prefix options cells) takes).1, ap length same)
-    go false takes e = cc
 
 -- none opens where nothing is left
 opens-none : (options : ParseOptions) (interrupting : Bool) (cells : List Cell) (p : Point) → length cells ≤ 0 → opens_at options interrupting cells p ≡ None
@@ -351,10 +277,10 @@ existing-is options next (suc m) n (c ∷ cs) cells h is some are =
 -- Containers that open.
 
 new-by : (options : ParseOptions) (next : Rule) (interrupting : Bool) (m : ℕ) (cells : List Cell) (h : Here) (x : Option Passed) → IsRest h.scratch → opens_at options interrupting cells h.point ≡ x →
-    new_from options next (suc m) cells h ≡ tried (passed_by x h) (λ rest k. new_from options next m rest (quote_opened k)) (λ s g. behind_containers options next cells (record h { scratch = s; flags = g }))
+    new_from options next (suc m) cells h ≡ tried (passed_by x h) (λ rest k. new_from options next m rest (opened k)) (λ s g. behind_containers options next cells (record h { scratch = s; flags = g }))
 unfolding new_from
 new-by options next interrupting m cells h x is e =
-    ap (λ (o : Outcome). tried o (λ rest k. new_from options next m rest (quote_opened k)) (λ s g. behind_containers options next cells (record h { scratch = s; flags = g })))
+    ap (λ (o : Outcome). tried o (λ rest k. new_from options next m rest (opened k)) (λ s g. behind_containers options next cells (record h { scratch = s; flags = g })))
     (opening-is options interrupting cells h is ∙ ap (λ (y : Option Passed). passed_by y h) e)
 
 new-none : (options : ParseOptions) (next : Rule) (interrupting : Bool) (m : ℕ) (cells : List Cell) (h : Here) → IsRest h.scratch → opens_at options interrupting cells h.point ≡ None →
@@ -362,7 +288,7 @@ new-none : (options : ParseOptions) (next : Rule) (interrupting : Bool) (m : ℕ
 new-none options next interrupting m cells h is e = new-by options next interrupting m cells h None is e
 
 new-one : (options : ParseOptions) (next : Rule) (interrupting : Bool) (m : ℕ) (cells : List Cell) (h : Here) (t : Passed) → IsRest h.scratch → opens_at options interrupting cells h.point ≡ Some t →
-    new_from options next (suc m) cells h ≡ new_from options next m t.cells (quote_opened (passed_here t h))
+    new_from options next (suc m) cells h ≡ new_from options next m t.cells (opened (passed_here t h))
 new-one options next interrupting m cells h t is e = new-by options next interrupting m cells h (Some t) is e
 
 -- where these containers went on or are new, more of them open
@@ -398,14 +324,14 @@ new-more options next zero size cs cells h is some most are all shut = absurd (o
 new-more options next (suc m) zero cs cells h is some most are all shut =
     opened-none options next cs cells h (new_from options next (suc m) cells h) (new-none options next false m cells h is (opens-none options false cells h.point most)) is are all shut
 new-more options next (suc m) (suc size) cs cells h is some most are all shut =
-    go (λ t lt le more. new-more options next m size (cs ++ t.container ∷ []) t.cells (quote_opened (passed_here t h)) is lt le more refl refl) (opens_at options false cells h.point) refl
+    go (λ t lt le more. new-more options next m size (cs ++ t.container ∷ []) t.cells (opened (passed_here t h)) is lt le more refl refl) (opens_at options false cells h.point) refl
   where
-    quote : Known
-    quote = record { kind = kind.BlockQuote }
+    new : Known
+    new = record { kind = new_kind }
 
     Further : Type 0
-    Further = (t : Passed) → length t.cells < m → length t.cells ≤ size → AreOpen (quote_opened (passed_here t h)).flags.containers (cs ++ t.container ∷ []) →
-        Opened options next (cs ++ t.container ∷ []) (quote_opened (passed_here t h)) (new_front options false size t.cells t.point) (new_from options next m t.cells (quote_opened (passed_here t h)))
+    Further = (t : Passed) → length t.cells < m → length t.cells ≤ size → AreOpen (opened (passed_here t h)).flags.containers (cs ++ t.container ∷ []) →
+        Opened options next (cs ++ t.container ∷ []) (opened (passed_here t h)) (new_front options false size t.cells t.point) (new_from options next m t.cells (opened (passed_here t h)))
 
     go : Further → (x : Option Passed) → opens_at options false cells h.point ≡ x →
         Opened options next cs h (elim x [ None ↦ no_front cells h.point | Some t ↦ in_front t (new_front options false size t.cells t.point) ]) (new_from options next (suc m) cells h)
@@ -413,10 +339,10 @@ new-more options next (suc m) (suc size) cs cells h is some most are all shut =
     go more (Some t) e =
         let shorter = opens-shorter options false cells h.point t e in
         let f : Front = new_front options false size t.cells t.point in
-        let begun : AreOpen (quote_opened (passed_here t h)).flags.containers (cs ++ t.container ∷ []) =
-        open-append (take h.flags.continued h.flags.containers) (quote ∷ []) cs (t.container ∷ []) (open-all h.flags.continued h.flags.containers cs all are) (opens-same options false cells h.point t e, tt) in
+        let begun : AreOpen (opened (passed_here t h)).flags.containers (cs ++ t.container ∷ []) =
+        open-append (take h.flags.continued h.flags.containers) (new ∷ []) cs (t.container ∷ []) (open-all h.flags.continued h.flags.containers cs all are) (opens-same options false cells h.point t e, tt) in
         let o = more t (omega (arith, shorter)) (omega (arith, shorter)) begun in
-        let none : (quote_opened (passed_here t h)).events ≡ h.events ++ t.events = closed-none h.flags.continued h.flags.line_end h.flags.containers (h.events ++ t.events) t.point (omega arith) in
+        let none : (opened (passed_here t h)).events ≡ h.events ++ t.events = closed-none h.flags.continued h.flags.line_end h.flags.containers (h.events ++ t.events) t.point (omega arith) in
         let P : List Container → Type 0 = λ l. AreOpen o.new.flags.containers l in
         record {
           new = o.new;
@@ -523,7 +449,7 @@ done-none options next front tail p cs going w cells h b = record {
 
 -- containers open
 done-some : (options : ParseOptions) (next : Rule) (front tail : List Event) (p : Point) (cs : List Container) (going : Bool) (w f : Front) (t : Passed) (h : Here) (o : Outcome) → Between front tail p cs going w h →
-    Opened options next (w.containers ++ t.container ∷ []) (quote_opened (passed_here t h)) f o → Done next options front tail p (held_of options cs going w (in_front t f)) o
+    Opened options next (w.containers ++ t.container ∷ []) (opened (passed_here t h)) f o → Done next options front tail p (held_of options cs going w (in_front t f)) o
 done-some options next front tail p cs going w f t h out b o =
     subst P (sym (lazy-some going t.container f.containers k)) (record {
       new = ended_to keep leaf.flags.line_end leaf;
@@ -561,7 +487,7 @@ done-some options next front tail p cs going w f t h out b o =
         let R : ℕ → Type 0 = λ n. AreOpen (drop n h.flags.containers) (others_of cs w.containers) in
         subst R (sym b.continued) (open-parts h.flags.containers w.containers (others_of cs w.containers) b.containers).1
 
-    first : (quote_opened (passed_here t h)).events ≡ front ++ (ends_of (others_of cs w.containers) p ++ (tail ++ (w.events ++ t.events)))
+    first : (opened (passed_here t h)).events ≡ front ++ (ends_of (others_of cs w.containers) p ++ (tail ++ (w.events ++ t.events)))
     first = closed-ends front tail (w.events ++ t.events) (h.events ++ t.events) p t.point h.flags.continued h.flags.line_end h.flags.containers (others_of cs w.containers) b.ends ended b.line_end
         (ap (λ (es : List Event). es ++ t.events) b.events ∙ regroup-ends front tail w.events t.events)
 
@@ -575,8 +501,8 @@ new-done options next front tail p cs going interrupting w m zero cells h b some
     done-same options next front tail p _ _ _ (new-none options next interrupting m cells h b.rest (opens-none options interrupting cells h.point most)) (done-none options next front tail p cs going w cells h b)
 new-done options next front tail p cs going interrupting w m (suc size) cells h b some most = go (opens_at options interrupting cells h.point) refl
   where
-    quote : Known
-    quote = record { kind = kind.BlockQuote }
+    new : Known
+    new = record { kind = new_kind }
 
     go : (x : Option Passed) → opens_at options interrupting cells h.point ≡ x →
         Done next options front tail p (held_of options cs going w (elim x [ None ↦ no_front cells h.point | Some t ↦ in_front t (new_front options false size t.cells t.point) ])) (new_from options next (suc m) cells h)
@@ -585,11 +511,11 @@ new-done options next front tail p cs going interrupting w m (suc size) cells h 
         let shorter = opens-shorter options interrupting cells h.point t e in
         let R : ℕ → Type 0 = λ n. AreOpen (take n h.flags.containers) w.containers in
         let stayed : AreOpen (take h.flags.continued h.flags.containers) w.containers = subst R (sym b.continued) (open-parts h.flags.containers w.containers (others_of cs w.containers) b.containers).0 in
-        let begun : AreOpen (quote_opened (passed_here t h)).flags.containers (w.containers ++ t.container ∷ []) =
-        open-append (take h.flags.continued h.flags.containers) (quote ∷ []) w.containers (t.container ∷ []) stayed (opens-same options interrupting cells h.point t e, tt) in
+        let begun : AreOpen (opened (passed_here t h)).flags.containers (w.containers ++ t.container ∷ []) =
+        open-append (take h.flags.continued h.flags.containers) (new ∷ []) w.containers (t.container ∷ []) stayed (opens-same options interrupting cells h.point t e, tt) in
         done-same options next front tail p _ _ _ (new-one options next interrupting m cells h t b.rest e)
         (done-some options next front tail p cs going w (new_front options false size t.cells t.point) t h _ b
-        (new-more options next m size (w.containers ++ t.container ∷ []) t.cells (quote_opened (passed_here t h)) b.rest (omega (arith, shorter)) (omega (arith, shorter)) begun refl refl))
+        (new-more options next m size (w.containers ++ t.container ∷ []) t.cells (opened (passed_here t h)) b.rest (omega (arith, shorter)) (omega (arith, shorter)) begun refl refl))
 
 -- at the begin of a line
 pub record Begins (front tail : List Event) (p : Point) (cs : List Container) (going : Bool) (h : Here) : Type 0 where

@@ -11,8 +11,8 @@ use Rattle.md_engine.specs.TextFeed.{text_feed}
 use Rattle.md_engine.specs.World.{World, reads_to}
 use Rattle.md_engine.proofs.Standing.{runs-mean}
 use Rattle.md_engine.proofs.TextFeed.{flush-means, text-follows}
-use Rattle.markdown_blocks.specs.FlowRule.{flow_at, flow_behaves}
-use Rattle.markdown_blocks.specs.States.{FlowStep, flow_table_scheme}
+use Rattle.markdown_blocks.specs.FlowRule.{flow_at}
+use Rattle.markdown_blocks.specs.States.{FlowStep, flow_behaves, flow_table_scheme}
 use Rattle.markdown_blocks.proofs.FlowEnds.{Finishes, flow_finishes}
 use Rattle.markdown_blocks.proofs.FlowMeans.{flow_means, flow_stands}
 

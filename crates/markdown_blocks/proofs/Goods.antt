@@ -4,30 +4,44 @@ use Rattle.md_engine.specs.declared.state.Name.{Name as StateName}
 use Rattle.md_engine.specs.declared.state.Name.TheVariants as n
 use Rattle.md_engine.specs.declared.state.document.State.TheVariants as document
 use Rattle.md_engine.specs.declared.state.flow.State.TheVariants as flow
-use Rattle.md_engine.specs.declared.state.block_quote.State.TheVariants as block_quote
 use Rattle.md_engine.specs.declared.state.blank_line.State.TheVariants as blank_line
-use Rattle.md_engine.specs.declared.state.heading_atx.State.TheVariants as heading_atx
-use Rattle.md_engine.specs.declared.state.thematic_break.State.TheVariants as thematic_break
 use Rattle.md_engine.specs.declared.state.content.State.TheVariants as content
-use Rattle.md_engine.specs.declared.state.State.TheVariants.{Nok, Next, Retry}
+use Rattle.md_engine.specs.declared.state.State.TheVariants.{Nok, Next}
 use Rattle.md_engine.specs.declared.tokenizer.container.Container.{Container}
 use Rattle.md_engine.specs.declared.tokenizer.container.ContainerKind.{ContainerKind}
-use Rattle.md_engine.specs.declared.tokenizer.container.ContainerKind.TheVariants as kind
-use Rattle.md_engine.specs.Scheme.{After, Fits, Scheme, Spot, Tries, TriesLater, after_all, seen, spot, spot_at}
+use Rattle.md_engine.specs.Scheme.{After, EndsLater, Fits, Scheme, Spot, Tries, TriesLater, after_all, seen, spot, spot_at}
 use Rattle.md_engine.specs.World.{World, closed}
 use Rattle.md_engine.proofs.Falls.{later, later_at}
 use Rattle.md_engine.proofs.Local.{accepts, begins_later, begins_try, consumes, refuses, turns}
 use Rattle.md_engine.proofs.Points.{passes-reaches, stays, takes}
-use Rattle.md_containers.specs.Quote.{quote_scheme}
 use Rattle.md_content.specs.Chunks.{chunk_scheme}
 use Rattle.md_leaves.specs.Blank.{blank_scheme}
-use Rattle.md_leaves.specs.Break.{break_scheme}
-use Rattle.md_leaves.specs.Heading.{heading_scheme}
-use Rattle.md_seam.specs.Spaces.{IsRest}
-use Rattle.md_seam.specs.Transition.{tried}
+use Rattle.md_seam.specs.Spaces.{IsRest, rest_ready}
 use Rattle.md_seam.proofs.SpacesGoods.{Does, seen-some}
-use Rattle.markdown_blocks.specs.Flow.{after_transition, before_content_transition, before_heading_atx_transition, before_thematic_break_transition, blank_line_after_transition, blank_line_before_transition, containers_after_transition, existing_after_transition, existing_before_code, flow_end_code, flow_ready, flow_scheme, goes_on_with, new_after_transition, new_before_transition, start_transition}
+use Rattle.markdown_blocks.specs.Flow.{after_transition, before_content_transition, before_transition, blank_line_after_transition, blank_line_before_transition, containers_after_transition, existing_after_transition, existing_before_code, flow_end_code, flow_rank, flow_ready, flow_scheme, new_after_transition, new_before_transition, start_transition}
 use Rattle.markdown_blocks.specs.LineFlags as flags
+use Rattle.markdown_blocks.specs.Registry.{LeafName, trials}
+use Rattle.markdown_blocks.specs.Table.{before, first_container, front_of, goes_on_with, next_of, start_of}
+
+-- what a table has of a leaf on one line: the states in front of it and of the next are those of flow, and fall; its first state is of
+-- a lower level, and ready at rest
+pub record LeafFits (T : Scheme) (l : LeafName) : Type 1 where
+  pub own : Scheme
+  pub starts : Fits T own (start_of l)
+  pub level : own.level (start_of l) < 3
+  pub ready : (x : Spot) (K : After) → rest_ready x K → own.ready (start_of l) x K
+  pub front : Fits T flow_scheme (n.Flow (before l))
+  pub next : Fits T flow_scheme (n.Flow (next_of l))
+  pub falls : (flow_scheme.tries (n.Flow (next_of l))).number < (flow_rank (n.Flow (before l))).number
+  pub next_low : (flow_rank (n.Flow (next_of l))).number < (flow_scheme.tries (n.Flow (next_of l))).number
+  pub behind_low : (flow_rank (n.Flow flow.After)).number < (flow_scheme.tries (n.Flow (next_of l))).number
+
+-- the same of containers: of the first state of one that may open, and of the states in front of the prefixes of those that are open
+pub record ContainerFits (T : Scheme) (start : StateName) : Type 1 where
+  pub own : Scheme
+  pub starts : Fits T own start
+  pub level : own.level start < 3
+  pub ready : (x : Spot) (K : After) → IsRest x.scratch → EndsLater IsRest IsRest x K → own.ready start x K
 
 pub record FlowFits (T : Scheme) : Type 1 where
   pub existing_before : Fits T flow_scheme (n.Document document.ContainerExistingBefore)
@@ -38,8 +52,7 @@ pub record FlowFits (T : Scheme) : Type 1 where
   pub flow_end : Fits T flow_scheme (n.Document document.FlowEnd)
   pub start : Fits T flow_scheme (n.Flow flow.Start)
   pub blank_line_before : Fits T flow_scheme (n.Flow flow.BlankLineBefore)
-  pub before_heading_atx : Fits T flow_scheme (n.Flow flow.BeforeHeadingAtx)
-  pub before_thematic_break : Fits T flow_scheme (n.Flow flow.BeforeThematicBreak)
+  pub first_leaf : Fits T flow_scheme (n.Flow (front_of trials))
   pub before_content : Fits T flow_scheme (n.Flow flow.BeforeContent)
   pub blank_line_after : Fits T flow_scheme (n.Flow flow.BlankLineAfter)
   pub behind : Fits T flow_scheme (n.Flow flow.After)
@@ -61,15 +74,13 @@ prefix_tries ok nok w K r low_nok same_nok = record {
 }
 
 pub good_existing_before : (T : Scheme) (w : World) (o : Option Container) → FlowFits T →
-    Fits T quote_scheme (n.BlockQuote block_quote.ContStart) → flow_ready (spot w) (after_all T w.frames) →
+    ((k : ContainerKind) → ContainerFits T (goes_on_with k)) → flow_ready (spot w) (after_all T w.frames) →
     Does T (n.Document document.ContainerExistingBefore) w (existing_before_code w o)
 good_existing_before T w None has inner r = (turns T flow_scheme _ _ w w.events w.scratch has.existing_before has.new_before r (omega arith) (omega arith), refl)
-good_existing_before T w (Some c) has inner r = go c.kind
-  where
-    go : (k : ContainerKind) → Does T (n.Document document.ContainerExistingBefore) w (record { to = Retry (goes_on_with k); world = tried w (Next (n.Document document.ContainerExistingAfter)) (Next (n.Document document.ContainerNewBefore)) })
-    go kind.BlockQuote = (
-      begins_later T flow_scheme quote_scheme (n.Document document.ContainerExistingBefore) (n.BlockQuote block_quote.ContStart) w IsRest IsRest w.events w.scratch _ has.existing_before inner has.existing_after has.new_before refl
-          (prefix_tries (n.Document document.ContainerExistingAfter) (n.Document document.ContainerNewBefore) w (after_all T w.frames) r (omega arith) (λ x. refl)) (λ K e. (r.0.0, e)) (omega arith) (omega arith) (omega arith),
+good_existing_before T w (Some c) has inner r =
+    let i : ContainerFits T (goes_on_with c.kind) = inner c.kind in (
+      begins_later T flow_scheme i.own (n.Document document.ContainerExistingBefore) (goes_on_with c.kind) w IsRest IsRest w.events w.scratch _ has.existing_before i.starts has.existing_after has.new_before refl
+          (prefix_tries (n.Document document.ContainerExistingAfter) (n.Document document.ContainerNewBefore) w (after_all T w.frames) r (omega arith) (λ x. refl)) (λ K e. i.ready _ K r.0.0 e) i.level (omega arith) (omega arith),
       refl,
     )
 
@@ -77,12 +88,12 @@ pub good_existing_after : (T : Scheme) (w : World) → FlowFits T → flow_ready
     Does T (n.Document document.ContainerExistingAfter) w (existing_after_transition w)
 good_existing_after T w has r = (turns T flow_scheme _ _ w w.events w.scratch has.existing_after has.existing_before r (omega arith) (omega arith), refl)
 
-pub good_new_before : (T : Scheme) (w : World) → FlowFits T → Fits T quote_scheme (n.BlockQuote block_quote.Start) →
+pub good_new_before : (T : Scheme) (w : World) → FlowFits T → ContainerFits T first_container →
     flow_ready (spot w) (after_all T w.frames) →
     Does T (n.Document document.ContainerNewBefore) w (new_before_transition w)
 good_new_before T w has inner r = (
-  begins_later T flow_scheme quote_scheme (n.Document document.ContainerNewBefore) (n.BlockQuote block_quote.Start) w IsRest IsRest w.events w.scratch _ has.new_before inner has.new_after has.containers_after refl
-      (prefix_tries (n.Document document.ContainerNewAfter) (n.Document document.ContainersAfter) w (after_all T w.frames) r (omega arith) (λ x. refl)) (λ K e. (r.0.0, e)) (omega arith) (omega arith) (omega arith),
+  begins_later T flow_scheme inner.own (n.Document document.ContainerNewBefore) first_container w IsRest IsRest w.events w.scratch _ has.new_before inner.starts has.new_after has.containers_after refl
+      (prefix_tries (n.Document document.ContainerNewAfter) (n.Document document.ContainersAfter) w (after_all T w.frames) r (omega arith) (λ x. refl)) (λ K e. inner.ready _ K r.0.0 e) inner.level (omega arith) (omega arith),
   refl,
 )
 
@@ -119,26 +130,18 @@ pub good_blank_line_before : (T : Scheme) (w : World) → FlowFits T →
     Fits T blank_scheme (n.BlankLine blank_line.Start) → flow_ready (spot w) (after_all T w.frames) →
     Does T (n.Flow flow.BlankLineBefore) w (blank_line_before_transition w)
 good_blank_line_before T w has inner r = (
-  begins_try T flow_scheme blank_scheme (n.Flow flow.BlankLineBefore) (n.BlankLine blank_line.Start) w IsRest IsRest w.events w.scratch _ has.blank_line_before inner has.blank_line_after has.before_heading_atx refl
-      (flow_tries (n.Flow flow.BlankLineAfter) (n.Flow flow.BeforeHeadingAtx) w (after_all T w.frames) r (omega arith) (omega arith) (λ x. refl) (λ x. refl)) (λ K e. (r.0.0, e)) (omega arith) (omega arith) (omega arith),
+  begins_try T flow_scheme blank_scheme (n.Flow flow.BlankLineBefore) (n.BlankLine blank_line.Start) w IsRest IsRest w.events w.scratch _ has.blank_line_before inner has.blank_line_after has.first_leaf refl
+      (flow_tries (n.Flow flow.BlankLineAfter) (n.Flow (front_of trials)) w (after_all T w.frames) r (omega arith) (omega arith) (λ x. refl) (λ x. refl)) (λ K e. (r.0.0, e)) (omega arith) (omega arith) (omega arith),
   refl,
 )
 
-pub good_before_heading_atx : (T : Scheme) (w : World) → FlowFits T →
-    Fits T heading_scheme (n.HeadingAtx heading_atx.Start) → flow_ready (spot w) (after_all T w.frames) →
-    Does T (n.Flow flow.BeforeHeadingAtx) w (before_heading_atx_transition w)
-good_before_heading_atx T w has inner r = (
-  begins_try T flow_scheme heading_scheme (n.Flow flow.BeforeHeadingAtx) (n.HeadingAtx heading_atx.Start) w IsRest IsRest w.events w.scratch _ has.before_heading_atx inner has.behind has.before_thematic_break refl
-      (flow_tries (n.Flow flow.After) (n.Flow flow.BeforeThematicBreak) w (after_all T w.frames) r (omega arith) (omega arith) (λ x. refl) (λ x. refl)) (λ K e. (r.0.0, e)) (omega arith) (omega arith) (omega arith),
-  refl,
-)
-
-pub good_before_thematic_break : (T : Scheme) (w : World) → FlowFits T →
-    Fits T break_scheme (n.ThematicBreak thematic_break.Start) → flow_ready (spot w) (after_all T w.frames) →
-    Does T (n.Flow flow.BeforeThematicBreak) w (before_thematic_break_transition w)
-good_before_thematic_break T w has inner r = (
-  begins_try T flow_scheme break_scheme (n.Flow flow.BeforeThematicBreak) (n.ThematicBreak thematic_break.Start) w IsRest IsRest w.events w.scratch _ has.before_thematic_break inner has.behind has.before_content refl
-      (flow_tries (n.Flow flow.After) (n.Flow flow.BeforeContent) w (after_all T w.frames) r (omega arith) (omega arith) (λ x. refl) (λ x. refl)) (λ K e. (r.0.0, e)) (omega arith) (omega arith) (omega arith),
+-- in front of a leaf
+pub good_before : (T : Scheme) (l : LeafName) (w : World) → FlowFits T → LeafFits T l →
+    flow_ready (spot w) (after_all T w.frames) →
+    Does T (n.Flow (before l)) w (before_transition l w)
+good_before T l w has inner r = (
+  begins_try T flow_scheme inner.own (n.Flow (before l)) (start_of l) w IsRest IsRest w.events w.scratch _ inner.front inner.starts has.behind inner.next refl
+      (flow_tries (n.Flow flow.After) (n.Flow (next_of l)) w (after_all T w.frames) r inner.behind_low inner.next_low (λ x. refl) (λ x. refl)) (λ K e. inner.ready _ K (r.0.0, e)) inner.level (omega arith) inner.falls,
   refl,
 )
 

@@ -1,4 +1,5 @@
 pub mod Goods
+pub mod TableLaws
 pub mod States
 pub mod FromEnding
 pub mod FlowLemmas

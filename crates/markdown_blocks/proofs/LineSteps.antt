@@ -22,7 +22,8 @@ use Rattle.markdown_blocks.specs.Stands.{IsPlain, IsPlainLeaf, containers_of, is
 use Rattle.markdown_blocks.specs.Leaf.Paragraph.{held_of}
 use Rattle.markdown_blocks.proofs.Paragraph.Open.{open-cases, shut-lines}
 use Rattle.markdown_blocks.proofs.ContainedLemmas.{change-opens, contained-size, lazy-opens, lazy-some}
-use Rattle.markdown_blocks.proofs.RegistryFound.{came_of, leaf_at, starts-found, table-off, underline-off}
+use Rattle.markdown_blocks.proofs.Registry.{came_of, leaf_at}
+use Rattle.markdown_blocks.proofs.RegistryFound.{starts-found, table-off, underline-off}
 
 -- Lines, one after another.
 

@@ -16,7 +16,6 @@ use Rattle.md_engine.specs.declared.state.State.TheVariants.{Next, Ok}
 use Rattle.md_engine.specs.declared.tokenizer.Frame.{Frame}
 use Rattle.md_engine.specs.Meaning.{Accepts, Behaviour, Cell, Feed, Follows, Here, Outcome, Refuses, Steps, comes_to, goes, here, resume_all}
 use Rattle.md_engine.specs.Run.{Calls, Leaves, Runs, plain, reading}
-use Rattle.md_engine.specs.Run.Runs.{Stays, ThenCalls, ThenLeaves}
 use Rattle.md_engine.specs.Scheme.{stands}
 use Rattle.md_engine.specs.TextFeed.{text_feed}
 use Rattle.md_engine.specs.World.{Setting, World, looks}
@@ -30,15 +29,16 @@ use Rattle.md_seam.specs.Standard.State.{Container}
 use Rattle.md_seam.proofs.FeedLines.{Stops}
 use Rattle.markdown_blocks.specs.Change.{ends_of, open_behind}
 use Rattle.markdown_blocks.specs.Fed.{fed, feeds, flow_begins, line_begins, not_left, place_behind}
-use Rattle.markdown_blocks.specs.FlowRule.{Rule, ended, flow_behaves_by, line_then}
+use Rattle.markdown_blocks.specs.FlowRule.{Rule, ended, line_then}
 use Rattle.markdown_blocks.specs.LineFlags.{ending_name}
 use Rattle.markdown_blocks.specs.Rows.{Held, Row, after_ending, behind_row, closes_before, held_at, is_text, onto_rows, row_events, row_kind, row_of, rows_at, rows_events}
 use Rattle.markdown_blocks.specs.Stands.{AreOpen}
-use Rattle.markdown_blocks.specs.States.{FlowStep, flow_table_scheme, flow_transition}
+use Rattle.markdown_blocks.specs.States.{FlowStep, flow_behaves_by, flow_table_scheme, flow_transition}
 use Rattle.markdown_blocks.specs.TextRows.{text_cells, text_rows, text_setting}
 use Rattle.markdown_blocks.proofs.FlowMeans.{Takes, ending-taken, flow-steps-by, flow_stands}
 use Rattle.markdown_blocks.proofs.FlowRows.{Begins, Done, held-shorter, leaving, line-done, next-begins, next_here, no-closes, row-adds, rows_below, text-begins}
 use Rattle.markdown_blocks.proofs.FromEnding.{from_ending-shrinks, from_ending-stops}
+use Rattle.md_engine.specs.Run.{Stays, ThenCalls, ThenLeaves}
 
 -- Behind some lines.
 

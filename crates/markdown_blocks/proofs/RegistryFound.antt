@@ -1,54 +1,15 @@
 -- Which leaves of the line definition start on a line: of those that are built the first of the registry, and no other.
-use Rattle.std.proofs.Common.{◌≡◌, ℕ, Bool, true, false, cond, ◌==◌, ◌&&◌, ◌||◌, List, [], ◌∷◌, refl, ◌∙◌, ap₂}
-use Rattle.std.specs.Prelude.{Option, Some, None}
-use Rattle.std.specs.Option.{option_or}
+use Rattle.std.proofs.Common.{◌≡◌, ℕ, Bool, true, false, cond, ◌==◌, ◌&&◌, ◌||◌, List, [], ◌∷◌, refl}
+use Rattle.std.specs.Prelude.{None}
 use Rattle.md_engine.specs.declared.configuration.ParseOptions.{ParseOptions}
-use Rattle.md_seam.specs.Standard.Leaves.{Came, Finished, ParagraphContext, break_at, code_at, fence_at, fence_from, heading_at, html_at, is_fence_marker, starts, table_at, underline_depth}
+use Rattle.md_seam.specs.Standard.Leaves.{ParagraphContext, code_at, fence_at, fence_from, html_at, is_fence_marker, starts, table_at, underline_depth}
 use Rattle.md_seam.specs.Standard.Rest.{Rest, has_small_indent, indent, trim_start}
 use Rattle.md_seam.specs.Standard.State.{Kept}
 use Rattle.md_seam.specs.Standard.Tree.{Blocks}
-use Rattle.markdown_blocks.specs.Leaf.HeadingAtx.{heading_leaf}
-use Rattle.markdown_blocks.specs.Leaf.ThematicBreak.{break_leaf}
 use Rattle.markdown_blocks.specs.Parsed.{IsBuilt}
-use Rattle.markdown_blocks.specs.Registry.{HeadingAtx, LeafName, ThematicBreak, first_of, leaf, trials}
-use Rattle.markdown_blocks.proofs.HeadingAtx.Found.{heading-found, heading-simple}
-use Rattle.markdown_blocks.proofs.SimpleBlocks.{IsSimple}
-use Rattle.markdown_blocks.proofs.ThematicBreak.Found.{break-found, break-simple}
+use Rattle.markdown_blocks.proofs.Registry.{came_of, leaf_at, leaves-found}
 
--- What is built.
-
--- the leaf that takes the rest of a line, if one does
-abbrev pub leaf_at : ParseOptions → Rest → Option LeafName
-leaf_at options r = first_of (λ l. (leaf l).starts options r) trials
-
--- what it comes to
-abbrev pub came_of : Rest → Option LeafName → Option Came
-came_of r None = None
-came_of r (Some l) = Some (Finished ((leaf l).block r))
-
-leaves-found : (options : ParseOptions) (r : Rest) →
-    option_or (heading_at options r) (break_at options r) ≡ came_of r (leaf_at options r)
-leaves-found options r =
-    ap₂ (λ (x y : Option Came). option_or x y) (heading-found options r) (break-found options r)
-    ∙ go (heading_leaf.starts options r) (break_leaf.starts options r)
-  where
-    -- a leaf, if it starts
-    one : Bool → LeafName → Option Came
-    one x l = cond x (Some (Finished ((leaf l).block r))) None
-
-    go : (x y : Bool) →
-        option_or (one x HeadingAtx) (one y ThematicBreak) ≡ came_of r (cond x (Some HeadingAtx) (cond y (Some ThematicBreak) None))
-    go true y = refl
-    go false true = refl
-    go false false = refl
-
--- the block of each is simple
-pub leaf-simple : (l : LeafName) (options : ParseOptions) (r : Rest) → (leaf l).starts options r ≡ true →
-    IsSimple ((leaf l).block r)
-leaf-simple HeadingAtx options r h = heading-simple options r h
-leaf-simple ThematicBreak options r h = break-simple
-
--- What is not.
+-- What is not built.
 
 code-off : (options : ParseOptions) (against : ParagraphContext) (r : Rest) →
     options.constructs.code_indented ≡ false → code_at options against r ≡ None

@@ -28,7 +28,7 @@ use Rattle.markdown_blocks.specs.Registry.{LeafName}
 use Rattle.markdown_blocks.specs.Rows.{BlankRow, Row, TextRow, behind_row, kind_of, last_row, read_lines}
 use Rattle.markdown_blocks.proofs.FrontFacts.{Behind, Begins, LinePrefix, Goes}
 use Rattle.markdown_blocks.proofs.PlainRoles.{chunk-roles}
-use Rattle.markdown_blocks.proofs.RegistryFound.{leaf_at}
+use Rattle.markdown_blocks.proofs.Registry.{leaf_at}
 use Rattle.markdown_blocks.proofs.RowFacts as f
 use Rattle.markdown_blocks.proofs.CollectFacts.{Collects, slice-none, collects-inline, collects-behind, collects-back, blank-append}
 use Rattle.markdown_blocks.proofs.PrefixNames.{prefixes-roles}

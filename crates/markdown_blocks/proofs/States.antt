@@ -1,51 +1,36 @@
 -- Each state of flow keeps what its table needs.
-use Rattle.std.proofs.Common.{◌≡◌, Bool, sym}
+use Rattle.std.proofs.Common.{◌≡◌, Bool, Option, Some, None, refl, sym, subst}
 use Rattle.md_engine.specs.declared.resolve.name.Name.{Name as ResolveName}
 use Rattle.md_engine.specs.declared.resolve.name.Name.TheVariants as r
 use Rattle.md_engine.specs.declared.state.Name.{Name as StateName}
 use Rattle.md_engine.specs.declared.state.Name.TheVariants as n
 use Rattle.md_engine.specs.declared.state.blank_line.State.TheVariants as blank_line
-use Rattle.md_engine.specs.declared.state.block_quote.State.TheVariants as block_quote
 use Rattle.md_engine.specs.declared.state.content.State.TheVariants as content
 use Rattle.md_engine.specs.declared.state.document.State.{State as DocumentState}
 use Rattle.md_engine.specs.declared.state.document.State.TheVariants as document
 use Rattle.md_engine.specs.declared.state.flow.State.{State as FlowState}
 use Rattle.md_engine.specs.declared.state.flow.State.TheVariants as flow
-use Rattle.md_engine.specs.declared.state.heading_atx.State.TheVariants as heading_atx
-use Rattle.md_engine.specs.declared.state.thematic_break.State.TheVariants as thematic_break
 use Rattle.md_engine.specs.declared.state.State.TheVariants.{Next}
-use Rattle.md_engine.specs.Scheme.{stands}
+use Rattle.md_engine.specs.Scheme.{after_all, spot, stands}
 use Rattle.md_engine.specs.World.{World, looks}
 use Rattle.md_engine.proofs.Local.{fits}
-use Rattle.md_containers.proofs.QuoteGoods.{QuoteFits, quote_does}
 use Rattle.md_content.proofs.Goods.{ChunkFits, chunk_does}
 use Rattle.md_leaves.proofs.BlankGoods.{BlankFits, blank_does}
-use Rattle.md_leaves.proofs.BreakGoods.{BreakFits, break_does}
-use Rattle.md_leaves.proofs.HeadingGoods.{HeadingFits, heading_does}
-use Rattle.md_seam.proofs.SpacesGoods.{Does, WhiteFits, white_does}
+use Rattle.md_seam.proofs.SpacesGoods.{Does, white_does}
 use Rattle.markdown_blocks.specs.Document.{document_own_transition}
-use Rattle.markdown_blocks.specs.Flow.{flow_own_transition}
-use Rattle.markdown_blocks.specs.States.{flow_owner, flow_table_scheme, flow_transition}
+use Rattle.markdown_blocks.specs.Flow.{before_transition, flow_own_transition, leaf_transition}
+use Rattle.markdown_blocks.specs.Registry.{LeafName, trials}
+use Rattle.markdown_blocks.specs.States.{flow_owner, flow_table_scheme, flow_transition, leaf_owner}
+use Rattle.markdown_blocks.specs.Table.{front_of, tried_at}
 use Rattle.markdown_blocks.proofs.Goods as goods
 use Rattle.markdown_blocks.proofs.Goods.{FlowFits}
-
-white_fits : WhiteFits flow_table_scheme
-white_fits = record { each = λ state. fits flow_owner (n.SpaceOrTab state) }
+use Rattle.markdown_blocks.proofs.TableLaws.{construct-does, container-fits, goes_on-fits, leaf-fits, tried-before, white_fits}
 
 blank_fits : BlankFits flow_table_scheme
 blank_fits = record { white = white_fits; each = λ state. fits flow_owner (n.BlankLine state) }
 
-break_fits : BreakFits flow_table_scheme
-break_fits = record { white = white_fits; each = λ state. fits flow_owner (n.ThematicBreak state) }
-
-heading_fits : HeadingFits flow_table_scheme
-heading_fits = record { white = white_fits; each = λ state. fits flow_owner (n.HeadingAtx state) }
-
 chunk_fits : ChunkFits flow_table_scheme
 chunk_fits = record { each = λ state. fits flow_owner (n.Content state) }
-
-quote_fits : QuoteFits flow_table_scheme
-quote_fits = record { white = white_fits; each = λ state. fits flow_owner (n.BlockQuote state) }
 
 flow_fits : FlowFits flow_table_scheme
 flow_fits = record {
@@ -57,8 +42,7 @@ flow_fits = record {
   flow_end = fits flow_owner (n.Document document.FlowEnd);
   start = fits flow_owner (n.Flow flow.Start);
   blank_line_before = fits flow_owner (n.Flow flow.BlankLineBefore);
-  before_heading_atx = fits flow_owner (n.Flow flow.BeforeHeadingAtx);
-  before_thematic_break = fits flow_owner (n.Flow flow.BeforeThematicBreak);
+  first_leaf = fits flow_owner (n.Flow (front_of trials));
   before_content = fits flow_owner (n.Flow flow.BeforeContent);
   blank_line_after = fits flow_owner (n.Flow flow.BlankLineAfter);
   behind = fits flow_owner (n.Flow flow.After);
@@ -69,39 +53,39 @@ containers_do : (state : DocumentState) (w : World) → w.current ≡ looks w �
     stands flow_table_scheme w (Next (n.Document state)) →
     Does flow_table_scheme (n.Document state) w (document_own_transition state w)
 containers_do document.ContainerExistingBefore w c at =
-    goods.good_existing_before flow_table_scheme w _ flow_fits (fits flow_owner (n.BlockQuote block_quote.ContStart)) at
+    goods.good_existing_before flow_table_scheme w _ flow_fits goes_on-fits at
 containers_do document.ContainerExistingAfter w c at = goods.good_existing_after flow_table_scheme w flow_fits at
 containers_do document.ContainerNewBefore w c at =
-    goods.good_new_before flow_table_scheme w flow_fits (fits flow_owner (n.BlockQuote block_quote.Start)) at
+    goods.good_new_before flow_table_scheme w flow_fits container-fits at
 containers_do document.ContainerNewAfter w c at = goods.good_new_after flow_table_scheme w flow_fits at
 containers_do document.ContainersAfter w c at = goods.good_containers_after flow_table_scheme w flow_fits at
 containers_do document.FlowEnd w c at = goods.good_flow_end flow_table_scheme w w.current flow_fits at (sym c)
 containers_do state w c at = absurd at
 
--- the states in front of a leaf, and behind it
+-- the states in front of a leaf,
+leaf_does : (state : FlowState) (o : Option LeafName) → tried_at state ≡ o → (w : World) → (leaf_owner o).ready (n.Flow state) (spot w) (after_all flow_table_scheme w.frames) →
+    Does flow_table_scheme (n.Flow state) w (leaf_transition o w)
+leaf_does state None e w at = absurd at
+leaf_does state (Some l) e w at =
+    let P : FlowState → Type 0 = λ x. Does flow_table_scheme (n.Flow x) w (before_transition l w) in
+    subst P (tried-before state l e) (goods.good_before flow_table_scheme l w flow_fits (leaf-fits l) at)
+
+-- and those in front of none, or behind it
 leaves_do : (state : FlowState) (w : World) → stands flow_table_scheme w (Next (n.Flow state)) →
     Does flow_table_scheme (n.Flow state) w (flow_own_transition state w)
 leaves_do flow.Start w at = goods.good_start flow_table_scheme w flow_fits at
 leaves_do flow.BlankLineBefore w at =
     goods.good_blank_line_before flow_table_scheme w flow_fits (fits flow_owner (n.BlankLine blank_line.Start)) at
-leaves_do flow.BeforeHeadingAtx w at =
-    goods.good_before_heading_atx flow_table_scheme w flow_fits (fits flow_owner (n.HeadingAtx heading_atx.Start)) at
-leaves_do flow.BeforeThematicBreak w at =
-    goods.good_before_thematic_break flow_table_scheme w flow_fits (fits flow_owner (n.ThematicBreak thematic_break.Start)) at
 leaves_do flow.BeforeContent w at =
     goods.good_before_content flow_table_scheme w flow_fits (fits flow_owner (n.Content content.ChunkStart)) at
 leaves_do flow.BlankLineAfter w at = goods.good_blank_line_after flow_table_scheme w flow_fits at
 leaves_do flow.After w at = goods.good_after flow_table_scheme w flow_fits at
-leaves_do state w at = absurd at
+leaves_do state w at = leaf_does state (tried_at state) refl w at
 
 pub flow_does : (is_name : ResolveName → ResolveName → Bool) (name : StateName) (w : World) → w.current ≡ looks w → stands flow_table_scheme w (Next name) → Does flow_table_scheme name w (flow_transition is_name name w)
 flow_does is_name (n.BlankLine state) w c at = blank_does flow_table_scheme state w blank_fits at
-flow_does is_name (n.BlockQuote state) w c at = quote_does flow_table_scheme state w quote_fits c at
 flow_does is_name (n.Content state) w c at = chunk_does flow_table_scheme (is_name r.Content) state w chunk_fits c at
 flow_does is_name (n.Document state) w c at = containers_do state w c at
 flow_does is_name (n.Flow state) w c at = leaves_do state w at
-flow_does is_name (n.HeadingAtx state) w c at =
-    heading_does flow_table_scheme (is_name r.HeadingAtx) state w heading_fits c at
 flow_does is_name (n.SpaceOrTab state) w c at = white_does flow_table_scheme state w white_fits c at
-flow_does is_name (n.ThematicBreak state) w c at = break_does flow_table_scheme state w break_fits c at
-flow_does is_name name w c at = absurd at
+flow_does is_name name w c at = construct-does is_name name w c at

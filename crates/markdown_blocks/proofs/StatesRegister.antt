@@ -26,10 +26,8 @@ use Rattle.md_seam.specs.Transition.{entered, exited, taken}
 use Rattle.markdown_blocks.specs.Flow as flow
 use Rattle.markdown_blocks.specs.LineFlags.{ending_name, next_container, stays}
 use Rattle.markdown_blocks.specs.States.{flow_transition}
-use Rattle.markdown_blocks.proofs.HeadingAtx.Registers.{heading-registers}
 use Rattle.markdown_blocks.proofs.Registers.{Registers, adds, adds-content, closed-registers}
-use Rattle.markdown_blocks.proofs.ThematicBreak.Registers.{break-registers}
-use Rattle.markdown_blocks.proofs.BlockQuote.Registers.{quote-registers}
+use Rattle.markdown_blocks.proofs.TableLaws.{construct-registers}
 use Rattle.markdown_blocks.specs.Document.{document_own_transition}
 
 blank-start : (w : World) (b : Bool) → Registers w → Registers (blank.start_code w b).world
@@ -100,11 +98,8 @@ chunk-registers _ w h = h
 -- each state of flow, by its construct
 pub went-registers : (name : StateName) (w : World) → Registers w → Registers (flow_transition same_name name w).world
 went-registers (s.BlankLine state) w h = blank-registers state w h
-went-registers (s.BlockQuote state) w h = quote-registers state w h
 went-registers (s.Content state) w h = chunk-registers state w h
 went-registers (s.Document state) w h = containers-register state w h
 went-registers (s.Flow state) w h = leaves-register state w h
-went-registers (s.HeadingAtx state) w h = heading-registers state w h
 went-registers (s.SpaceOrTab state) w h = white-registers state w h
-went-registers (s.ThematicBreak state) w h = break-registers state w h
-went-registers _ w h = h
+went-registers name w h = construct-registers name w h

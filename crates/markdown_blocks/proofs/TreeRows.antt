@@ -34,7 +34,7 @@ use Rattle.markdown_blocks.proofs.LineSteps.{behind_path, contained_at, fresh-fo
 use Rattle.markdown_blocks.proofs.MarkLemmas.{without-mark}
 use Rattle.markdown_blocks.proofs.RowFacts as f
 use Rattle.markdown_blocks.proofs.SpelledRows.{spelled-rows}
-use Rattle.markdown_blocks.proofs.RegistryFound.{leaf-simple}
+use Rattle.markdown_blocks.proofs.Registry.{leaf-simple}
 use Rattle.markdown_blocks.proofs.SimpleBlocks.{AreSimple, grouped-blocks, shallow-blocks, simple-text, simple-then}
 use Rattle.markdown_blocks.proofs.RegistryRead.{AreRead, IsRead, IsReadTaken, read-front, shapes-read}
 use Rattle.markdown_blocks.proofs.RegistryContainers.{empty-ends, opens-read, read-simple}

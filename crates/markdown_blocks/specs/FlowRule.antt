@@ -9,19 +9,15 @@ use Rattle.md_engine.specs.declared.state.flow.State.{State as FlowState}
 use Rattle.md_engine.specs.declared.state.flow.State.TheVariants as flow
 use Rattle.md_engine.specs.declared.tokenizer.container.Container.{Container}
 use Rattle.md_engine.specs.declared.tokenizer.container.ContainerKind.{ContainerKind}
-use Rattle.md_engine.specs.declared.tokenizer.container.ContainerKind.TheVariants as kind
 use Rattle.md_engine.specs.declared.tokenizer.Scratch.{Scratch}
 use Rattle.md_engine.specs.Meaning.{Accepts, Behaviour, Cell, Fails, Here, Outcome, Refuses}
 use Rattle.md_engine.specs.World.{Flags, closed_events, kept}
-use Rattle.md_containers.specs.QuoteRule.{HasQuote, prefix_at, quote_at, quote_behaves}
-use Rattle.md_content.specs.ChunkRule.{HasChunk, chunk_at, chunk_behaves}
-use Rattle.md_leaves.specs.BlankRule.{HasBlank, blank_at, blank_behaves}
-use Rattle.md_leaves.specs.BreakRule.{HasBreak, break_at, break_behaves}
-use Rattle.md_leaves.specs.HeadingRule.{HasHeading, heading_at, heading_behaves}
-use Rattle.md_seam.specs.Ahead.{white_behaves}
+use Rattle.md_content.specs.ChunkRule.{HasChunk, chunk_at}
+use Rattle.md_leaves.specs.BlankRule.{HasBlank, blank_at}
 use Rattle.md_seam.specs.Events.Nested.{pair}
-use Rattle.markdown_blocks.specs.Registry.{LeafName, leaf, trials}
-use Rattle.markdown_blocks.specs.LineFlags.{begun_line, blanked, ending_name, next_container, next_line, stays, went_on, with_quote}
+use Rattle.markdown_blocks.specs.Registry.{LeafName, continues_at, leaf, new_container_at, new_kind, trials}
+use Rattle.markdown_blocks.specs.Table.{behind, first_container, goes_on_with, start_of, tried_at}
+use Rattle.markdown_blocks.specs.LineFlags.{begun_line, blanked, ending_name, next_container, next_line, stays, went_on, with_container}
 
 -- how the rest of a text ends from a place
 abbrev pub Rule : Type 0
@@ -62,14 +58,6 @@ abbrev pub leaves_of : ParseOptions → Rule → List LeafName → Rule
 leaves_of options next [] cells h = content_of next cells h
 leaves_of options next (l ∷ ls) cells h = tried ((leaf l).trial options cells h) (line_ended next) (λ s g. leaves_of options next ls cells (record h { scratch = s; flags = g }))
 
--- behind one
-abbrev pub behind_first : List LeafName → List LeafName
-behind_first [] = []
-behind_first (l ∷ ls) = ls
-
-abbrev pub break_of : ParseOptions → Rule → Rule
-break_of options next cells h = leaves_of options next (behind_first trials) cells h
-
 abbrev pub nonblank_of : ParseOptions → Rule → Rule
 nonblank_of options next cells h = leaves_of options next trials cells h
 
@@ -83,21 +71,17 @@ leaf_of options next cells h = tried (blank_at cells h) (blank_ended next) (λ s
 abbrev pub behind_containers : ParseOptions → Rule → Rule
 behind_containers options next cells h = leaf_of options next cells (record h { flags = begun_line h.flags })
 
--- a quote opens, and those that did not go on end
-abbrev pub quote_opened : Here → Here
-quote_opened h = let k = ended_to h.flags.continued h.flags.line_end h in record k { flags = with_quote k.flags }
+-- a container opens, and those that did not go on end
+abbrev pub opened : Here → Here
+opened h = let k = ended_to h.flags.continued h.flags.line_end h in record k { flags = with_container new_kind k.flags }
 
 -- containers open as often as they do
 unfoldable pub new_from : ParseOptions → Rule → ℕ → Rule
 new_from options next zero cells h = behind_containers options next cells h
-new_from options next (suc n) cells h = tried (quote_at options cells h) (λ rest k. new_from options next n rest (quote_opened k)) (λ s g. behind_containers options next cells (record h { scratch = s; flags = g }))
+new_from options next (suc n) cells h = tried (new_container_at options cells h) (λ rest k. new_from options next n rest (opened k)) (λ s g. behind_containers options next cells (record h { scratch = s; flags = g }))
 
 unfoldable pub new_of : ParseOptions → Rule → Rule
 new_of options next cells h = new_from options next (suc (length cells)) cells h
-
--- what is asked of a container on a further line
-abbrev pub continues_at : ParseOptions → ContainerKind → Rule
-continues_at options kind.BlockQuote cells h = prefix_at options cells h
 
 -- each container is asked whether it goes on, from the outermost in, until one does not
 abbrev pub existing_by : ParseOptions → Rule → Rule → Option Container → Rule
@@ -126,43 +110,30 @@ containers_behave options next document.ContainerExistingBefore cells h = line_t
 containers_behave options next document.ContainerExistingAfter cells h =
     line_then options next cells (record h { flags = went_on h.flags })
 containers_behave options next document.ContainerNewBefore cells h = new_of options next cells h
-containers_behave options next document.ContainerNewAfter cells h = new_of options next cells (quote_opened h)
+containers_behave options next document.ContainerNewAfter cells h = new_of options next cells (opened h)
 containers_behave options next document.ContainersAfter cells h = behind_containers options next cells h
 containers_behave options next document.FlowEnd cells h = line_ended next cells h
 containers_behave options next _ cells h = Refuses h.scratch h.flags
 
--- at each state in front of a leaf, or behind it,
+-- at each state in front of a leaf, by the leaf that is tried there,
+abbrev pub leaf_behaves : ParseOptions → Rule → Option LeafName → Rule
+leaf_behaves options next None cells h = Refuses h.scratch h.flags
+leaf_behaves options next (Some l) cells h = leaves_of options next (l ∷ behind l) cells h
+
+-- and at each that is in front of none, or behind it,
 abbrev pub leaves_behave : ParseOptions → Rule → FlowState → Rule
 leaves_behave options next flow.Start cells h = leaf_of options next cells h
 leaves_behave options next flow.BlankLineBefore cells h = leaf_of options next cells h
-leaves_behave options next flow.BeforeHeadingAtx cells h = nonblank_of options next cells h
-leaves_behave options next flow.BeforeThematicBreak cells h = break_of options next cells h
 leaves_behave options next flow.BeforeContent cells h = content_of next cells h
 leaves_behave options next flow.BlankLineAfter cells h = blank_ended next cells h
 leaves_behave options next flow.After cells h = line_ended next cells h
-leaves_behave options next _ cells h = Refuses h.scratch h.flags
+leaves_behave options next state cells h = leaf_behaves options next (tried_at state) cells h
 
 pub record HasFlow (B : Behaviour) (options : ParseOptions) (next : Rule) : Type 0 where
   pub blank : HasBlank B
-  pub heading : HasHeading B options
-  pub break : HasBreak B options
   pub chunk : HasChunk B
-  pub quote : HasQuote B options
+  pub starts : (l : LeafName) (cells : List Cell) (h : Here) → B (start_of l) cells h ≡ (leaf l).trial options cells h
+  pub opens : (cells : List Cell) (h : Here) → B first_container cells h ≡ new_container_at options cells h
+  pub goes_on : (k : ContainerKind) (cells : List Cell) (h : Here) → B (goes_on_with k) cells h ≡ continues_at options k cells h
   pub containers : (state : DocumentState) (cells : List Cell) (h : Here) → B (s.Document state) cells h ≡ containers_behave options next state cells h
   pub leaves : (state : FlowState) (cells : List Cell) (h : Here) → B (s.Flow state) cells h ≡ leaves_behave options next state cells h
-
--- and at each state of the table
-abbrev pub flow_behaves_by : ParseOptions → Rule → Behaviour
-flow_behaves_by options next (s.BlankLine state) cells h = blank_behaves state cells h
-flow_behaves_by options next (s.BlockQuote state) cells h = quote_behaves options state cells h
-flow_behaves_by options next (s.Content state) cells h = chunk_behaves state cells h
-flow_behaves_by options next (s.Document state) cells h = containers_behave options next state cells h
-flow_behaves_by options next (s.Flow state) cells h = leaves_behave options next state cells h
-flow_behaves_by options next (s.HeadingAtx state) cells h = heading_behaves options state cells h
-flow_behaves_by options next (s.SpaceOrTab state) cells h = white_behaves state cells h
-flow_behaves_by options next (s.ThematicBreak state) cells h = break_behaves options state cells h
-flow_behaves_by options next _ cells h = Refuses h.scratch h.flags
-
--- where all further lines follow behind it
-abbrev pub flow_behaves : ParseOptions → Behaviour
-flow_behaves options = flow_behaves_by options (flow_at options)

@@ -13,6 +13,7 @@ pub mod LineLeaf
 pub mod TextLeaf
 pub mod Leaf
 pub mod Registry
+pub mod Table
 pub mod Rows
 pub mod Fronted
 pub mod Stands

@@ -3,7 +3,7 @@ use Rattle.std.specs.Prelude.{ℕ, suc, Bool, true, false, ◌&&◌, nat_lt, if�
 use Rattle.md_engine.specs.declared.event.Name.{Name}
 use Rattle.md_engine.specs.declared.event.Name.TheVariants.{BlankLineEnding, LineEnding}
 use Rattle.md_engine.specs.declared.tokenizer.container.Container.{Container}
-use Rattle.md_engine.specs.declared.tokenizer.container.ContainerKind.TheVariants.{BlockQuote}
+use Rattle.md_engine.specs.declared.tokenizer.container.ContainerKind.{ContainerKind}
 use Rattle.md_engine.specs.World.{Flags}
 
 -- the outermost container that was not asked yet whether it goes on
@@ -14,9 +14,9 @@ next_container g = slice_get g.containers g.continued
 abbrev pub went_on : Flags → Flags
 went_on g = record g { continued = if nat_lt g.continued (length g.containers) then suc g.continued else g.continued }
 
--- a quote opens, where those that did not go on have ended: no paragraph is open in it
-abbrev pub with_quote : Flags → Flags
-with_quote g = record g { containers = g.containers ++ record { kind = BlockQuote } ∷ []; continued = length (g.containers ++ record { kind = BlockQuote } ∷ []); interrupt = false }
+-- a container of this kind opens, where those that did not go on have ended: no paragraph is open in it
+abbrev pub with_container : ContainerKind → Flags → Flags
+with_container k g = record g { containers = g.containers ++ record { kind = k } ∷ []; continued = length (g.containers ++ record { kind = k } ∷ []); interrupt = false }
 
 -- behind the containers of a line
 abbrev pub begun_line : Flags → Flags

@@ -3,8 +3,10 @@ use Rattle.std.specs.Prelude.{Bool, ◌&&◌, if◌then◌else◌, List, [], ◌
 use Rattle.md_engine.specs.declared.configuration.ParseOptions.{ParseOptions}
 use Rattle.md_engine.specs.declared.event.Event.{Event}
 use Rattle.md_engine.specs.declared.event.Point.{Point}
-use Rattle.md_engine.specs.Meaning.{Cell}
-use Rattle.md_containers.specs.QuoteRule.{takes_prefix}
+use Rattle.md_engine.specs.declared.tokenizer.container.ContainerKind.{ContainerKind}
+use Rattle.md_engine.specs.declared.tokenizer.container.ContainerKind.TheVariants as kind
+use Rattle.md_engine.specs.Meaning.{Cell, Here, Outcome}
+use Rattle.md_containers.specs.QuoteRule.{prefix_at, quote_at, takes_prefix}
 use Rattle.md_leaves.specs.HeadingText.{headings_resolved, is_heading}
 use Rattle.md_seam.specs.Standard.State.{Container, InQuote}
 use Rattle.markdown_blocks.specs.Containers.BlockQuote.{quote_new, quote_on}
@@ -59,6 +61,19 @@ resolved_by _ events = events
 -- what all make of them, in their order; each changes nothing where nothing is its own
 abbrev pub resolved : List Event → List Event
 resolved events = resolved_by resolver events
+
+-- Containers, by what is left at their states.
+
+-- what is asked of one on a further line,
+abbrev pub continues_at : ParseOptions → ContainerKind → List Cell → Here → Outcome
+continues_at options kind.BlockQuote cells h = prefix_at options cells h
+
+-- and of one that may open, of this kind
+abbrev pub new_container_at : ParseOptions → List Cell → Here → Outcome
+new_container_at options cells h = quote_at options cells h
+
+abbrev pub new_kind : ContainerKind
+new_kind = kind.BlockQuote
 
 -- Containers, by the cells of a line.
 

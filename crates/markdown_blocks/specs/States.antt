@@ -1,5 +1,5 @@
--- The table of flow: which construct has each state, and what each does.
-use Rattle.std.specs.Prelude.{◌≡◌, Bool}
+-- The table of flow: which construct has each state, what each does, and what is left at it.
+use Rattle.std.specs.Prelude.{◌≡◌, Bool, Option, Some, None}
 use Rattle.md_engine.specs.declared.resolve.name.Name.{Name as ResolveName}
 use Rattle.md_engine.specs.declared.resolve.name.Name.TheVariants as r
 use Rattle.md_engine.specs.declared.state.Name.{Name as StateName}
@@ -9,48 +9,53 @@ use Rattle.md_engine.specs.declared.state.document.State.TheVariants as document
 use Rattle.md_engine.specs.declared.state.flow.State.{State as FlowState}
 use Rattle.md_engine.specs.declared.state.flow.State.TheVariants as flow
 use Rattle.md_engine.specs.declared.state.State.{State}
-use Rattle.md_engine.specs.declared.state.State.TheVariants.{Nok}
+use Rattle.md_engine.specs.declared.configuration.ParseOptions.{ParseOptions}
+use Rattle.md_engine.specs.Meaning.{Behaviour}
 use Rattle.md_engine.specs.Scheme.{Scheme, nowhere, of_owners}
 use Rattle.md_engine.specs.World.{World}
-use Rattle.md_containers.specs.Quote.{quote_scheme, quote_transition}
 use Rattle.md_content.specs.Chunks.{chunk_scheme, chunk_transition}
 use Rattle.md_leaves.specs.Blank.{blank_scheme, blank_transition}
-use Rattle.md_leaves.specs.Break.{break_scheme, break_transition}
-use Rattle.md_leaves.specs.Heading.{heading_scheme, heading_transition}
+use Rattle.md_content.specs.ChunkRule.{chunk_behaves}
+use Rattle.md_leaves.specs.BlankRule.{blank_behaves}
+use Rattle.md_seam.specs.Ahead.{white_behaves}
 use Rattle.md_seam.specs.Spaces.{white_scheme, white_transition}
 use Rattle.md_seam.specs.Transition.{Transition}
 use Rattle.markdown_blocks.specs.Document.{document_own_transition}
 use Rattle.markdown_blocks.specs.Flow.{flow_own_transition, flow_scheme}
+use Rattle.markdown_blocks.specs.FlowRule.{Rule, containers_behave, flow_at, leaves_behave}
+use Rattle.markdown_blocks.specs.Registry.{LeafName}
+use Rattle.markdown_blocks.specs.Table.{construct_behaves, construct_owner, construct_transition, tried_at}
 
 -- the states in front of the lines stand in the table of the document; no tokenizer stands at those that are not built
 abbrev pub containers_owner : DocumentState → Scheme
-containers_owner document.Start = nowhere
-containers_owner document.BeforeFrontmatter = nowhere
-containers_owner document.ContainerNewBeforeNotBlockQuote = nowhere
-containers_owner document.ContainerNewBeforeNotList = nowhere
-containers_owner document.ContainerNewBeforeNotFootnoteDefinition = nowhere
-containers_owner document.FlowInside = nowhere
-containers_owner _ = flow_scheme
+containers_owner document.ContainerExistingBefore = flow_scheme
+containers_owner document.ContainerExistingAfter = flow_scheme
+containers_owner document.ContainerNewBefore = flow_scheme
+containers_owner document.ContainerNewAfter = flow_scheme
+containers_owner document.ContainersAfter = flow_scheme
+containers_owner document.FlowEnd = flow_scheme
+containers_owner _ = nowhere
 
 -- nor at those in front of leaves that are not built
+abbrev pub leaf_owner : Option LeafName → Scheme
+leaf_owner None = nowhere
+leaf_owner (Some l) = flow_scheme
+
 abbrev pub leaves_owner : FlowState → Scheme
-leaves_owner flow.BeforeCodeIndented = nowhere
-leaves_owner flow.BeforeRaw = nowhere
-leaves_owner flow.BeforeHtml = nowhere
-leaves_owner flow.BeforeHeadingSetext = nowhere
-leaves_owner flow.BeforeGfmTable = nowhere
-leaves_owner _ = flow_scheme
+leaves_owner flow.Start = flow_scheme
+leaves_owner flow.BlankLineBefore = flow_scheme
+leaves_owner flow.BeforeContent = flow_scheme
+leaves_owner flow.BlankLineAfter = flow_scheme
+leaves_owner flow.After = flow_scheme
+leaves_owner state = leaf_owner (tried_at state)
 
 abbrev pub flow_owner : StateName → Scheme
 flow_owner (s.BlankLine state) = blank_scheme
-flow_owner (s.BlockQuote state) = quote_scheme
 flow_owner (s.Content state) = chunk_scheme
 flow_owner (s.Document state) = containers_owner state
 flow_owner (s.Flow state) = leaves_owner state
-flow_owner (s.HeadingAtx state) = heading_scheme
 flow_owner (s.SpaceOrTab state) = white_scheme
-flow_owner (s.ThematicBreak state) = break_scheme
-flow_owner _ = nowhere
+flow_owner name = construct_owner name
 
 abbrev pub flow_table_scheme : Scheme
 flow_table_scheme = of_owners flow_owner
@@ -58,16 +63,26 @@ flow_table_scheme = of_owners flow_owner
 -- `is_name` finds a resolver among those that are registered
 abbrev pub flow_transition : (ResolveName → ResolveName → Bool) → StateName → World → Transition
 flow_transition is_name (s.BlankLine state) w = blank_transition state w
-flow_transition is_name (s.BlockQuote state) w = quote_transition state w
 flow_transition is_name (s.Content state) w = chunk_transition (is_name r.Content) state w
 flow_transition is_name (s.Document state) w = document_own_transition state w
 flow_transition is_name (s.Flow state) w = flow_own_transition state w
-flow_transition is_name (s.HeadingAtx state) w = heading_transition (is_name r.HeadingAtx) state w
 flow_transition is_name (s.SpaceOrTab state) w = white_transition state w
-flow_transition is_name (s.ThematicBreak state) w = break_transition state w
-flow_transition is_name _ w = record { to = Nok; world = w }
+flow_transition is_name name w = construct_transition is_name name w
 
 -- what a call of a state does, where there is memory
 pub record FlowStep (is_name : ResolveName → ResolveName → Bool) (name : StateName) (w : World) (to : State) (new : World) : Type 0 where
   pub to_is : to ≡ (flow_transition is_name name w).to
   pub new_is : new ≡ (flow_transition is_name name w).world
+
+-- what is left at each state, by a rule for what follows behind the line,
+abbrev pub flow_behaves_by : ParseOptions → Rule → Behaviour
+flow_behaves_by options next (s.BlankLine state) cells h = blank_behaves state cells h
+flow_behaves_by options next (s.Content state) cells h = chunk_behaves state cells h
+flow_behaves_by options next (s.Document state) cells h = containers_behave options next state cells h
+flow_behaves_by options next (s.Flow state) cells h = leaves_behave options next state cells h
+flow_behaves_by options next (s.SpaceOrTab state) cells h = white_behaves state cells h
+flow_behaves_by options next name cells h = construct_behaves options name cells h
+
+-- where all further lines follow behind it
+abbrev pub flow_behaves : ParseOptions → Behaviour
+flow_behaves options = flow_behaves_by options (flow_at options)

@@ -12,7 +12,8 @@ ghost use Rattle.markdown_blocks.specs.States.{flow_table_scheme, flow_transitio
 ghost use Rattle.md_engine.specs.declared.state.Name.{Name as StateName};
 ghost use Rattle.md_engine.specs.declared.state.State.{State};
 ghost use Rattle.md_engine.specs.declared.state.flow.State.{State as FlowState};
-ghost use Rattle.markdown_blocks.specs.Flow.{after_transition, before_content_transition, before_heading_atx_transition, before_thematic_break_transition, blank_line_after_transition, blank_line_before_transition, flow_own_transition, start_transition};
+ghost use Rattle.markdown_blocks.specs.Flow.{after_transition, before_content_transition, before_transition, blank_line_after_transition, blank_line_before_transition, flow_own_transition, start_transition};
+ghost use Rattle.markdown_blocks.specs.Registry.{LeafName};
 ghost use Rattle.md_seam.specs.Transition.{IsAt, NeedsNothing};
 
 use crate::construct::document;
@@ -76,8 +77,8 @@ pub fn blank_line_before(tokenizer: &mut Tokenizer) -> State
 /// ```
 pub fn before_heading_atx(tokenizer: &mut Tokenizer) -> State
     requires { IsAt NeedsNothing (StateName.Flow FlowState.BeforeHeadingAtx) (world tokenizer.old) }
-    ensures to { result ≢ State.Error → result ≡ (before_heading_atx_transition (world tokenizer.old)).to }
-    ensures world { result ≢ State.Error → world tokenizer.new ≡ (before_heading_atx_transition (world tokenizer.old)).world }
+    ensures to { result ≢ State.Error → result ≡ (before_transition LeafName.HeadingAtx (world tokenizer.old)).to }
+    ensures world { result ≢ State.Error → world tokenizer.new ≡ (before_transition LeafName.HeadingAtx (world tokenizer.old)).world }
 {
     or_error!(tokenizer.attempt(
         State::Next(StateName::Flow(FlowState::After)),
@@ -94,8 +95,8 @@ pub fn before_heading_atx(tokenizer: &mut Tokenizer) -> State
 /// ```
 pub fn before_thematic_break(tokenizer: &mut Tokenizer) -> State
     requires { IsAt NeedsNothing (StateName.Flow FlowState.BeforeThematicBreak) (world tokenizer.old) }
-    ensures to { result ≢ State.Error → result ≡ (before_thematic_break_transition (world tokenizer.old)).to }
-    ensures world { result ≢ State.Error → world tokenizer.new ≡ (before_thematic_break_transition (world tokenizer.old)).world }
+    ensures to { result ≢ State.Error → result ≡ (before_transition LeafName.ThematicBreak (world tokenizer.old)).to }
+    ensures world { result ≢ State.Error → world tokenizer.new ≡ (before_transition LeafName.ThematicBreak (world tokenizer.old)).world }
 {
     or_error!(tokenizer.attempt(
         State::Next(StateName::Flow(FlowState::After)),
