@@ -4,8 +4,8 @@ pub mod Parted
 pub mod Grammar
 pub mod Facts
 pub mod Registers
+pub mod Trial
 pub mod Collected
 pub mod Cells
 pub mod Fronts
 pub mod Tree
-pub mod Trial

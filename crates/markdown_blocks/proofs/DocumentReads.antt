@@ -21,6 +21,7 @@ use Rattle.md_engine.specs.Found.{Found}
 use Rattle.md_engine.specs.Meaning.{Accepts, Cell, Follows, Here, Outcome, Refuses, comes_to, goes, here}
 use Rattle.md_engine.specs.Place.{first_point, seen_at}
 use Rattle.md_engine.specs.Run.{Flushes, IsEnd, Resolution, Runs, goes_back, left, plain, reading}
+use Rattle.md_engine.specs.Run.Runs.{Stays, ThenCalls, ThenLeaves}
 use Rattle.md_engine.specs.Scheme.{stands}
 use Rattle.md_engine.specs.TextFeed.{text_feed}
 use Rattle.md_engine.specs.World.{Setting, World, after, closed, fresh, reads_to}
@@ -45,7 +46,6 @@ use Rattle.md_seam.proofs.FeedLines.{feed-next, feed-none, line-feed, past-next}
 use Rattle.md_seam.proofs.PlacesLemmas.{at-next}
 use Rattle.md_seam.proofs.PreambleLemmas.{mark-bytes, mark-length}
 use Rattle.markdown_blocks.proofs.FlowReads.{resolved-none}
-use Rattle.md_engine.specs.Run.{Stays, ThenCalls, ThenLeaves}
 
 -- The mark among the cells.
 

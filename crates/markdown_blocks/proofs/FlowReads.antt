@@ -16,6 +16,8 @@ use Rattle.md_engine.specs.Found.{Found, nothing, with_found}
 use Rattle.md_engine.specs.Meaning.{Accepts, comes_to, goes, here}
 use Rattle.md_engine.specs.Resolvers.{same_name}
 use Rattle.md_engine.specs.Run.{Flushes, IsEnd, Resolution, Resolved, Runs, goes_back, left, plain, reading}
+use Rattle.md_engine.specs.Run.Resolved.{More, NoneYet}
+use Rattle.md_engine.specs.Run.Runs.{Stays, ThenCalls, ThenLeaves}
 use Rattle.md_engine.specs.Scheme.{stands}
 use Rattle.md_engine.specs.TextFeed.{text_feed}
 use Rattle.md_engine.specs.World.{Setting, World, fresh, reads_to}
@@ -43,7 +45,6 @@ use Rattle.markdown_blocks.proofs.OutsideLemmas.{outside-same}
 use Rattle.markdown_blocks.proofs.Registers.{Registers, goes-back, named, none-yet}
 use Rattle.markdown_blocks.proofs.StandsLemmas.{flow-ran}
 use Rattle.markdown_blocks.proofs.StatesRegister.{went-registers}
-use Rattle.md_engine.specs.Run.{More, NoneYet, Stays, ThenCalls, ThenLeaves}
 
 left-registers : (w : World) (outer : List Frame) (f : Frame) (b : Bool) → Registers w → Registers (left w outer f b)
 left-registers w outer f true h = goes-back f.events_len w.events w.resolvers h

@@ -16,6 +16,7 @@ use Rattle.md_engine.specs.declared.state.State.TheVariants.{Next, Ok}
 use Rattle.md_engine.specs.declared.tokenizer.Frame.{Frame}
 use Rattle.md_engine.specs.Meaning.{Accepts, Behaviour, Cell, Feed, Follows, Here, Outcome, Refuses, Steps, comes_to, goes, here, resume_all}
 use Rattle.md_engine.specs.Run.{Calls, Leaves, Runs, plain, reading}
+use Rattle.md_engine.specs.Run.Runs.{Stays, ThenCalls, ThenLeaves}
 use Rattle.md_engine.specs.Scheme.{stands}
 use Rattle.md_engine.specs.TextFeed.{text_feed}
 use Rattle.md_engine.specs.World.{Setting, World, looks}
@@ -38,7 +39,6 @@ use Rattle.markdown_blocks.specs.TextRows.{text_cells, text_rows, text_setting}
 use Rattle.markdown_blocks.proofs.FlowMeans.{Takes, ending-taken, flow-steps-by, flow_stands}
 use Rattle.markdown_blocks.proofs.FlowRows.{Begins, Done, held-shorter, leaving, line-done, next-begins, next_here, no-closes, row-adds, rows_below, text-begins}
 use Rattle.markdown_blocks.proofs.FromEnding.{from_ending-shrinks, from_ending-stops}
-use Rattle.md_engine.specs.Run.{Stays, ThenCalls, ThenLeaves}
 
 -- Behind some lines.
 

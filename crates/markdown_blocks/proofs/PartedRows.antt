@@ -1,5 +1,5 @@
 -- Prefixes part no text but that of lines, and that at the begins of these.
-use Rattle.std.proofs.Common.{◌≡◌, ℕ, ◌+◌, ◌-◌, true, false, List, [], ◌++◌, refl}
+use Rattle.std.proofs.Common.{◌≡◌, ℕ, true, false, List, [], ◌++◌, refl}
 use Rattle.std.specs.Prelude.{Option, Some, None}
 use Rattle.md_engine.specs.declared.configuration.ParseOptions.{ParseOptions}
 use Rattle.md_engine.specs.declared.event.Event.{Event}
@@ -11,7 +11,6 @@ use Rattle.md_seam.proofs.SpelledLemmas.{Roles, roles-append}
 use Rattle.md_outline.specs.Outlined.{are_parted}
 use Rattle.markdown_blocks.specs.Change.{ends_of}
 use Rattle.markdown_blocks.specs.Rows.{final_row, first_row, group_done, group_kind, BlankRow, Group, Row, RowKind, TextRow, ending_events, groups, groups_events, tail_events, LeafRow, ending_of}
-use Rattle.markdown_blocks.specs.Registry.{leaf}
 use Rattle.markdown_blocks.proofs.FrontLemmas.{ends-roles, fronts-roles}
 use Rattle.markdown_blocks.proofs.RowFacts.{AreRows}
 use Rattle.markdown_blocks.proofs.PartedFacts.{Sits, Still, sits-append, sits-still}

@@ -1,5 +1,5 @@
 -- The text parts of a text, before they are read, stand as its tiling asks: one chunk a line, and no chunk elsewhere.
-use Rattle.std.proofs.Common.{◌≡◌, ℕ, ◌+◌, Bool, true, false, cond, List, [], ◌∷◌, ◌++◌, refl, ap, sym, ◌∙◌, append-nil}
+use Rattle.std.proofs.Common.{◌≡◌, ℕ, Bool, true, false, cond, List, [], ◌∷◌, ◌++◌, refl, ap, sym, ◌∙◌, append-nil}
 use Rattle.std.specs.Prelude.{Option, Some, None}
 use Rattle.md_engine.specs.declared.configuration.ParseOptions.{ParseOptions}
 use Rattle.md_engine.specs.declared.event.Event.{Event}
@@ -10,7 +10,7 @@ use Rattle.md_seam.specs.Events.Nested.{Nested, pair}
 use Rattle.md_seam.specs.Events.Places.{first_point}
 use Rattle.md_seam.specs.Standard.Preamble.{has_mark}
 use Rattle.md_seam.specs.Standard.State.{Container}
-use Rattle.md_seam.specs.Events.Tiles.{chunks, chunks_stand, part_kind, parts_stand}
+use Rattle.md_seam.specs.Events.Tiles.{chunks_stand, part_kind, parts_stand}
 use Rattle.markdown_blocks.specs.Change.{ends_of}
 use Rattle.markdown_blocks.specs.Document.{body_point, mark_end, mark_events}
 use Rattle.markdown_blocks.specs.Rows.{final_row, first_row, group_kind, LeafRow, ending_of, BlankRow, Group, Row, RowKind, TextRow, ending_events, groups, tail_events}

@@ -10,6 +10,7 @@ use Rattle.md_engine.specs.declared.state.State.{State}
 use Rattle.md_engine.specs.declared.state.State.TheVariants.{Next}
 use Rattle.md_engine.specs.Resolvers.{same_name}
 use Rattle.md_engine.specs.Run.{Calls, Runs, Step}
+use Rattle.md_engine.specs.Run.Runs.{Stays, ThenCalls, ThenLeaves}
 use Rattle.md_engine.specs.World.{World, fresh, looks, reads_to}
 use Rattle.md_seam.specs.Standard.Preamble.{rest_at}
 use Rattle.md_seam.specs.Standard.Rest.{Rest}
@@ -24,7 +25,6 @@ use Rattle.markdown_blocks.specs.Rows.{Row, behind_row, groups, groups_events, r
 use Rattle.markdown_blocks.specs.Stands.{StandsFor}
 use Rattle.markdown_blocks.specs.States.{FlowStep}
 use Rattle.markdown_blocks.specs.TextRows.{text_rows}
-use Rattle.md_engine.specs.Run.{Stays, ThenCalls, ThenLeaves}
 
 -- how many lines a call of a state feeds: one where it takes the ending of a line
 abbrev pub feeds : StateName → Option ℕ → ℕ

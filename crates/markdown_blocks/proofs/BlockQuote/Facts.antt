@@ -1,5 +1,5 @@
 -- What is known of the prefix of a block quote.
-use Rattle.std.proofs.Common.{◌-◌, ◌+◌, ℕ, ◌≡◌, true, refl, sym, subst, arith, suc, Bool, false, cond, List, [], ◌∷◌, ◌++◌, ◌∙◌, append_assoc, ◌≤◌, ◌≢◌}
+use Rattle.std.proofs.Common.{◌-◌, ℕ, ◌≡◌, true, refl, sym, subst, arith, suc, Bool, false, cond, List, [], ◌∷◌, ◌++◌, ◌∙◌, append_assoc, ◌≤◌, ◌≢◌}
 use Rattle.std.specs.Prelude.{slice_index, IsTrue}
 use Rattle.markdown_blocks.proofs.BetweenFacts.{AreBetween, between-append, between-before, between-behind, between-more, between-unless, is_low, white-between}
 use Rattle.std.proofs.lemmas.Option.{get_or_from_slice_get}

@@ -1,5 +1,5 @@
 -- Block quotes by the line definition: what they take is a quote, they make no list, and they do not go on over an empty line.
-use Rattle.std.proofs.Common.{◌≡◌, ◌+◌, Bool, true, false, cond, ◌&&◌, [], refl, ap, ℕ, ◌-◌}
+use Rattle.std.proofs.Common.{◌≡◌, ◌+◌, Bool, true, false, cond, ◌&&◌, [], refl, ap, ℕ}
 use Rattle.std.specs.Prelude.{Option, Some, None}
 use Rattle.md_engine.specs.declared.configuration.ParseOptions.{ParseOptions}
 use Rattle.md_seam.specs.Standard.Containers.{Taken, opens_quote, quote_taken}

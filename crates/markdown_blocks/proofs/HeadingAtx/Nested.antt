@@ -1,5 +1,5 @@
 -- The events of a heading nest, and go from the begin of its line to its end.
-use Rattle.std.proofs.Common.{◌≡◌, ℕ, ◌+◌, List, [], ◌∷◌, ◌++◌, length, take, refl, sym, subst, append_assoc, append-nil, Bool, true, false, cond}
+use Rattle.std.proofs.Common.{◌≡◌, ℕ, List, [], ◌∷◌, ◌++◌, length, take, refl, sym, subst, append_assoc, append-nil, Bool, true, false, cond}
 use Rattle.std.specs.Prelude.{IsTrue, ◌==◌, Some, None}
 use Rattle.md_engine.specs.declared.event.Event.{Event}
 use Rattle.md_engine.specs.declared.event.Name.{Name}

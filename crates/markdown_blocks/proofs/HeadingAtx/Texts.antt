@@ -1,5 +1,5 @@
 -- The text of a heading: the resolver sets it as one chunk, and what is read of it stands in its place.
-use Rattle.std.proofs.Common.{◌≡◌, ℕ, ◌+◌, Bool, true, false, cond, List, [], ◌∷◌, ◌++◌, length, drop, take, refl, arith, ◌&&◌, ◌==◌, ◌-◌, ◌<◌, sym, subst, ◌||◌, append_assoc, append-nil, ◌∙◌, ap}
+use Rattle.std.proofs.Common.{◌≡◌, ℕ, ◌+◌, Bool, true, false, cond, List, [], ◌∷◌, ◌++◌, length, drop, take, refl, arith, ◌&&◌, ◌==◌, ◌<◌, sym, subst, ◌||◌, append_assoc, append-nil, ◌∙◌, ap}
 use Rattle.std.specs.Prelude.{◌==◌, IsTrue, Some, None}
 use Rattle.std.specs.List.{AllPass, list_all}
 use Rattle.std.proofs.lemmas.Bool.{and_from, eq-eqb}

@@ -1,5 +1,5 @@
 -- What the line definition holds of a paragraph that is open, where definitions are off.
-use Rattle.std.proofs.Common.{◌≡◌, ℕ, false, List, [], ◌∷◌, refl}
+use Rattle.std.proofs.Common.{◌≡◌, ℕ, false, List, ◌∷◌, refl}
 use Rattle.md_engine.specs.declared.configuration.ParseOptions.{ParseOptions}
 use Rattle.md_seam.specs.Standard.State.{Kept, Leaf, NoLeaf, OpenParagraph, shut_paragraph}
 use Rattle.md_seam.specs.Standard.Tree.{Blocks}

@@ -1,8 +1,7 @@
 -- Nothing begins in a thematic break that a resolver rewrites.
-use Rattle.std.proofs.Common.{◌≡◌, ℕ, Bool, true, false, cond, List, [], ◌∷◌, ◌++◌, refl}
+use Rattle.std.proofs.Common.{ℕ, Bool, true, false, cond, List, [], ◌∷◌, refl}
 use Rattle.std.specs.Prelude.{◌==◌}
 use Rattle.md_engine.specs.declared.configuration.ParseOptions.{ParseOptions}
-use Rattle.md_engine.specs.declared.event.Event.{Event}
 use Rattle.md_engine.specs.declared.event.Name.TheVariants as n
 use Rattle.md_engine.specs.declared.event.Point.{Point}
 use Rattle.md_engine.specs.Meaning.{Cell}
@@ -47,7 +46,9 @@ indent-outside false p q = tt
 pub break-own : (options : ParseOptions) (cells : List Cell) (p : Point) → NoEnds is_own (break_leaf.adds options cells p) → AreOutside (break_leaf.adds options cells p)
 break-own options cells p h =
     let q : Point = white_end (small_indent options) cells p in
-    let rest : List Cell = white_rest (small_indent options) cells in
-    (refl, outside-append (break_inside options cells p) (exit n.ThematicBreak (line_end cells p) ∷ [])
-    (outside-append (cond (begins_white cells) (pair n.SpaceOrTab p q) []) (runs Apart (first_cell rest) (line_cells rest) q) (indent-outside (begins_white cells) p q)
-    (runs-outside Apart (first_cell rest) (line_cells rest) q)) (refl, tt))
+    let rest : List Cell = white_rest (small_indent options) cells in (
+      refl,
+      outside-append (break_inside options cells p) (exit n.ThematicBreak (line_end cells p) ∷ [])
+          (outside-append (cond (begins_white cells) (pair n.SpaceOrTab p q) []) (runs Apart (first_cell rest) (line_cells rest) q) (indent-outside (begins_white cells) p q)
+          (runs-outside Apart (first_cell rest) (line_cells rest) q)) (refl, tt),
+    )

@@ -11,7 +11,7 @@ use Rattle.md_seam.specs.Standard.Lines.{is_ending}
 use Rattle.md_seam.specs.Events.Places.{same_place}
 use Rattle.md_seam.specs.Standard.Rest.{is_blank}
 use Rattle.md_seam.specs.Standard.Texts.{split_lines}
-use Rattle.md_seam.specs.Standard.Ascii.{asterisk, backtick, carriage_return, dollar, equals_sign, hash, hyphen, line_feed, tab, tilde, underscore}
+use Rattle.md_seam.specs.Standard.Ascii.{asterisk, backtick, carriage_return, dollar, equals_sign, hash, hyphen, line_feed, tilde, underscore}
 
 -- Bytes.
 

@@ -6,7 +6,7 @@ use Rattle.md_seam.specs.Standard.Rest.{is_blank, is_parted, trim_start}
 use Rattle.md_seam.specs.Standard.Lines.{begins_with}
 use Rattle.md_seam.specs.Standard.Bytes.{is_end, after, after_optional}
 use Rattle.md_seam.specs.Standard.Enclosed.{Closed, Open, Broken, enclosed, Lines, enclosed_lines}
-use Rattle.md_seam.specs.Standard.Ascii.{backslash, colon, double_quote, greater_than, left_bracket, left_parenthesis, less_than, right_bracket, right_parenthesis, single_quote, space}
+use Rattle.md_seam.specs.Standard.Ascii.{backslash, colon, double_quote, greater_than, left_bracket, left_parenthesis, less_than, right_bracket, right_parenthesis, single_quote}
 
 pub record Defined : Type 0 where
   -- the lines of the label, between the brackets

@@ -6,7 +6,7 @@ use Rattle.std.specs.Str.{str_eq_ignore_ascii_case}
 use Rattle.md_seam.specs.Standard.Lines.{begins_with}
 use Rattle.md_seam.specs.Standard.Rest.{is_white, is_blank, is_parted, trim_start}
 use Rattle.md_seam.specs.Standard.Bytes.{after, begins, after_optional}
-use Rattle.md_seam.specs.Standard.Ascii.{backtick, colon, dot, double_quote, equals_sign, exclamation_mark, greater_than, hyphen, less_than, single_quote, slash, space, tab, underscore}
+use Rattle.md_seam.specs.Standard.Ascii.{backtick, colon, dot, double_quote, equals_sign, exclamation_mark, greater_than, hyphen, less_than, single_quote, slash, underscore}
 
 -- The kinds 1 to 7 of the standard, in its order.
 pub data HtmlKind : Type 0 where

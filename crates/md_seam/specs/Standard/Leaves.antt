@@ -8,7 +8,7 @@ use Rattle.md_seam.specs.Standard.Rest.{Rest, is_white, is_blank, is_parted, run
 use Rattle.md_seam.specs.Standard.Html.{HtmlKind, Basic, Complete, html_kind, html_ends}
 use Rattle.md_seam.specs.Standard.Table.{delimiter_columns, row_cells, is_head}
 use Rattle.md_seam.specs.Standard.State.{Kept, Opening, Leaf, NoLeaf, OpenParagraph, OpenCode, OpenFence, OpenHtml, OpenTable, Spot, then_block, then_definitions, shut_paragraph, kept, texts, cut, fence_block}
-use Rattle.md_seam.specs.Standard.Ascii.{asterisk, backtick, dollar, equals_sign, hash, hyphen, pipe, tilde, underscore}
+use Rattle.md_seam.specs.Standard.Ascii.{asterisk, backtick, dollar, equals_sign, hash, hyphen, tilde, underscore}
 
 -- what a leaf has come to with a line: it is open, or finished
 pub data Came : Type 0 where
