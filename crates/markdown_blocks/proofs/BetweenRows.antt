@@ -17,7 +17,7 @@ use Rattle.markdown_blocks.proofs.JoinedLemmas.{behind-is, behind-none}
 use Rattle.markdown_blocks.proofs.NestedRows.{ByGroups, rows-hold}
 use Rattle.markdown_blocks.proofs.RowFacts.{AreRows, IsLine, IsRow, behind_line}
 use Rattle.markdown_blocks.proofs.BetweenFacts.{AreBetween, between-append, between-end, between-more, between-pair, ending-before, ending-behind}
-use Rattle.markdown_blocks.specs.ContainerKinds.{container_name}
+use Rattle.markdown_blocks.specs.Registry.{container_name}
 
 -- Lines.
 

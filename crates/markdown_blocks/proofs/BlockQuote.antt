@@ -9,3 +9,4 @@ pub mod Collected
 pub mod Cells
 pub mod Fronts
 pub mod Tree
+pub mod Laws

@@ -8,7 +8,7 @@ use Rattle.md_seam.specs.Standard.Rest.{Rest}
 use Rattle.md_seam.specs.Events.Spelled.{Shape}
 use Rattle.md_seam.specs.Standard.State.{Container}
 use Rattle.markdown_blocks.specs.Change.{change_by, interrupts, is_none, others_of}
-use Rattle.markdown_blocks.specs.ContainerKinds.{shape_of}
+use Rattle.markdown_blocks.specs.Registry.{shape_of}
 use Rattle.markdown_blocks.specs.Fronted.{Prefixed, contained, no_prefix, one_more, prefixes_new, prefixes_on}
 use Rattle.markdown_blocks.specs.Rows.{RowKind, is_lazy, line_kind}
 use Rattle.markdown_blocks.proofs.ContainerNames.{continues-shape}

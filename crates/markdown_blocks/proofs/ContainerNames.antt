@@ -1,31 +1,31 @@
--- The names of containers, whichever construct opens them.
+-- The containers of the line definition, built or not: what is known of the names of their events, and of what these tell. It is the one
+-- place of the frame's proofs that goes through them.
 use Rattle.std.proofs.Common.{◌≡◌, Bool, true, false, cond, List, [], ◌∷◌, ◌++◌, refl, ap, ◌∙◌, map, sym, ℕ}
 use Rattle.std.specs.Prelude.{None, Some}
+use Rattle.md_engine.specs.declared.configuration.ParseOptions.{ParseOptions}
 use Rattle.md_engine.specs.declared.event.Event.{Event}
 use Rattle.md_engine.specs.declared.event.Name.{Name}
 use Rattle.md_engine.specs.declared.event.Name.TheVariants as n
 use Rattle.md_engine.specs.declared.event.Point.{Point}
-use Rattle.md_content.specs.Joined.{content_behind}
-use Rattle.md_seam.specs.Events.Nested.{enter, exit}
-use Rattle.md_seam.specs.Standard.State.{Container, InFootnote, InItem, InQuote, container_block}
-use Rattle.md_seam.specs.Events.Prefix.{is_prefix}
-use Rattle.md_seam.specs.Events.Spelled.{FootnoteShape, ItemShape, OrderedShape, QuoteShape, Shape, UnorderedShape, Holds, role, Reading, block_around, left, read}
-use Rattle.md_seam.specs.Events.Tiles.{part_kind}
-use Rattle.md_seam.specs.Events.Endings.{on_line}
-use Rattle.md_seam.proofs.EndingsLemmas.{is_other}
-use Rattle.markdown_blocks.specs.ContainerKinds.{container_name, shape_of}
-use Rattle.markdown_blocks.proofs.PartedFacts.{Still}
-use Rattle.markdown_blocks.proofs.PlainFacts.{Untold}
-use Rattle.md_seam.specs.Standard.Containers.{Taken, continues, footnote_continues, item_continues, quote_taken}
-use Rattle.md_seam.specs.Standard.Rest.{Rest}
-use Rattle.md_seam.specs.Standard.Tree.{Blocks}
 use Rattle.md_engine.specs.declared.tokenizer.container.ContainerKind.{ContainerKind}
 use Rattle.md_engine.specs.declared.tokenizer.container.ContainerKind.TheVariants as kind
-use Rattle.md_engine.specs.declared.configuration.ParseOptions.{ParseOptions}
-use Rattle.md_seam.specs.Events.Inline.{is_line_ending}
-use Rattle.md_seam.specs.Events.Grammar.{Expression, behind}
-use Rattle.md_outline.specs.Roles.{is_plain}
 use Rattle.md_engine.specs.ContainerName.{name_of}
+use Rattle.md_content.specs.Joined.{content_behind}
+use Rattle.md_outline.specs.Roles.{is_plain}
+use Rattle.md_seam.specs.Events.Endings.{on_line}
+use Rattle.md_seam.specs.Events.Grammar.{Expression, behind}
+use Rattle.md_seam.specs.Events.Inline.{is_line_ending}
+use Rattle.md_seam.specs.Events.Nested.{enter, exit}
+use Rattle.md_seam.specs.Events.Prefix.{is_prefix}
+use Rattle.md_seam.specs.Events.Spelled.{Holds, Reading, Shape, block_around, left, read, role}
+use Rattle.md_seam.specs.Standard.Containers.{Taken, continues, footnote_continues, item_continues, quote_taken}
+use Rattle.md_seam.specs.Standard.Rest.{Rest}
+use Rattle.md_seam.specs.Standard.State.{Container, InFootnote, InItem, InQuote, container_block}
+use Rattle.md_seam.specs.Standard.Tree.{Blocks}
+use Rattle.md_seam.proofs.EndingsLemmas.{is_other}
+use Rattle.markdown_blocks.specs.Registry.{IsOf, container_name, shape_name, shape_of}
+use Rattle.markdown_blocks.proofs.PartedFacts.{Still}
+use Rattle.markdown_blocks.proofs.PlainFacts.{Untold}
 
 -- events with names of prefixes or of containers, none of which begins a chunk
 abbrev pub is_front : Name → Bool
@@ -39,49 +39,71 @@ pub front-name : (name : Name) → is_prefix name ≡ true → is_front name ≡
 front-name n.Data h = cc
 front-name _ h = cc
 
--- and those of containers
-pub container-front : (c : Container) → is_front (container_name c) ≡ true
-container-front InQuote = refl
-container-front (InItem digits marker width starts_blank) = refl
-container-front (InFootnote label) = refl
+-- Each container.
 
--- and not over the begin or the end of a container, whose name is not that of a prefix
-pub container-prefix : (c : Container) → is_prefix (container_name c) ≡ false
-container-prefix InQuote = refl
-container-prefix (InItem digits marker width starts_blank) = refl
-container-prefix (InFootnote label) = refl
+pub record ContainerFacts (c : Container) : Type 0 where
+  -- its name is one of those that stand in front of a line, and not that of a prefix
+  pub front : is_front (container_name c) ≡ true
+  pub no_prefix : is_prefix (container_name c) ≡ false
+  pub begin_stops : (p : Point) (ys : List Event) → content_behind (enter (container_name c) p ∷ ys) ≡ false
+  -- it is no leaf and no ending
+  pub other : is_other (on_line (container_name c)) ≡ true
+  pub no_ending : is_line_ending (container_name c) ≡ false
+  -- no text begins or ends with it, and it has a plain name, if an outline shows it
+  pub still : Still (role (container_name c))
+  pub untold : is_plain (Holds (shape_of c)) ≡ true → Untold (role (container_name c))
+  -- each is read as its block, and ends alike
+  pub block : (bs : Blocks) → block_around (shape_of c) bs ≡ container_block c bs
+  pub read_end : (bytes : List ℕ) (p : Point) (r : Reading) → read bytes r (exit (container_name c) p ∷ []) ≡ left r.outer r
+  -- the tokenizer ends it by the same name, if it is built
+  pub held : (k : ContainerKind) → IsOf k c → name_of k ≡ container_name c
 
-pub begin-stops : (c : Container) (p : Point) (ys : List Event) → content_behind (enter (container_name c) p ∷ ys) ≡ false
-begin-stops InQuote p ys = refl
-begin-stops (InItem digits marker width starts_blank) p ys = refl
-begin-stops (InFootnote label) p ys = refl
+pub container-facts : (c : Container) → ContainerFacts c
+container-facts InQuote = record {
+  front = refl;
+  no_prefix = refl;
+  begin_stops = λ p ys. refl;
+  other = refl;
+  no_ending = refl;
+  still = tt;
+  untold = λ h. (refl, refl);
+  block = λ bs. refl;
+  read_end = λ bytes p r. refl;
+  held = held-is;
+}
+  where
+    held-is : (k : ContainerKind) → IsOf k InQuote → name_of k ≡ n.BlockQuote
+    held-is kind.BlockQuote e = refl
+container-facts (InItem digits marker width starts_blank) = record {
+  front = refl;
+  no_prefix = refl;
+  begin_stops = λ p ys. refl;
+  other = refl;
+  no_ending = refl;
+  still = tt;
+  untold = λ h. (h, refl);
+  block = λ bs. refl;
+  read_end = λ bytes p r. refl;
+  held = λ k e. cc;
+}
+container-facts (InFootnote label) = record {
+  front = refl;
+  no_prefix = refl;
+  begin_stops = λ p ys. refl;
+  other = refl;
+  no_ending = refl;
+  still = tt;
+  untold = λ h. (h, refl);
+  block = λ bs. refl;
+  read_end = λ bytes p r. refl;
+  held = λ k e. cc;
+}
 
+-- lines of content do not go on over its end
 pub end-stops : (c : Container) (p : Point) (ys : List Event) → content_behind (exit (container_name c) p ∷ ys) ≡ false
-end-stops c p ys = ap (λ (x : Bool). cond x (content_behind ys) false) (container-prefix c)
+end-stops c p ys = ap (λ (x : Bool). cond x (content_behind ys) false) (container-facts c).no_prefix
 
--- a container is no text part
-pub container-no_part : (c : Container) → part_kind (container_name c) ≡ None
-container-no_part InQuote = refl
-container-no_part (InItem digits marker width starts_blank) = refl
-container-no_part (InFootnote label) = refl
-
--- nor a leaf or an ending
-pub container-other : (c : Container) → is_other (on_line (container_name c)) ≡ true
-container-other InQuote = refl
-container-other (InItem digits marker width starts_blank) = refl
-container-other (InFootnote label) = refl
-
--- no text begins or ends with it
-pub container-still : (c : Container) → Still (role (container_name c))
-container-still InQuote = tt
-container-still (InItem digits marker width starts_blank) = tt
-container-still (InFootnote label) = tt
-
--- it has a plain name, if an outline shows it
-pub container-untold : (c : Container) → is_plain (Holds (shape_of c)) ≡ true → Untold (role (container_name c))
-container-untold InQuote h = (refl, refl)
-container-untold (InItem digits marker width starts_blank) h = (h, refl)
-container-untold (InFootnote label) h = (h, refl)
+-- Names of open containers.
 
 -- the names that are open where these containers are, the innermost first
 abbrev pub open_names : List Container → List Name
@@ -89,25 +111,13 @@ open_names [] = []
 open_names (c ∷ cs) = open_names cs ++ container_name c ∷ []
 
 -- the events of a container tell its name by its shape
-abbrev pub shape_name : Shape → Name
-shape_name QuoteShape = n.BlockQuote
-shape_name OrderedShape = n.ListOrdered
-shape_name UnorderedShape = n.ListUnordered
-shape_name (ItemShape marker digits) = n.ListItem
-shape_name (FootnoteShape label) = n.GfmFootnoteDefinition
-
 abbrev pub shape_names : List Shape → List Name
 shape_names [] = []
 shape_names (s ∷ ss) = shape_names ss ++ shape_name s ∷ []
 
-pub name-shape : (c : Container) → container_name c ≡ shape_name (shape_of c)
-name-shape InQuote = refl
-name-shape (InItem digits marker width starts_blank) = refl
-name-shape (InFootnote label) = refl
-
 pub names-shapes : (cs : List Container) → open_names cs ≡ shape_names (map shape_of cs)
 names-shapes [] = refl
-names-shapes (c ∷ cs) = ap (λ (l : List Name). l ++ container_name c ∷ []) (names-shapes cs) ∙ ap (λ (name : Name). shape_names (map shape_of cs) ++ name ∷ []) (name-shape c)
+names-shapes (c ∷ cs) = ap (λ (l : List Name). l ++ container_name c ∷ []) (names-shapes cs)
 
 -- What the events tell of a container does not change while it is open.
 
@@ -123,25 +133,7 @@ continues-shape options InQuote r t e = when-shape _ _ t e
 continues-shape options (InItem digits marker width starts_blank) r t e = when-shape _ _ t e
 continues-shape options (InFootnote label) r t e = when-shape _ _ t e
 
--- a container is read as its block
-pub shape-block : (container : Container) (bs : Blocks) → block_around (shape_of container) bs ≡ container_block container bs
-shape-block InQuote bs = refl
-shape-block (InItem digits marker width starts_blank) bs = refl
-shape-block (InFootnote label) bs = refl
-
--- each container ends alike
-pub read-end : (bytes : List ℕ) (c : Container) (p : Point) (r : Reading) → read bytes r (exit (container_name c) p ∷ []) ≡ left r.outer r
-read-end bytes InQuote p r = refl
-read-end bytes (InItem digits marker width starts_blank) p r = refl
-read-end bytes (InFootnote label) p r = refl
-
--- no line ends with it
-pub container-no_ending : (c : Container) → is_line_ending (container_name c) ≡ false
-container-no_ending InQuote = refl
-container-no_ending (InItem digits marker width starts_blank) = refl
-container-no_ending (InFootnote label) = refl
-
--- what holds of the name of each kind of container that the tokenizer holds
+-- What holds of the name of each kind of container that the tokenizer holds.
 pub held-names : (P : Name → Type 0) → P n.BlockQuote → (k : ContainerKind) → P (name_of k)
 held-names P h kind.BlockQuote = h
 

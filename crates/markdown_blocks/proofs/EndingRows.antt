@@ -14,10 +14,9 @@ use Rattle.md_seam.specs.Standard.State.{Container}
 use Rattle.md_seam.specs.Standard.Rest.{Rest}
 use Rattle.md_seam.specs.Standard.Tree.{Block}
 use Rattle.md_seam.proofs.EndingsLemmas.{AreOthers, Leads, leads-append, others-append, others-lead}
-use Rattle.markdown_blocks.specs.ContainerKinds.{container_name}
+use Rattle.markdown_blocks.specs.Registry.{container_name, text_leaf}
 use Rattle.markdown_blocks.specs.Change.{ends_of}
 use Rattle.markdown_blocks.specs.Document.{body_point, mark_end, mark_events}
-use Rattle.markdown_blocks.specs.Registry.{text_leaf}
 use Rattle.markdown_blocks.specs.Rows.{final_row, first_row, group_done, group_kind, BlankRow, Group, Lines, Row, RowKind, Single, TextRow, ending_events, goes_on, group_events, groups, groups_events, onto_groups, tail_events, LeafRow, ending_of}
 use Rattle.markdown_blocks.specs.Unread.{group_unread, listed_group, listed_groups}
 use Rattle.markdown_blocks.proofs.GroupLemmas.{AreGroups, EndsBeforeGroups, HasFront, IsSingle, groups-are, rows-end}

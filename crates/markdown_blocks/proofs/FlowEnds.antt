@@ -15,7 +15,7 @@ use Rattle.markdown_blocks.proofs.FlowLemmas.{blank_at-shrinks, chunk_at-shrinks
 use Rattle.markdown_blocks.proofs.FromEnding.{stops-same}
 use Rattle.markdown_blocks.proofs.LeafLaws.{Shrinks}
 use Rattle.markdown_blocks.proofs.Registry.{laws}
-use Rattle.markdown_blocks.proofs.TableLaws.{continues-shortens, new-shortens}
+use Rattle.markdown_blocks.proofs.RegistryContainers.{continues-shortens, new-shortens}
 use Rattle.md_containers.proofs.Shorter.{Shortens}
 
 -- all is taken

@@ -15,7 +15,7 @@ use Rattle.markdown_blocks.specs.Registry.{LeafName, continues_at, leaf, new_con
 use Rattle.markdown_blocks.proofs.FromEnding.{from_ending-again, from_ending-shrinks}
 use Rattle.markdown_blocks.proofs.LeafLaws.{Shrinks, cond-shrinks}
 use Rattle.markdown_blocks.proofs.Registry.{laws}
-use Rattle.markdown_blocks.proofs.TableLaws.{continues-shortens, new-shortens}
+use Rattle.markdown_blocks.proofs.RegistryContainers.{continues-shortens, new-shortens}
 use Rattle.md_containers.proofs.Shorter.{Shortens}
 
 -- Blank lines and content: a line is taken or refused.

@@ -39,11 +39,10 @@ use Rattle.markdown_blocks.specs.FlowRule.{HasFlow, Rule, behind_containers, bla
 use Rattle.markdown_blocks.specs.LineFlags as flags
 use Rattle.markdown_blocks.specs.LineFlags.{ending_name, next_container, next_line, went_on}
 use Rattle.markdown_blocks.specs.States.{FlowStep, flow_behaves, flow_behaves_by, flow_table_scheme, flow_transition, leaf_owner}
-use Rattle.markdown_blocks.specs.Table.{before, behind, front_of, next_of, tried_at}
+use Rattle.markdown_blocks.specs.Registry.{behind, continues_at, front_of, leaf, LeafName, new_container_at, new_kind, next_of, trials, tried_at}
 use Rattle.markdown_blocks.proofs.FlowLemmas.{flow_by_line, line_by_container, new_by_container}
 use Rattle.markdown_blocks.proofs.States.{flow_does}
-use Rattle.markdown_blocks.proofs.TableLaws.{construct-steps, container-starts, goes_on-starts, leaf-starts, left-before, left-next, tried-before, white_has}
-use Rattle.markdown_blocks.specs.Registry.{LeafName, continues_at, leaf, new_container_at, trials}
+use Rattle.markdown_blocks.proofs.Registry.{construct-steps, container-states, leaf-starts, left-before, left-next, tried-before, white_has}
 
 -- an attempt that was begun here
 abbrev frame_here : State → State → World → Frame
@@ -124,11 +123,11 @@ blank_line_before_steps B feed w options next has =
     ∙ ap (resume B feed w.events f) (sym (has.blank.each blank_line.Start _ _)))
 
 before_steps : (l : LeafName) (B : Behaviour) (feed : Feed) (w : World) (options : ParseOptions) (next : Rule) → HasFlow B options next →
-    Steps B feed (Next (n.Flow (before l))) w (before_transition l w).to (before_transition l w).world
+    Steps B feed (Next (n.Flow (leaf l).before)) w (before_transition l w).to (before_transition l w).world
 before_steps l B feed w options next has =
     let f : Frame = frame_here (Next (n.Flow flow.After)) (Next (n.Flow (next_of l))) w in
     begins_only B feed _ _ w (before_transition l w).world f refl refl
-    (has.leaves (before l) _ _ ∙ left-before options next l _ _
+    (has.leaves (leaf l).before _ _ ∙ left-before options next l _ _
     ∙ resumed B feed w (Next (n.Flow flow.After)) (Next (n.Flow (next_of l))) ((leaf l).trial options (feed w.point) (here w)) (line_ended next)
     (λ s g. leaves_of options next (behind l) (feed w.point) (record (here w) { scratch = s; flags = g })) (has.leaves flow.After)
     (λ s g. has.leaves (next_of l) _ _ ∙ left-next options next l _ _)
@@ -203,8 +202,8 @@ flow_has options next = record {
   blank = record { white = white_has options next; each = λ _ _ _. refl };
   chunk = record { each = λ _ _ _. refl };
   starts = leaf-starts options next;
-  opens = container-starts options next;
-  goes_on = goes_on-starts options next;
+  opens = (container-states new_kind).begins_is options next;
+  goes_on = λ k. (container-states k).goes_on_is options next;
   containers = λ _ _ _. refl;
   leaves = λ _ _ _. refl;
 }

@@ -25,15 +25,14 @@ use Rattle.markdown_blocks.specs.Change.{Change, change_by, ends_of, interrupts,
 use Rattle.markdown_blocks.specs.FlowRule.{Rule, behind_containers, blank_ended, ended, ended_to, existing_by, existing_from, flow_at, flow_lines, leaf_of, leaves_of, line_ended, line_then, new_from, new_of, nonblank_of, opened, tried}
 use Rattle.markdown_blocks.specs.LineFlags.{begun_line, ending_name, next_line, stays, went_on}
 use Rattle.markdown_blocks.specs.Passed.{Passed, passed_by, passed_here}
-use Rattle.markdown_blocks.specs.Registry.{LeafName, first_of, goes_at, leaf, new_kind, opens_at, trials}
+use Rattle.markdown_blocks.specs.Registry.{first_of, goes_at, leaf, LeafName, MatchesContainer, new_kind, opens_at, trials}
 use Rattle.markdown_blocks.specs.Rows.{BlankRow, Front, Held, LeafRow, Row, RowKind, TextRow, after_ending, closes_before, ending_of, held_at, held_by, held_of, in_front, inside_of, is_lazy, is_text, kind_of, leaf_events, new_front, no_front, row_events, row_kind, row_of, rows_at, rows_events, went_front}
 use Rattle.markdown_blocks.specs.Stands.{AreOpen}
 use Rattle.markdown_blocks.proofs.ContainedLemmas.{lazy-some}
 use Rattle.markdown_blocks.proofs.FromEnding.{from_ending-shrinks}
 use Rattle.markdown_blocks.proofs.LeafRows.{blank-refused, blank-took, chunk-took}
 use Rattle.markdown_blocks.proofs.Registry.{laws}
-use Rattle.markdown_blocks.proofs.TableLaws.{further-is, goes-same, goes-shorter, known-name, opening-is, opens-same, opens-shorter}
-use Rattle.markdown_blocks.specs.ContainerKinds.{MatchesContainer}
+use Rattle.markdown_blocks.proofs.RegistryContainers.{further-is, goes-same, goes-shorter, known-name, opening-is, opens-same, opens-shorter}
 
 -- The leaf of a line, by its kind.
 

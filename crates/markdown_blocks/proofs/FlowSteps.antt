@@ -34,7 +34,7 @@ use Rattle.markdown_blocks.proofs.SubstitutedLemmas.{keeps, keeps-each}
 use Rattle.markdown_blocks.proofs.ContentFacts.{NoContent, no_content-append, no_content-unwanted, nothing}
 use Rattle.markdown_blocks.proofs.PrefixNames.{AreFront, front-append}
 use Rattle.markdown_blocks.specs.Passed.{Passed}
-use Rattle.markdown_blocks.proofs.RegistryContainers.{PassesFront, goes-front, opens-front}
+use Rattle.markdown_blocks.proofs.RegistryContainers.{goes-front, opens-front}
 
 -- What stands in front of a line that flow reads.
 
@@ -43,9 +43,9 @@ abbrev events_of : Front → List Event
 events_of f = f.events
 
 -- one more in front of others
-more-front : (f : Passed → Front) (none : Front) → ((t : Passed) → AreFront (f t).events) → AreFront none.events → (o : Option Passed) → PassesFront o → AreFront (events_of (elim o [ None ↦ none | Some t ↦ in_front t (f t) ]))
+more-front : (f : Passed → Front) (none : Front) → ((t : Passed) → AreFront (f t).events) → AreFront none.events → (o : Option Passed) → ((t : Passed) → o ≡ Some t → AreFront t.events) → AreFront (events_of (elim o [ None ↦ none | Some t ↦ in_front t (f t) ]))
 more-front f none below h None k = h
-more-front f none below h (Some t) k = front-append t.events (f t).events k (below t)
+more-front f none below h (Some t) k = front-append t.events (f t).events (k t refl) (below t)
 
 -- all that go on
 went-are : (options : ParseOptions) (cs : List Container) (cells : List Cell) (p : Point) → AreFront (went_front options cs cells p).events

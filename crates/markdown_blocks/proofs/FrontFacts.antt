@@ -4,7 +4,7 @@ use Rattle.md_engine.specs.declared.event.Event.{Event}
 use Rattle.md_engine.specs.declared.event.Point.{Point}
 use Rattle.md_seam.specs.Events.Nested.{enter}
 use Rattle.md_seam.specs.Standard.State.{Container}
-use Rattle.markdown_blocks.specs.ContainerKinds.{container_name}
+use Rattle.markdown_blocks.specs.Registry.{container_name}
 use Rattle.markdown_blocks.proofs.PrefixFacts.{Continues, Opens}
 
 -- all of it, from a point to a point, with the begins of these containers, the outermost first

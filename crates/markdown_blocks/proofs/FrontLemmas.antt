@@ -16,7 +16,7 @@ use Rattle.markdown_blocks.proofs.FrontFacts.{Begins, Behind, LinePrefix, Goes}
 use Rattle.markdown_blocks.proofs.SpanLemmas.{Spans, spans-append}
 use Rattle.markdown_blocks.proofs.ContainerNames.{names-shapes, open_names, shape_names}
 use Rattle.markdown_blocks.proofs.PrefixNames.{prefixes-roles, quiets-roles}
-use Rattle.markdown_blocks.specs.ContainerKinds.{container_name, shape_of}
+use Rattle.markdown_blocks.specs.Registry.{container_name, shape_of}
 
 -- Prefixes.
 

@@ -12,10 +12,10 @@ use Rattle.markdown_blocks.specs.Change.{ends_of, is_none}
 use Rattle.markdown_blocks.specs.Rows.{Row}
 use Rattle.markdown_blocks.proofs.FrontFacts.{LinePrefix}
 use Rattle.markdown_blocks.proofs.FrontFacts.LinePrefix.{Begins, Behind, Goes}
-use Rattle.markdown_blocks.proofs.ContainerNames.{begin-stops, container-front, is_front}
+use Rattle.markdown_blocks.proofs.ContainerNames.{container-facts, is_front}
 use Rattle.markdown_blocks.proofs.PrefixNames.{names-no_parts, names-unlinked, AreFront, ArePrefixes, front-append, prefixes-append, prefixes-front}
 use Rattle.markdown_blocks.proofs.PartFacts.{NoLinks, NoParts}
-use Rattle.markdown_blocks.specs.ContainerKinds.{container_name}
+use Rattle.markdown_blocks.specs.Registry.{container_name}
 
 -- what stands in front of a line are prefixes and begins of containers
 abbrev pub HasFront : List ℕ → Row → Type 0
@@ -32,12 +32,12 @@ fronts-prefixes bytes opens p q es none (Begins c below first mid last xs ys is 
 pub fronts-are : (bytes : List ℕ) (opens : List Container) (p q : Point) (es : List Event) → LinePrefix bytes opens p q es → AreFront es
 fronts-are bytes opens p q es (Behind r) = tt
 fronts-are bytes opens p q es (Goes same first mid last xs ys is more) = front-append xs ys (prefixes-front xs is.names) (fronts-are bytes same mid last ys more)
-fronts-are bytes opens p q es (Begins c below first mid last xs ys is more) = (container-front c, refl, front-append xs ys is.names (fronts-are bytes below mid last ys more))
+fronts-are bytes opens p q es (Begins c below first mid last xs ys is more) = ((container-facts c).front, refl, front-append xs ys is.names (fronts-are bytes below mid last ys more))
 
 -- so are the ends of containers
 pub ends-are : (cs : List Container) (p : Point) → AreFront (ends_of cs p)
 ends-are [] p = tt
-ends-are (c ∷ cs) p = front-append (ends_of cs p) (exit (container_name c) p ∷ []) (ends-are cs p) (container-front c, refl, tt)
+ends-are (c ∷ cs) p = front-append (ends_of cs p) (exit (container_name c) p ∷ []) (ends-are cs p) ((container-facts c).front, refl, tt)
 
 -- the first of some ends is that of a container
 pub ends-first : (P : List Event → Type 0) (c : Container) (cs : List Container) (p : Point) (es : List Event) → ((d : Container) (fs : List Event) → P (exit (container_name d) p ∷ fs)) → P (ends_of (c ∷ cs) p ++ es)
@@ -61,7 +61,7 @@ pub fronts-stop : (bytes : List ℕ) (opens : List Container) (p q : Point) (es 
 fronts-stop bytes opens p q es ys some (Behind r) = cc
 fronts-stop bytes opens p q es ys some (Goes same first mid last xs fs is more) =
     ap content_behind (append_assoc xs fs ys) ∙ prefixes-content xs (fs ++ ys) is.names ∙ fronts-stop bytes same mid last fs ys some more
-fronts-stop bytes opens p q es ys some (Begins c below first mid last xs fs is more) = begin-stops c first ((xs ++ fs) ++ ys)
+fronts-stop bytes opens p q es ys some (Begins c below first mid last xs fs is more) = (container-facts c).begin_stops first ((xs ++ fs) ++ ys)
 
 -- Nothing of them is read later, and none begins or ends a text part.
 

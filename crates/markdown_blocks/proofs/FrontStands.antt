@@ -12,9 +12,9 @@ use Rattle.md_seam.proofs.InlineLemmas.{same-refl}
 use Rattle.markdown_blocks.proofs.PiecesLemmas.{Tiled, tiled-append, tiled-none, tiled-within, pieces-before}
 use Rattle.markdown_blocks.proofs.FrontFacts.{Behind, Begins, LinePrefix, Goes}
 use Rattle.markdown_blocks.proofs.RowFacts.{slice-split}
-use Rattle.markdown_blocks.specs.ContainerKinds.{container_name}
+use Rattle.markdown_blocks.specs.Registry.{container_name}
 use Rattle.markdown_blocks.proofs.PartsStand.{Inside, inside-append}
-use Rattle.markdown_blocks.proofs.ContainerNames.{container-untold, container-other}
+use Rattle.markdown_blocks.proofs.ContainerNames.{container-facts}
 use Rattle.md_seam.specs.Events.Pieces.{pieces_stand}
 use Rattle.md_seam.proofs.TextsLemmas.{Both, Ending, LineFeed, Return, ending_bytes, EndsBefore, NoEnding, split-line, split-next}
 use Rattle.markdown_blocks.proofs.PieceFacts.{Stood, stood-append, stood-none}
@@ -88,13 +88,13 @@ plain-front bytes _ p _ _ (Behind _) = plain-nil bytes
 plain-front bytes opens p r _ (Goes _ _ q _ es fs is more) = plain-append bytes es fs (plain-untold bytes es (prefixes-roles Untold es (refl, refl) (refl, refl) is.names)) (plain-front bytes opens q r fs more)
 plain-front bytes _ p r _ (Begins c opens _ q _ es fs is more) =
     let facts : Opens bytes c p q es = is in
-    let begin : Untold (role (container_name c)) = container-untold c facts.shown in
+    let begin : Untold (role (container_name c)) = (container-facts c).untold facts.shown in
     let behind : ArePlain bytes es = plain-untold bytes es (quiets-roles Untold es (refl, refl) (refl, refl) facts.roles) in
     plain-append bytes (enter (container_name c) p ∷ []) (es ++ fs) (plain-untold bytes (enter (container_name c) p ∷ []) (begin, tt)) (plain-append bytes es fs behind (plain-front bytes opens q r fs more))
 
 -- the begin or the end of a container
 pub container-others : (c : Container) (e : Event) → e.name ≡ container_name c → AreOthers (e ∷ [])
-container-others c e same = and_from (is_other (on_line e.name)) true (ap (λ (name : Name). is_other (on_line name)) same ∙ container-other c) refl
+container-others c e same = and_from (is_other (on_line e.name)) true (ap (λ (name : Name). is_other (on_line name)) same ∙ (container-facts c).other) refl
 
 -- what stands in front of a line
 pub fronts-others : (bytes : List ℕ) (opens : List Container) (p q : Point) (es : List Event) →

@@ -20,19 +20,18 @@ use Rattle.md_seam.specs.Spaces.{IsRest, rest_ready}
 use Rattle.md_seam.proofs.SpacesGoods.{Does, seen-some}
 use Rattle.markdown_blocks.specs.Flow.{after_transition, before_content_transition, before_transition, blank_line_after_transition, blank_line_before_transition, containers_after_transition, existing_after_transition, existing_before_code, flow_end_code, flow_rank, flow_ready, flow_scheme, new_after_transition, new_before_transition, start_transition}
 use Rattle.markdown_blocks.specs.LineFlags as flags
-use Rattle.markdown_blocks.specs.Registry.{LeafName, trials}
-use Rattle.markdown_blocks.specs.Table.{before, first_container, front_of, goes_on_with, next_of, start_of}
+use Rattle.markdown_blocks.specs.Registry.{LeafName, first_container, front_of, goes_on_with, leaf, next_of, trials}
 
 -- what a table has of a leaf on one line: the states in front of it and of the next are those of flow, and fall; its first state is of
 -- a lower level, and ready at rest
 pub record LeafFits (T : Scheme) (l : LeafName) : Type 1 where
   pub own : Scheme
-  pub starts : Fits T own (start_of l)
-  pub level : own.level (start_of l) < 3
-  pub ready : (x : Spot) (K : After) → rest_ready x K → own.ready (start_of l) x K
-  pub front : Fits T flow_scheme (n.Flow (before l))
+  pub starts : Fits T own (leaf l).start
+  pub level : own.level (leaf l).start < 3
+  pub ready : (x : Spot) (K : After) → rest_ready x K → own.ready (leaf l).start x K
+  pub front : Fits T flow_scheme (n.Flow (leaf l).before)
   pub next : Fits T flow_scheme (n.Flow (next_of l))
-  pub falls : (flow_scheme.tries (n.Flow (next_of l))).number < (flow_rank (n.Flow (before l))).number
+  pub falls : (flow_scheme.tries (n.Flow (next_of l))).number < (flow_rank (n.Flow (leaf l).before)).number
   pub next_low : (flow_rank (n.Flow (next_of l))).number < (flow_scheme.tries (n.Flow (next_of l))).number
   pub behind_low : (flow_rank (n.Flow flow.After)).number < (flow_scheme.tries (n.Flow (next_of l))).number
 
@@ -138,9 +137,9 @@ good_blank_line_before T w has inner r = (
 -- in front of a leaf
 pub good_before : (T : Scheme) (l : LeafName) (w : World) → FlowFits T → LeafFits T l →
     flow_ready (spot w) (after_all T w.frames) →
-    Does T (n.Flow (before l)) w (before_transition l w)
+    Does T (n.Flow (leaf l).before) w (before_transition l w)
 good_before T l w has inner r = (
-  begins_try T flow_scheme inner.own (n.Flow (before l)) (start_of l) w IsRest IsRest w.events w.scratch _ inner.front inner.starts has.behind inner.next refl
+  begins_try T flow_scheme inner.own (n.Flow (leaf l).before) (leaf l).start w IsRest IsRest w.events w.scratch _ inner.front inner.starts has.behind inner.next refl
       (flow_tries (n.Flow flow.After) (n.Flow (next_of l)) w (after_all T w.frames) r inner.behind_low inner.next_low (λ x. refl) (λ x. refl)) (λ K e. inner.ready _ K (r.0.0, e)) inner.level (omega arith) inner.falls,
   refl,
 )

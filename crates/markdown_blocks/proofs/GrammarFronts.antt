@@ -7,7 +7,7 @@ use Rattle.md_seam.specs.Events.Grammar.{Expression, behind_block, blocks, left_
 use Rattle.md_seam.specs.Events.Nested.{enter, exit, pair}
 use Rattle.md_seam.specs.Standard.State.{Container}
 use Rattle.md_seam.proofs.GrammarLemmas.{Leads, leads-append, leads-rest}
-use Rattle.markdown_blocks.specs.ContainerKinds.{container_name}
+use Rattle.markdown_blocks.specs.Registry.{container_name}
 use Rattle.markdown_blocks.specs.Change.{ends_of}
 use Rattle.markdown_blocks.specs.Rows.{BlankRow, LeafRow, RowKind, TextRow, ending_of}
 use Rattle.markdown_blocks.proofs.FrontFacts.{Begins, Behind, LinePrefix, Goes}

@@ -26,7 +26,7 @@ use Rattle.md_seam.specs.Substituted.{Readings, Substituted, belongs, chunks_beh
 use Rattle.md_seam.specs.Standard.Texts.{split_lines}
 use Rattle.markdown_blocks.specs.Change.{ends_of}
 use Rattle.markdown_blocks.specs.Change as change
-use Rattle.markdown_blocks.specs.Registry.{LeafName, first_of, leaf as line_leaf, resolved, trials, text_leaf}
+use Rattle.markdown_blocks.specs.Registry.{container_name, first_of, leaf as line_leaf, LeafName, resolved, text_leaf, trials}
 use Rattle.markdown_blocks.specs.Rows.{BlankRow, Group, LeafRow, Lines, Row, RowKind, Single, TextRow, behind_row, blank_line, chunks_of, ending_events, ending_of, goes_on, group_events, groups, groups_events, is_text, kind_of, last_row, leaf_done, leaf_events, leaf_unread, line_kind, onto_groups, read_lines, row_events, row_events_by, rows_events, single_events_by, tail_events}
 use Rattle.markdown_blocks.specs.Fronted.{contained, cut_tab, rest_from, rest_line}
 use Rattle.markdown_blocks.specs.Unread.{joined_groups, linked, linked_lines, listed_group, listed_groups, listed_row_by, unread_group, unread_groups, text_unread, unread_lines}
@@ -40,8 +40,7 @@ use Rattle.markdown_blocks.proofs.RowFacts.{AreRows, IsEnding, IsLine, IsRow, be
 use Rattle.markdown_blocks.proofs.SubstitutedLemmas.{AllBelong, Becomes, CutAt, EachPrefixed, NextBelongs, Rest, Unwanted, becomes-append, becomes-same, behind-exit, line_after, lines-becomes, passes, places}
 use Rattle.markdown_blocks.proofs.LeafFacts.{ReadsText}
 use Rattle.markdown_blocks.proofs.ContentFacts.{no_content-unwanted}
-use Rattle.markdown_blocks.proofs.ContainerNames.{container-prefix}
-use Rattle.markdown_blocks.specs.ContainerKinds.{container_name}
+use Rattle.markdown_blocks.proofs.ContainerNames.{container-facts}
 use Rattle.md_seam.specs.Standard.Rest.{Rest as LineRest, is_blank}
 use Rattle.markdown_blocks.proofs.LineTexts.{one-last, one-next, piece, without-none, without-one}
 use Rattle.markdown_blocks.proofs.OutsideFacts.{AreOutside}
@@ -224,7 +223,7 @@ behind-lines wants row gs h = tail row.leaves
     tail [] = ending gs h
     tail (c ∷ leaves) =
         ap (chunks_behind wants) (append_assoc (ends_of (c ∷ leaves) row.end) (ending_events n.LineEnding row) (joined_groups gs))
-        ∙ ends-first (λ (l : List Event). chunks_behind wants l ≡ []) c leaves row.end (ending_events n.LineEnding row ++ joined_groups gs) (λ d es. behind-exit wants (container_name d) row.end es (container-prefix d))
+        ∙ ends-first (λ (l : List Event). chunks_behind wants l ≡ []) c leaves row.end (ending_events n.LineEnding row ++ joined_groups gs) (λ d es. behind-exit wants (container_name d) row.end es (container-facts d).no_prefix)
 
 -- what stands around the parts of a line is not read later
 tail-unwanted : (wants : Content → Bool) (kind : RowKind) (row : Row) → Unwanted wants (tail_events (ending_of kind) row)

@@ -26,8 +26,8 @@ use Rattle.markdown_blocks.proofs.SubstitutedLemmas.{no_link-unwanted}
 use Rattle.markdown_blocks.proofs.Registry.{laws}
 use Rattle.markdown_blocks.proofs.ContentFacts.{NoContent, no_content-append, nothing}
 use Rattle.markdown_blocks.proofs.PrefixNames.{AreFront}
-use Rattle.markdown_blocks.proofs.ContainerNames.{end-stops, container-no_ending}
-use Rattle.markdown_blocks.specs.ContainerKinds.{container_name}
+use Rattle.markdown_blocks.proofs.ContainerNames.{container-facts, end-stops}
+use Rattle.markdown_blocks.specs.Registry.{container_name}
 
 -- no content stands inside a line, and its links are to text
 abbrev pub HasNoContent : Row → Type 0
@@ -167,7 +167,7 @@ no_ending-stops e [] h = refl
 no_ending-stops e (f ∷ es) h = ap (λ (x : Bool). x && content_behind es) h
 
 ends-stop : (c : Container) (cs : List Container) (p : Point) (es : List Event) → goes_on (ends_of (c ∷ cs) p ++ es) ≡ false
-ends-stop c cs p es = ends-first (λ (l : List Event). goes_on l ≡ false) c cs p es (λ d fs. no_ending-stops (exit (container_name d) p) fs (container-no_ending d))
+ends-stop c cs p es = ends-first (λ (l : List Event). goes_on l ≡ false) c cs p es (λ d fs. no_ending-stops (exit (container_name d) p) fs (container-facts d).no_ending)
 
 -- a line of text that does not go on
 text-ends : (row : Row) (es : List Event) → goes_on (tail_events n.LineEnding row ++ es) ≡ false → joined ((text_events row ++ tail_events n.LineEnding row) ++ es) ≡ (text_events row ++ tail_events n.LineEnding row) ++ joined es

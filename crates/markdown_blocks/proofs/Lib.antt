@@ -1,5 +1,4 @@
 pub mod Goods
-pub mod TableLaws
 pub mod States
 pub mod FromEnding
 pub mod FlowLemmas
@@ -39,6 +38,7 @@ pub mod PieceRuns
 pub mod RestRows
 pub mod RegistryRead
 pub mod PassedFacts
+pub mod ContainerLaws
 pub mod RegistryContainers
 pub mod FrontRows
 pub mod RowLemmas

@@ -15,13 +15,13 @@ use Rattle.markdown_blocks.proofs.FrontLemmas.{ends-roles, fronts-roles}
 use Rattle.markdown_blocks.proofs.RowFacts.{AreRows}
 use Rattle.markdown_blocks.proofs.PartedFacts.{Sits, Still, sits-append, sits-still}
 use Rattle.markdown_blocks.proofs.NestedRows.{ByGroups, rows-hold}
-use Rattle.markdown_blocks.proofs.ContainerNames.{container-still}
+use Rattle.markdown_blocks.proofs.ContainerNames.{container-facts}
 
 -- Events outside of texts.
 
 -- the ends of containers, and an ending
 sits-tail : (bytes : List ℕ) (name : Name) (row : Row) → Still (role name) → Sits bytes (tail_events name row)
-sits-tail bytes name row h = sits-still bytes (tail_events name row) (roles-append Still (ends_of row.leaves row.end) (ending_events name row) (ends-roles Still row.leaves row.end container-still) (go row.after))
+sits-tail bytes name row h = sits-still bytes (tail_events name row) (roles-append Still (ends_of row.leaves row.end) (ending_events name row) (ends-roles Still row.leaves row.end (λ c. (container-facts c).still)) (go row.after))
   where
     go : (o : Option Point) → Roles Still (elim o [ None ↦ [] | Some q ↦ pair name row.end q ])
     go None = tt
@@ -50,7 +50,7 @@ parted-by_groups bytes = record {
   none = λ p. refl;
   group = λ names kept p group gs o keeps on.
       let row : Row = first_row group in
-      let front : Roles Still row.front = fronts-roles Still bytes row.change.opens p row.first row.front tt tt container-still o.front in
+      let front : Roles Still row.front = fronts-roles Still bytes row.change.opens p row.first row.front tt tt (λ c. (container-facts c).still) o.front in
       line-sits bytes (ending_of (group_kind group)) row.front (group_done bytes group) (final_row group) (ending-still (group_kind group)) front o.leaf.1.parted (groups_events bytes gs) on;
 }
 

@@ -8,7 +8,7 @@ use Rattle.md_seam.specs.Standard.Containers.{Taken}
 use Rattle.md_seam.specs.Events.Nested.{enter}
 use Rattle.md_seam.proofs.RestCells.{RestAt, past_rest, rest_cells}
 use Rattle.md_seam.proofs.TextsLemmas.{NoEnding}
-use Rattle.markdown_blocks.specs.ContainerKinds.{container_name}
+use Rattle.markdown_blocks.specs.Registry.{container_name}
 use Rattle.markdown_blocks.specs.Passed.{Passed}
 use Rattle.markdown_blocks.proofs.RegistryRead.{IsRead}
 use Rattle.markdown_blocks.proofs.PrefixFacts.{Continues, Opens}

@@ -14,7 +14,7 @@ use Rattle.md_seam.specs.Standard.Preamble.{has_mark}
 use Rattle.md_seam.specs.Standard.State.{Container}
 use Rattle.md_seam.proofs.TextsLemmas.{Both, Ending, LineFeed, Return, ending_bytes}
 use Rattle.md_seam.proofs.PreambleLemmas.{mark-bytes}
-use Rattle.markdown_blocks.specs.ContainerKinds.{container_name}
+use Rattle.markdown_blocks.specs.Registry.{container_name}
 use Rattle.markdown_blocks.specs.Change.{ends_of}
 use Rattle.markdown_blocks.specs.Document.{body_point, mark_end, mark_events}
 use Rattle.markdown_blocks.specs.Fronted.{contained, rest_from, rest_line}

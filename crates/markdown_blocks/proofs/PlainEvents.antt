@@ -19,7 +19,7 @@ use Rattle.md_outline.specs.Outlined.{IsOutlined, tells_between}
 use Rattle.markdown_blocks.specs.Change.{Change, ends_of}
 use Rattle.markdown_blocks.specs.Fronted.{contained, rest_from, rest_line}
 use Rattle.markdown_blocks.specs.Rows.{final_row, first_row, group_done, group_kind, BlankRow, Group, Lines, Row, RowKind, Single, TextRow, ending_events, group_events, groups, groups_events, is_text, tail_events, LeafRow, ending_of}
-use Rattle.markdown_blocks.specs.ContainerKinds.{container_name, shape_of}
+use Rattle.markdown_blocks.specs.Registry.{container_name, shape_of}
 use Rattle.markdown_blocks.proofs.ContainedLemmas.{contained-shapes}
 use Rattle.markdown_blocks.proofs.EachRow.{EachGroup, EachRow, OfGroup, groups-each, last-each}
 use Rattle.markdown_blocks.proofs.FrontFacts.{Begins, Behind, LinePrefix, Goes}
@@ -30,7 +30,7 @@ use Rattle.markdown_blocks.proofs.RowFacts.{AreRows, IsLine, behind_line}
 use Rattle.markdown_blocks.proofs.PlainFacts.{ArePlain, Untold, is_clear, plain-append, plain-nil, plain-untold}
 use Rattle.markdown_blocks.proofs.PartedFacts.{clear, clear-between}
 use Rattle.markdown_blocks.proofs.NestedRows.{ByGroups, rows-hold}
-use Rattle.markdown_blocks.proofs.ContainerNames.{container-untold}
+use Rattle.markdown_blocks.proofs.ContainerNames.{container-facts}
 
 -- Containers.
 
@@ -52,7 +52,7 @@ shown-parts (c ∷ cs) ds h = let parts = shown-parts cs ds h.1 in ((h.0, parts.
 
 ends-untold : (cs : List Container) (p : Point) → AreShown cs → Roles Untold (ends_of cs p)
 ends-untold [] p h = tt
-ends-untold (c ∷ cs) p h = roles-append Untold (ends_of cs p) (exit (container_name c) p ∷ []) (ends-untold cs p h.1) (container-untold c h.0, tt)
+ends-untold (c ∷ cs) p h = roles-append Untold (ends_of cs p) (exit (container_name c) p ∷ []) (ends-untold cs p h.1) ((container-facts c).untold h.0, tt)
 
 -- the ends of containers, and an ending
 plain-tail : (bytes : List ℕ) (name : Name) (row : Row) → Untold (role name) → AreShown row.leaves →

@@ -16,7 +16,7 @@ use Rattle.md_seam.proofs.SpelledLemmas.{QuietOrPrefix, Roles}
 use Rattle.md_seam.proofs.EndingsLemmas.{AreOthers}
 use Rattle.md_seam.proofs.GrammarLemmas as grammar
 use Rattle.md_outline.specs.Between.{is_between}
-use Rattle.markdown_blocks.specs.ContainerKinds.{container_name, shape_of}
+use Rattle.markdown_blocks.specs.Registry.{container_name, shape_of}
 use Rattle.markdown_blocks.proofs.BetweenFacts.{AreBetween}
 use Rattle.markdown_blocks.proofs.PartsStand.{Inside}
 use Rattle.markdown_blocks.proofs.PiecesLemmas.{Tiled}

@@ -1,24 +1,64 @@
--- The laws of the constructs that are built: the one place of the frame's proofs that names them.
-use Rattle.std.proofs.Common.{◌≡◌, Bool, true, false, cond, List, ◌++◌, refl, ◌∙◌, ap₂}
+-- The laws of the constructs that are built, and what the table has of them: the one place of the frame's proofs that names them.
+use Rattle.std.proofs.Common.{◌≡◌, Bool, true, false, cond, List, ◌∷◌, ◌++◌, refl, ◌∙◌, ap, ap₂, arith}
 use Rattle.std.specs.Option.{option_or}
 use Rattle.std.specs.Prelude.{Option, Some, None}
 use Rattle.md_engine.specs.declared.configuration.ParseOptions.{ParseOptions}
 use Rattle.md_engine.specs.declared.event.Event.{Event}
 use Rattle.md_engine.specs.declared.event.Name.{Name}
+use Rattle.md_engine.specs.declared.resolve.name.Name.{Name as ResolveName}
+use Rattle.md_engine.specs.declared.resolve.name.Name.TheVariants as r
+use Rattle.md_engine.specs.declared.state.Name.{Name as StateName}
+use Rattle.md_engine.specs.declared.state.Name.TheVariants as n
+use Rattle.md_engine.specs.declared.state.block_quote.State.{State as QuoteState}
+use Rattle.md_engine.specs.declared.state.block_quote.State.TheVariants as its
+use Rattle.md_engine.specs.declared.state.flow.State.{State as FlowState}
+use Rattle.md_engine.specs.declared.state.flow.State.TheVariants as flow
+use Rattle.md_engine.specs.declared.state.State.TheVariants.{Next}
+use Rattle.md_engine.specs.declared.tokenizer.container.ContainerKind.{ContainerKind}
+use Rattle.md_engine.specs.declared.tokenizer.container.ContainerKind.TheVariants as kind
+use Rattle.md_engine.specs.Meaning.{Cell, Feed, Here, Steps}
+use Rattle.md_engine.specs.Resolvers.{same_name}
+use Rattle.md_engine.specs.Scheme.{After, EndsLater, Spot, after_all, spot}
+use Rattle.md_engine.specs.World.{World, looks}
+use Rattle.md_engine.proofs.Local.{fits}
+use Rattle.md_engine.proofs.StepOf.{Sees}
+use Rattle.md_containers.specs.Quote.{quote_scheme}
+use Rattle.md_containers.proofs.QuoteGoods.{QuoteFits, quote_does}
+use Rattle.md_containers.proofs.QuoteSteps.{quote_steps}
+use Rattle.md_leaves.specs.Break.{break_scheme}
+use Rattle.md_leaves.specs.Heading.{heading_scheme}
+use Rattle.md_leaves.proofs.BreakGoods.{BreakFits, break_does}
+use Rattle.md_leaves.proofs.BreakSteps.{break_steps}
+use Rattle.md_leaves.proofs.HeadingGoods.{HeadingFits, heading_does}
+use Rattle.md_leaves.proofs.HeadingSteps.{heading_steps}
+use Rattle.md_seam.specs.Ahead.{HasWhite}
+use Rattle.md_seam.specs.Spaces.{IsRest}
+use Rattle.md_seam.specs.Standard.Containers.{Taken, opens, opens_footnote, opens_item, opens_quote}
 use Rattle.md_seam.specs.Standard.Leaves.{Came, Finished, break_at, heading_at}
 use Rattle.md_seam.specs.Standard.Rest.{Rest}
+use Rattle.md_seam.proofs.SpacesGoods.{Does, WhiteFits}
+use Rattle.markdown_blocks.specs.FlowRule.{Rule, leaves_behave, leaves_of}
 use Rattle.markdown_blocks.specs.Leaf.HeadingAtx.{heading_leaf}
 use Rattle.markdown_blocks.specs.Leaf.ThematicBreak.{break_leaf}
-use Rattle.markdown_blocks.specs.Registry.{HeadingAtx, LeafName, ThematicBreak, first_of, is_own, leaf, resolved, trials}
+use Rattle.markdown_blocks.specs.Parsed.{IsBuilt}
+use Rattle.markdown_blocks.specs.Registry.{HeadingAtx, LeafName, ThematicBreak, behind, construct_owner, construct_transition, container_rules, first_of, is_own, leaf, new_kind, next_of, resolved, trials, tried_at}
+use Rattle.markdown_blocks.specs.States.{flow_behaves_by, flow_owner, flow_table_scheme}
+use Rattle.markdown_blocks.proofs.BlockQuote.Laws.{quote-laws}
+use Rattle.markdown_blocks.proofs.BlockQuote.Registers.{quote-registers}
+use Rattle.markdown_blocks.proofs.ContainerLaws.{ContainerLaws}
 use Rattle.markdown_blocks.proofs.ContainerNames.{is_front}
+use Rattle.markdown_blocks.proofs.Goods.{ContainerFits, LeafFits}
 use Rattle.markdown_blocks.proofs.HeadingAtx.Found.{heading-found, heading-simple}
 use Rattle.markdown_blocks.proofs.HeadingAtx.Laws.{heading-laws}
 use Rattle.markdown_blocks.proofs.HeadingAtx.Outside.{front-heading, heading-passes}
+use Rattle.markdown_blocks.proofs.HeadingAtx.Registers.{heading-registers}
 use Rattle.markdown_blocks.proofs.LeafLaws.{LeafLaws}
 use Rattle.markdown_blocks.proofs.OutsideFacts.{AreOutside}
+use Rattle.markdown_blocks.proofs.Registers.{Registers}
 use Rattle.markdown_blocks.proofs.SimpleBlocks.{IsSimple}
 use Rattle.markdown_blocks.proofs.ThematicBreak.Found.{break-found, break-simple}
 use Rattle.markdown_blocks.proofs.ThematicBreak.Laws.{break-laws}
+use Rattle.markdown_blocks.proofs.ThematicBreak.Registers.{break-registers}
 
 -- Leaves on one line.
 
@@ -58,6 +98,57 @@ pub leaf-simple : (l : LeafName) (options : ParseOptions) (r : Rest) → (leaf l
 leaf-simple HeadingAtx options r h = heading-simple options r h
 leaf-simple ThematicBreak options r h = break-simple
 
+-- In the table of flow.
+
+-- each is tried at the state in front of it
+pub tried-before : (state : FlowState) (l : LeafName) → tried_at state ≡ Some l → (leaf l).before ≡ state
+tried-before flow.BeforeHeadingAtx HeadingAtx e = refl
+tried-before flow.BeforeThematicBreak ThematicBreak e = refl
+tried-before _ _ e = cc
+
+-- and has its place in the table
+pub leaf-fits : (l : LeafName) → LeafFits flow_table_scheme l
+leaf-fits HeadingAtx = record {
+  own = heading_scheme;
+  starts = fits flow_owner (leaf HeadingAtx).start;
+  level = omega arith;
+  ready = λ x K is. is;
+  front = fits flow_owner (n.Flow (leaf HeadingAtx).before);
+  next = fits flow_owner (n.Flow (next_of HeadingAtx));
+  falls = omega arith;
+  next_low = omega arith;
+  behind_low = omega arith;
+}
+leaf-fits ThematicBreak = record {
+  own = break_scheme;
+  starts = fits flow_owner (leaf ThematicBreak).start;
+  level = omega arith;
+  ready = λ x K is. is;
+  front = fits flow_owner (n.Flow (leaf ThematicBreak).before);
+  next = fits flow_owner (n.Flow (next_of ThematicBreak));
+  falls = omega arith;
+  next_low = omega arith;
+  behind_low = omega arith;
+}
+
+-- what is left at these states: at its first state what its trial leaves,
+pub leaf-starts : (options : ParseOptions) (next : Rule) (l : LeafName) (cells : List Cell) (h : Here) →
+    flow_behaves_by options next (leaf l).start cells h ≡ (leaf l).trial options cells h
+leaf-starts options next HeadingAtx cells h = refl
+leaf-starts options next ThematicBreak cells h = refl
+
+-- in front of it what it leaves, and those that are tried behind it,
+pub left-before : (options : ParseOptions) (next : Rule) (l : LeafName) (cells : List Cell) (h : Here) →
+    leaves_behave options next (leaf l).before cells h ≡ leaves_of options next (l ∷ behind l) cells h
+left-before options next HeadingAtx cells h = refl
+left-before options next ThematicBreak cells h = refl
+
+-- and in front of the next what these leave
+pub left-next : (options : ParseOptions) (next : Rule) (l : LeafName) (cells : List Cell) (h : Here) →
+    leaves_behave options next (next_of l) cells h ≡ leaves_of options next (behind l) cells h
+left-next options next HeadingAtx cells h = refl
+left-next options next ThematicBreak cells h = refl
+
 -- Resolvers.
 
 -- they pass events where nothing begins that is their own
@@ -67,3 +158,95 @@ outside-passes xs ys h = heading-passes xs ys h
 -- nothing of this stands in front of a line
 pub front-own : (name : Name) → is_front name ≡ true → is_own name ≡ false
 front-own name h = front-heading name h
+
+-- Containers.
+
+pub container-laws : (k : ContainerKind) → ContainerLaws k (container_rules k)
+container-laws kind.BlockQuote = quote-laws
+
+-- what the table has of one: its states have their place in it, and what is left at them is what is asked of it
+pub record ContainerStates (k : ContainerKind) : Type 1 where
+  pub begins : ContainerFits flow_table_scheme (container_rules k).start
+  pub begins_is : (options : ParseOptions) (next : Rule) (cells : List Cell) (h : Here) →
+      flow_behaves_by options next (container_rules k).start cells h ≡ (container_rules k).begins options cells h
+  pub goes_on : ContainerFits flow_table_scheme (container_rules k).further
+  pub goes_on_is : (options : ParseOptions) (next : Rule) (cells : List Cell) (h : Here) →
+      flow_behaves_by options next (container_rules k).further cells h ≡ (container_rules k).continues options cells h
+
+pub container-states : (k : ContainerKind) → ContainerStates k
+container-states kind.BlockQuote = record {
+  begins = quote_at its.Start (λ x K rest ends. (rest, ends));
+  begins_is = λ options next cells h. refl;
+  goes_on = quote_at its.ContStart (λ x K rest ends. (rest, ends));
+  goes_on_is = λ options next cells h. refl;
+}
+  where
+    quote_at : (state : QuoteState) → ((x : Spot) (K : After) → IsRest x.scratch → EndsLater IsRest IsRest x K → quote_scheme.ready (n.BlockQuote state) x K) →
+        ContainerFits flow_table_scheme (n.BlockQuote state)
+    quote_at state ready = record { own = quote_scheme; starts = fits flow_owner (n.BlockQuote state); level = omega arith; ready = ready }
+
+-- Of the containers of the line definition it alone opens, where the others are off.
+
+item-off : (options : ParseOptions) (interrupting : Bool) (r : Rest) → options.constructs.list_item ≡ false → opens_item options interrupting r ≡ None
+unfolding opens_item
+item-off options interrupting r off = rw off refl
+
+footnote-off : (options : ParseOptions) (r : Rest) → options.constructs.gfm_footnote_definition ≡ false → opens_footnote options r ≡ None
+unfolding opens_footnote
+footnote-off options r off = rw off refl
+
+pub opens-found : (options : ParseOptions) (interrupting : Bool) (r : Rest) → IsBuilt options → opens options interrupting r ≡ (container_rules new_kind).found options interrupting r
+opens-found options interrupting r built =
+    ap (λ (o : Option Taken). option_or (opens_quote options r) (option_or o (opens_footnote options r))) (item-off options interrupting r built.list_item)
+    ∙ ap (λ (o : Option Taken). option_or (opens_quote options r) o) (footnote-off options r built.gfm_footnote_definition)
+    ∙ go (opens_quote options r)
+  where
+    go : (o : Option Taken) → option_or o None ≡ o
+    go None = refl
+    go (Some t) = refl
+
+-- States.
+
+pub white_fits : WhiteFits flow_table_scheme
+white_fits = record { each = λ state. fits flow_owner (n.SpaceOrTab state) }
+
+break_fits : BreakFits flow_table_scheme
+break_fits = record { white = white_fits; each = λ state. fits flow_owner (n.ThematicBreak state) }
+
+heading_fits : HeadingFits flow_table_scheme
+heading_fits = record { white = white_fits; each = λ state. fits flow_owner (n.HeadingAtx state) }
+
+quote_fits : QuoteFits flow_table_scheme
+quote_fits = record { white = white_fits; each = λ state. fits flow_owner (n.BlockQuote state) }
+
+pub white_has : (options : ParseOptions) (next : Rule) → HasWhite (flow_behaves_by options next)
+white_has options next = record { each = λ _ _ _. refl }
+
+-- each state keeps what its table needs,
+pub construct-does : (is_name : ResolveName → ResolveName → Bool) (name : StateName) (w : World) → w.current ≡ looks w →
+    (construct_owner name).ready name (spot w) (after_all flow_table_scheme w.frames) →
+    Does flow_table_scheme name w (construct_transition is_name name w)
+construct-does is_name (n.BlockQuote state) w c at = quote_does flow_table_scheme state w quote_fits c at
+construct-does is_name (n.HeadingAtx state) w c at =
+    heading_does flow_table_scheme (is_name r.HeadingAtx) state w heading_fits c at
+construct-does is_name (n.ThematicBreak state) w c at = break_does flow_table_scheme state w break_fits c at
+construct-does is_name name w c at = absurd at
+
+-- takes one step of what it means,
+pub construct-steps : (is_name : ResolveName → ResolveName → Bool) (feed : Feed) (next : Rule) (name : StateName) (w : World) → Sees feed w →
+    (construct_owner name).ready name (spot w) (after_all flow_table_scheme w.frames) →
+    Steps (flow_behaves_by w.setting.options next) feed (Next name) w (construct_transition is_name name w).to (construct_transition is_name name w).world
+construct-steps is_name feed next (n.BlockQuote state) w s at =
+    quote_steps _ feed state w (record { white = white_has w.setting.options next; each = λ _ _ _. refl }) s
+construct-steps is_name feed next (n.HeadingAtx state) w s at =
+    heading_steps _ feed (is_name r.HeadingAtx) state w _ (record { white = white_has w.setting.options next; each = λ _ _ _. refl }) s at
+construct-steps is_name feed next (n.ThematicBreak state) w s at =
+    break_steps _ feed state w _ (record { white = white_has w.setting.options next; each = λ _ _ _. refl }) s at
+construct-steps is_name feed next name w s at = absurd at
+
+-- and keeps what is known of resolvers
+pub construct-registers : (name : StateName) (w : World) → Registers w → Registers (construct_transition same_name name w).world
+construct-registers (n.BlockQuote state) w h = quote-registers state w h
+construct-registers (n.HeadingAtx state) w h = heading-registers state w h
+construct-registers (n.ThematicBreak state) w h = break-registers state w h
+construct-registers _ w h = h

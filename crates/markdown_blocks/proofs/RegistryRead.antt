@@ -1,14 +1,22 @@
--- The containers that flow reads: the one place of the frame's proofs that says which.
-use Rattle.std.proofs.Common.{◌≡◌, ℕ, zero, suc, List, [], ◌∷◌, ◌++◌, drop, map}
+-- The containers that flow reads: those that are built.
+use Rattle.std.proofs.Common.{◌≡◌, ℕ, zero, suc, List, [], ◌∷◌, ◌++◌, drop, map, sym, subst}
 use Rattle.std.specs.Prelude.{Option, Some, None}
+use Rattle.md_engine.specs.declared.tokenizer.container.ContainerKind.{ContainerKind}
+use Rattle.md_seam.specs.Events.Spelled.{Shape}
 use Rattle.md_seam.specs.Standard.Containers.{Taken}
-use Rattle.md_seam.specs.Standard.State.{Container, InFootnote, InItem, InQuote}
-use Rattle.markdown_blocks.specs.ContainerKinds.{shape_of}
+use Rattle.md_seam.specs.Standard.State.{Container}
+use Rattle.markdown_blocks.specs.Registry.{IsOf, kind_of, shape_of}
 
--- one of them; there are only quotes yet
+-- one of them has a kind
+abbrev pub HasKind : Option ContainerKind → Type 0
+HasKind None = ⊥
+HasKind (Some k) = Unit {0}
+
 abbrev pub IsRead : Container → Type 0
-IsRead InQuote = Unit {0}
-IsRead container = ⊥
+IsRead c = HasKind (kind_of (shape_of c))
+
+pub of-read : (k : ContainerKind) (c : Container) → IsOf k c → IsRead c
+of-read k c is = subst HasKind (sym is) tt
 
 -- all of these are
 abbrev pub AreRead : List Container → Type 0
@@ -31,21 +39,15 @@ pub read-front : (cs ds : List Container) → AreRead (cs ++ ds) → AreRead cs
 read-front [] ds h = tt
 read-front (c ∷ cs) ds h = (h.0, read-front cs ds h.1)
 
--- a container of the same shape is one of them, for the events tell which it is
-shape-read : (c d : Container) → shape_of c ≡ shape_of d → IsRead d → IsRead c
-shape-read InQuote d e h = tt
-shape-read (InItem digits marker width starts_blank) InQuote e h = cc
-shape-read (InFootnote label) InQuote e h = cc
-shape-read c d e h = absurd h
-
--- so it is with all of them
+-- containers of the same shapes, for the events tell which they are
 pub shapes-read : (cs ds : List Container) → map shape_of cs ≡ map shape_of ds → AreRead ds → AreRead cs
 shapes-read [] ds e h = tt
 shapes-read (c ∷ cs) [] e h = cc
 shapes-read (c ∷ cs) (d ∷ ds) e h =
     let first : shape_of c ≡ shape_of d = cc in
     let rest : map shape_of cs ≡ map shape_of ds = cc in
-    (shape-read c d first h.0, shapes-read cs ds rest h.1)
+    let P : Shape → Type 0 = λ s. HasKind (kind_of s) in
+    (subst P (sym first) h.0, shapes-read cs ds rest h.1)
 
 -- what a container takes of a line, if it does, is of one of them
 abbrev pub IsReadTaken : Option Taken → Type 0

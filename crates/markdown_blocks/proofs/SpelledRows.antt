@@ -15,9 +15,8 @@ use Rattle.md_seam.specs.Standard.State.{At, Container, Kept, Leaf, NoLeaf, Path
 use Rattle.md_seam.specs.Standard.Step.{spot_of, step, steps}
 use Rattle.md_seam.specs.Standard.Tree.{Block, Blocks, End}
 use Rattle.md_seam.proofs.SpelledLemmas.{Between, QuietOrPrefix, Roles, read-between, read-from, read-prefixes}
-use Rattle.markdown_blocks.specs.Registry.{text_leaf}
+use Rattle.markdown_blocks.specs.Registry.{container_name, shape_of, text_leaf}
 use Rattle.markdown_blocks.specs.Change.{Change, ends_of, is_none}
-use Rattle.markdown_blocks.specs.ContainerKinds.{container_name, shape_of}
 use Rattle.markdown_blocks.specs.Fed.{last_leaves, close_containers, rests_from}
 use Rattle.markdown_blocks.specs.Fronted.{Contained, contained, rest_from, rest_line}
 use Rattle.markdown_blocks.specs.Parsed.{IsBuilt}
@@ -34,7 +33,7 @@ use Rattle.markdown_blocks.proofs.RowLeaf.{block_of, row-facts}
 use Rattle.markdown_blocks.proofs.SpelledParagraphs.{IsRead, read-lines, read-more, read-one}
 use Rattle.markdown_blocks.proofs.PrefixFacts.{begins}
 use Rattle.markdown_blocks.proofs.PrefixNames.{prefixes-roles}
-use Rattle.markdown_blocks.proofs.ContainerNames.{read-end, shape-block}
+use Rattle.markdown_blocks.proofs.ContainerNames.{container-facts}
 
 -- The ends and begins of containers.
 
@@ -56,7 +55,7 @@ close_containers-all options outer (At s) = refl
 close_containers-all options outer (Within before container p) =
     close_containers-one (length (containers_of p)) (reading_on options (around_of container before ∷ outer) p)
     ∙ ap (λ (r : Reading). left r.outer r) (close_containers-all options (around_of container before ∷ outer) p)
-    ∙ ap (λ (b : Block). record { outer = outer; here = then_block before b; leaf = None; text = None }) (shape-block container (closed options p))
+    ∙ ap (λ (b : Block). record { outer = outer; here = then_block before b; leaf = None; text = None }) ((container-facts container).block (closed options p))
 
 -- The containers of a path are read as these, of which some stay and the others close. One that stays may have changed, but for
 -- what the events tell.
@@ -209,7 +208,7 @@ read-ends : (bytes : List ℕ) (cs : List Container) (p : Point) (r : Reading) �
 read-ends bytes [] p r = refl
 read-ends bytes (c ∷ cs) p r =
     let inner : Reading = close_containers (length cs) r in
-    read-from bytes r inner (ends_of cs p) (exit (container_name c) p ∷ []) (read-ends bytes cs p r) ∙ read-end bytes c p inner ∙ sym (close_containers-one (length cs) r)
+    read-from bytes r inner (ends_of cs p) (exit (container_name c) p ∷ []) (read-ends bytes cs p r) ∙ (container-facts c).read_end bytes p inner ∙ sym (close_containers-one (length cs) r)
 
 ending-between : (name : Name) (row : Row) → Between (role name) → Roles Between (ending_events name row)
 ending-between name row h = go row.after

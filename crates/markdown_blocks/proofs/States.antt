@@ -19,12 +19,11 @@ use Rattle.md_leaves.proofs.BlankGoods.{BlankFits, blank_does}
 use Rattle.md_seam.proofs.SpacesGoods.{Does, white_does}
 use Rattle.markdown_blocks.specs.Document.{document_own_transition}
 use Rattle.markdown_blocks.specs.Flow.{before_transition, flow_own_transition, leaf_transition}
-use Rattle.markdown_blocks.specs.Registry.{LeafName, trials}
+use Rattle.markdown_blocks.specs.Registry.{LeafName, front_of, new_kind, trials, tried_at}
 use Rattle.markdown_blocks.specs.States.{flow_owner, flow_table_scheme, flow_transition, leaf_owner}
-use Rattle.markdown_blocks.specs.Table.{front_of, tried_at}
 use Rattle.markdown_blocks.proofs.Goods as goods
 use Rattle.markdown_blocks.proofs.Goods.{FlowFits}
-use Rattle.markdown_blocks.proofs.TableLaws.{construct-does, container-fits, goes_on-fits, leaf-fits, tried-before, white_fits}
+use Rattle.markdown_blocks.proofs.Registry.{construct-does, container-states, leaf-fits, tried-before, white_fits}
 
 blank_fits : BlankFits flow_table_scheme
 blank_fits = record { white = white_fits; each = λ state. fits flow_owner (n.BlankLine state) }
@@ -53,10 +52,10 @@ containers_do : (state : DocumentState) (w : World) → w.current ≡ looks w �
     stands flow_table_scheme w (Next (n.Document state)) →
     Does flow_table_scheme (n.Document state) w (document_own_transition state w)
 containers_do document.ContainerExistingBefore w c at =
-    goods.good_existing_before flow_table_scheme w _ flow_fits goes_on-fits at
+    goods.good_existing_before flow_table_scheme w _ flow_fits (λ k. (container-states k).goes_on) at
 containers_do document.ContainerExistingAfter w c at = goods.good_existing_after flow_table_scheme w flow_fits at
 containers_do document.ContainerNewBefore w c at =
-    goods.good_new_before flow_table_scheme w flow_fits container-fits at
+    goods.good_new_before flow_table_scheme w flow_fits (container-states new_kind).begins at
 containers_do document.ContainerNewAfter w c at = goods.good_new_after flow_table_scheme w flow_fits at
 containers_do document.ContainersAfter w c at = goods.good_containers_after flow_table_scheme w flow_fits at
 containers_do document.FlowEnd w c at = goods.good_flow_end flow_table_scheme w w.current flow_fits at (sym c)

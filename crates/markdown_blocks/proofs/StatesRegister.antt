@@ -27,7 +27,7 @@ use Rattle.markdown_blocks.specs.Flow as flow
 use Rattle.markdown_blocks.specs.LineFlags.{ending_name, next_container, stays}
 use Rattle.markdown_blocks.specs.States.{flow_transition}
 use Rattle.markdown_blocks.proofs.Registers.{Registers, adds, adds-content, closed-registers}
-use Rattle.markdown_blocks.proofs.TableLaws.{construct-registers}
+use Rattle.markdown_blocks.proofs.Registry.{construct-registers}
 use Rattle.markdown_blocks.specs.Document.{document_own_transition}
 
 blank-start : (w : World) (b : Bool) → Registers w → Registers (blank.start_code w b).world

@@ -15,7 +15,7 @@ use Rattle.md_seam.specs.Standard.Preamble.{has_mark}
 use Rattle.md_seam.specs.Standard.State.{Container}
 use Rattle.md_seam.specs.Events.Tiles.{end_point}
 use Rattle.md_seam.proofs.InlineLemmas.{same-refl}
-use Rattle.markdown_blocks.specs.Registry.{text_leaf}
+use Rattle.markdown_blocks.specs.Registry.{container_name, text_leaf}
 use Rattle.markdown_blocks.specs.Change.{ends_of}
 use Rattle.markdown_blocks.specs.Document.{body_point, mark_end, mark_events}
 use Rattle.markdown_blocks.specs.Fronted.{contained, rest_from, rest_line}
@@ -27,7 +27,6 @@ use Rattle.markdown_blocks.proofs.FrontStands.{fronts-tiled}
 use Rattle.markdown_blocks.proofs.Text.Places.{chunk-tiled}
 use Rattle.markdown_blocks.proofs.RowLeaf.{row-facts}
 use Rattle.markdown_blocks.proofs.RowFacts.{AreRows, IsLine, behind_line}
-use Rattle.markdown_blocks.specs.ContainerKinds.{container_name}
 
 -- Lines.
 

@@ -15,8 +15,7 @@ use Rattle.md_engine.specs.World.{World, closed}
 use Rattle.md_seam.specs.Spaces.{rest_ready}
 use Rattle.md_seam.specs.Transition.{Transition, entered, exited, taken, tried}
 use Rattle.markdown_blocks.specs.LineFlags.{begun_line, blanked, ending_name, next_container, next_line, stays, went_on, with_container}
-use Rattle.markdown_blocks.specs.Registry.{LeafName, new_kind, trials}
-use Rattle.markdown_blocks.specs.Table.{first_container, front_of, goes_on_with, next_of, rank_of, start_of, tried_at, tries_of}
+use Rattle.markdown_blocks.specs.Registry.{LeafName, first_container, front_of, goes_on_with, leaf, new_kind, next_of, rank_of, trials, tried_at, tries_of}
 
 -- What is tried.
 
@@ -34,7 +33,7 @@ blank_line_before_transition w = trial_transition (s.BlankLine blank_line.Start)
 
 -- in front of a leaf
 abbrev pub before_transition : LeafName → World → Transition
-before_transition l w = trial_transition (start_of l) (Next (s.Flow flow.After)) (Next (s.Flow (next_of l))) w
+before_transition l w = trial_transition (leaf l).start (Next (s.Flow flow.After)) (Next (s.Flow (next_of l))) w
 
 abbrev pub before_content_transition : World → Transition
 before_content_transition w = trial_transition (s.Content content.ChunkStart) (Next (s.Flow flow.After)) Nok w

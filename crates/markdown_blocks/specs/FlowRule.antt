@@ -15,8 +15,7 @@ use Rattle.md_engine.specs.World.{Flags, closed_events, kept}
 use Rattle.md_content.specs.ChunkRule.{HasChunk, chunk_at}
 use Rattle.md_leaves.specs.BlankRule.{HasBlank, blank_at}
 use Rattle.md_seam.specs.Events.Nested.{pair}
-use Rattle.markdown_blocks.specs.Registry.{LeafName, continues_at, leaf, new_container_at, new_kind, trials}
-use Rattle.markdown_blocks.specs.Table.{behind, first_container, goes_on_with, start_of, tried_at}
+use Rattle.markdown_blocks.specs.Registry.{LeafName, behind, continues_at, first_container, goes_on_with, leaf, new_container_at, new_kind, trials, tried_at}
 use Rattle.markdown_blocks.specs.LineFlags.{begun_line, blanked, ending_name, next_container, next_line, stays, went_on, with_container}
 
 -- how the rest of a text ends from a place
@@ -132,7 +131,7 @@ leaves_behave options next state cells h = leaf_behaves options next (tried_at s
 pub record HasFlow (B : Behaviour) (options : ParseOptions) (next : Rule) : Type 0 where
   pub blank : HasBlank B
   pub chunk : HasChunk B
-  pub starts : (l : LeafName) (cells : List Cell) (h : Here) → B (start_of l) cells h ≡ (leaf l).trial options cells h
+  pub starts : (l : LeafName) (cells : List Cell) (h : Here) → B (leaf l).start cells h ≡ (leaf l).trial options cells h
   pub opens : (cells : List Cell) (h : Here) → B first_container cells h ≡ new_container_at options cells h
   pub goes_on : (k : ContainerKind) (cells : List Cell) (h : Here) → B (goes_on_with k) cells h ≡ continues_at options k cells h
   pub containers : (state : DocumentState) (cells : List Cell) (h : Here) → B (s.Document state) cells h ≡ containers_behave options next state cells h

@@ -4,16 +4,15 @@ pub mod States
 pub mod Parsed
 pub mod Resolved
 pub mod FlowRule
-pub mod ContainerKinds
 pub mod Change
 pub mod MarkRuns
 pub mod Passed
+pub mod ContainerRules
 pub mod Containers
 pub mod LineLeaf
 pub mod TextLeaf
 pub mod Leaf
 pub mod Registry
-pub mod Table
 pub mod Rows
 pub mod Fronted
 pub mod Stands

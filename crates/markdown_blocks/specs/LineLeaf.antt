@@ -6,11 +6,16 @@ use Rattle.std.specs.Prelude.{ℕ, Bool, List}
 use Rattle.md_engine.specs.declared.configuration.ParseOptions.{ParseOptions}
 use Rattle.md_engine.specs.declared.event.Event.{Event}
 use Rattle.md_engine.specs.declared.event.Point.{Point}
+use Rattle.md_engine.specs.declared.state.Name.{Name as StateName}
+use Rattle.md_engine.specs.declared.state.flow.State.{State as FlowState}
 use Rattle.md_engine.specs.Meaning.{Cell, Here, Outcome}
 use Rattle.md_seam.specs.Standard.Rest.{Rest}
 use Rattle.md_seam.specs.Standard.Tree.{Block}
 
 pub record LineLeaf : Type 0 where
+  -- Its first state, and the state of flow in front of it.
+  pub start : StateName
+  pub before : FlowState
   -- By the cells of the rest of a line: what is left of it at its first state, whether it takes the line, and then which events it adds.
   pub trial : ParseOptions → List Cell → Here → Outcome
   pub takes : ParseOptions → List Cell → Bool

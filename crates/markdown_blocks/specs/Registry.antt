@@ -1,23 +1,40 @@
--- The constructs that are built, and their order: the one place of the frame that names them.
-use Rattle.std.specs.Prelude.{Bool, ◌&&◌, if◌then◌else◌, List, [], ◌∷◌, Option, Some, None}
+-- The constructs that are built, and their order: the one place of the frame's definitions that names them.
+use Rattle.std.specs.Prelude.{◌≡◌, refl, Bool, ℕ, suc, ◌+◌, ◌*◌, nat_lt, true, ◌==◌, if◌then◌else◌, List, [], ◌∷◌, length, Option, Some, None}
 use Rattle.md_engine.specs.declared.configuration.ParseOptions.{ParseOptions}
 use Rattle.md_engine.specs.declared.event.Event.{Event}
-use Rattle.md_engine.specs.declared.event.Point.{Point}
-use Rattle.md_engine.specs.declared.tokenizer.container.ContainerKind.{ContainerKind}
-use Rattle.md_engine.specs.declared.tokenizer.container.ContainerKind.TheVariants as kind
-use Rattle.md_engine.specs.Meaning.{Cell, Here, Outcome}
-use Rattle.md_containers.specs.QuoteRule.{prefix_at, quote_at, takes_prefix}
-use Rattle.md_leaves.specs.HeadingText.{headings_resolved, is_heading}
-use Rattle.md_seam.specs.Standard.State.{Container, InQuote}
-use Rattle.markdown_blocks.specs.Containers.BlockQuote.{quote_new, quote_on}
-use Rattle.markdown_blocks.specs.Passed.{Passed}
 use Rattle.md_engine.specs.declared.event.Name.{Name}
+use Rattle.md_engine.specs.declared.event.Name.TheVariants as n
+use Rattle.md_engine.specs.declared.event.Point.{Point}
 use Rattle.md_engine.specs.declared.resolve.name.Name.{Name as ResolveName}
 use Rattle.md_engine.specs.declared.resolve.name.Name.TheVariants as r
+use Rattle.md_engine.specs.declared.state.Name.{Name as StateName}
+use Rattle.md_engine.specs.declared.state.Name.TheVariants as s
+use Rattle.md_engine.specs.declared.state.flow.State.{State as FlowState}
+use Rattle.md_engine.specs.declared.state.flow.State.TheVariants as flow
+use Rattle.md_engine.specs.declared.state.State.TheVariants.{Nok}
+use Rattle.md_engine.specs.declared.tokenizer.container.Container.{Container as Held}
+use Rattle.md_engine.specs.declared.tokenizer.container.ContainerKind.{ContainerKind}
+use Rattle.md_engine.specs.declared.tokenizer.container.ContainerKind.TheVariants as kind
+use Rattle.md_engine.specs.Meaning.{Behaviour, Cell, Here, Outcome, Refuses}
+use Rattle.md_engine.specs.Scheme.{Rank, Scheme, nowhere, ranked}
+use Rattle.md_engine.specs.World.{World}
+use Rattle.md_containers.specs.Quote.{quote_scheme, quote_transition}
+use Rattle.md_containers.specs.QuoteRule.{quote_behaves}
+use Rattle.md_leaves.specs.Break.{break_scheme, break_transition}
+use Rattle.md_leaves.specs.BreakRule.{break_behaves}
+use Rattle.md_leaves.specs.Heading.{heading_scheme, heading_transition}
+use Rattle.md_leaves.specs.HeadingRule.{heading_behaves}
+use Rattle.md_leaves.specs.HeadingText.{headings_resolved, is_heading}
+use Rattle.md_seam.specs.Events.Spelled.{FootnoteShape, ItemShape, OrderedShape, QuoteShape, Shape, UnorderedShape}
+use Rattle.md_seam.specs.Standard.State.{Container, InFootnote, InItem, InQuote}
+use Rattle.md_seam.specs.Transition.{Transition}
+use Rattle.markdown_blocks.specs.ContainerRules.{ContainerRules}
+use Rattle.markdown_blocks.specs.Containers.BlockQuote.{quote_rules}
 use Rattle.markdown_blocks.specs.Leaf.HeadingAtx.{heading_leaf}
-use Rattle.markdown_blocks.specs.Leaf.ThematicBreak.{break_leaf}
 use Rattle.markdown_blocks.specs.Leaf.Paragraph.{paragraph_leaf}
+use Rattle.markdown_blocks.specs.Leaf.ThematicBreak.{break_leaf}
 use Rattle.markdown_blocks.specs.LineLeaf.{LineLeaf}
+use Rattle.markdown_blocks.specs.Passed.{Passed}
 use Rattle.markdown_blocks.specs.TextLeaf.{TextLeaf}
 
 -- Leaves on one line.
@@ -38,6 +55,47 @@ trials = HeadingAtx ∷ ThematicBreak ∷ []
 abbrev pub first_of : (LeafName → Bool) → List LeafName → Option LeafName
 first_of test [] = None
 first_of test (l ∷ ls) = if test l then Some l else first_of test ls
+
+-- the leaf that is tried at a state of flow; at no other is one
+abbrev pub tried_at : FlowState → Option LeafName
+tried_at flow.BeforeHeadingAtx = Some HeadingAtx
+tried_at flow.BeforeThematicBreak = Some ThematicBreak
+tried_at _ = None
+
+-- a number by which each is known
+abbrev pub number : LeafName → ℕ
+number HeadingAtx = 0
+number ThematicBreak = 1
+
+-- the leaves that are tried behind one, where it has not taken the line
+abbrev pub behind_in : ℕ → List LeafName → List LeafName
+behind_in k [] = []
+behind_in k (l ∷ ls) = if number l == k then ls else behind_in k ls
+
+abbrev pub behind : LeafName → List LeafName
+behind l = behind_in (number l) trials
+
+-- the state in front of the first of these, and in front of content where none is left
+abbrev pub front_of : List LeafName → FlowState
+front_of [] = flow.BeforeContent
+front_of (l ∷ ls) = (leaf l).before
+
+abbrev pub next_of : LeafName → FlowState
+next_of l = front_of (behind l)
+
+-- how far it is from the next byte: by how many are tried behind it
+abbrev pub weight : LeafName → ℕ
+weight l = 6 + 2 * length (behind l)
+
+abbrev pub low_weight : (l : LeafName) → (nat_lt (weight l) 64 ≡ true) × (nat_lt (suc (weight l)) 64 ≡ true)
+low_weight HeadingAtx = (refl, refl)
+low_weight ThematicBreak = (refl, refl)
+
+abbrev pub rank_of : LeafName → Rank
+rank_of l = ranked (weight l) (low_weight l).0
+
+abbrev pub tries_of : LeafName → Rank
+tries_of l = ranked (suc (weight l)) (low_weight l).1
 
 -- Lines of text.
 
@@ -62,26 +120,88 @@ resolved_by _ events = events
 abbrev pub resolved : List Event → List Event
 resolved events = resolved_by resolver events
 
--- Containers, by what is left at their states.
+-- Containers: those of the line definition, built or not, and what the events tell of one.
 
--- what is asked of one on a further line,
-abbrev pub continues_at : ParseOptions → ContainerKind → List Cell → Here → Outcome
-continues_at options kind.BlockQuote cells h = prefix_at options cells h
+-- the width of an item, and whether it started blank, they do not tell
+abbrev pub shape_of : Container → Shape
+shape_of InQuote = QuoteShape
+shape_of (InItem digits marker width starts_blank) = ItemShape marker digits
+shape_of (InFootnote label) = FootnoteShape label
 
--- and of one that may open, of this kind
-abbrev pub new_container_at : ParseOptions → List Cell → Here → Outcome
-new_container_at options cells h = quote_at options cells h
+-- the name of the events of what has this shape
+abbrev pub shape_name : Shape → Name
+shape_name QuoteShape = n.BlockQuote
+shape_name OrderedShape = n.ListOrdered
+shape_name UnorderedShape = n.ListUnordered
+shape_name (ItemShape marker digits) = n.ListItem
+shape_name (FootnoteShape label) = n.GfmFootnoteDefinition
 
+abbrev pub container_name : Container → Name
+container_name c = shape_name (shape_of c)
+
+-- Containers that are built, by the kind as which the tokenizer holds them.
+
+abbrev pub kind_of : Shape → Option ContainerKind
+kind_of QuoteShape = Some kind.BlockQuote
+kind_of _ = None
+
+abbrev pub container_rules : ContainerKind → ContainerRules
+container_rules kind.BlockQuote = quote_rules
+
+-- the one that may open
 abbrev pub new_kind : ContainerKind
 new_kind = kind.BlockQuote
 
--- Containers, by the cells of a line.
+-- a container of this kind
+abbrev pub IsOf : ContainerKind → Container → Type 0
+IsOf k c = kind_of (shape_of c) ≡ Some k
 
--- whether an open container goes on
-abbrev pub goes_at : ParseOptions → Container → List Cell → Point → Option Passed
-goes_at options InQuote cells p = if takes_prefix options cells then Some (quote_on options cells p) else None
-goes_at options container cells p = None
+-- A container that the tokenizer holds is this one: it is of its kind, and holds what the events do not tell.
+abbrev pub MatchesContainer : Held → Container → Type 0
+MatchesContainer held c = IsOf held.kind c × (container_rules held.kind).holds held c
 
--- the container that opens, if one does, where it would interrupt text or not
+-- the first state of the one that may open, and what is left there,
+abbrev pub first_container : StateName
+first_container = (container_rules new_kind).start
+
+abbrev pub new_container_at : ParseOptions → List Cell → Here → Outcome
+new_container_at options cells h = (container_rules new_kind).begins options cells h
+
+-- and the same of the state in front of the prefix of one on a further line
+abbrev pub goes_on_with : ContainerKind → StateName
+goes_on_with k = (container_rules k).further
+
+abbrev pub continues_at : ParseOptions → ContainerKind → List Cell → Here → Outcome
+continues_at options k cells h = (container_rules k).continues options cells h
+
+-- by the cells of a line, the container that opens, if one does,
 abbrev pub opens_at : ParseOptions → Bool → List Cell → Point → Option Passed
-opens_at options interrupting cells p = if options.constructs.block_quote && takes_prefix options cells then Some (quote_new options cells p) else None
+opens_at options interrupting cells p = (container_rules new_kind).opens options interrupting cells p
+
+-- and an open one, if it goes on
+abbrev pub goes_by : ParseOptions → Container → List Cell → Point → Option ContainerKind → Option Passed
+goes_by options c cells p None = None
+goes_by options c cells p (Some k) = (container_rules k).goes options c cells p
+
+abbrev pub goes_at : ParseOptions → Container → List Cell → Point → Option Passed
+goes_at options c cells p = goes_by options c cells p (kind_of (shape_of c))
+
+-- States: which construct has each, what each does, and what is left at it; `is_name` finds a resolver among those that are registered.
+
+abbrev pub construct_owner : StateName → Scheme
+construct_owner (s.BlockQuote state) = quote_scheme
+construct_owner (s.HeadingAtx state) = heading_scheme
+construct_owner (s.ThematicBreak state) = break_scheme
+construct_owner _ = nowhere
+
+abbrev pub construct_transition : (ResolveName → ResolveName → Bool) → StateName → World → Transition
+construct_transition is_name (s.BlockQuote state) w = quote_transition state w
+construct_transition is_name (s.HeadingAtx state) w = heading_transition (is_name r.HeadingAtx) state w
+construct_transition is_name (s.ThematicBreak state) w = break_transition state w
+construct_transition is_name _ w = record { to = Nok; world = w }
+
+abbrev pub construct_behaves : ParseOptions → Behaviour
+construct_behaves options (s.BlockQuote state) cells h = quote_behaves options state cells h
+construct_behaves options (s.HeadingAtx state) cells h = heading_behaves options state cells h
+construct_behaves options (s.ThematicBreak state) cells h = break_behaves options state cells h
+construct_behaves options _ cells h = Refuses h.scratch h.flags

@@ -1,7 +1,7 @@
 -- What stands between two lines: what was read of the text, what the tokenizer knows, and what is open by the line definition.
 --
 -- The events before a line, without the ends of the containers that the line closes, spell the finished blocks, and the open leaf
--- as if it ended there. What is still open, and may go on, is told by the flags. What the tokenizer holds of a container is said in `ContainerKinds`. Items are
+-- as if it ended there. What is still open, and may go on, is told by the flags. What the tokenizer holds of a container is said in `Registry`. Items are
 -- meant as they stand before their resolver puts lists around them. A leaf of several lines (fenced code, HTML, a table) will add
 -- what its scratch holds.
 use Rattle.std.specs.Prelude.{◌≡◌, Bool, List, [], ◌∷◌, None}
@@ -9,7 +9,7 @@ use Rattle.md_engine.specs.declared.configuration.ParseOptions.{ParseOptions}
 use Rattle.md_engine.specs.declared.tokenizer.container.Container.{Container as Held}
 use Rattle.md_engine.specs.World.{Flags}
 use Rattle.md_seam.specs.Events.Spelled.{Around, Reading}
-use Rattle.markdown_blocks.specs.ContainerKinds.{MatchesContainer, shape_of}
+use Rattle.markdown_blocks.specs.Registry.{MatchesContainer, shape_of}
 use Rattle.md_seam.specs.Standard.State.{At, Container, Leaf, NoLeaf, Path, Within, closed, shut, spot}
 use Rattle.markdown_blocks.specs.Leaf.Paragraph.{IsOpenText}
 use Rattle.md_seam.specs.Standard.Step.{is_open_text}

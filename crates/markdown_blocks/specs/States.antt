@@ -23,8 +23,7 @@ use Rattle.md_seam.specs.Transition.{Transition}
 use Rattle.markdown_blocks.specs.Document.{document_own_transition}
 use Rattle.markdown_blocks.specs.Flow.{flow_own_transition, flow_scheme}
 use Rattle.markdown_blocks.specs.FlowRule.{Rule, containers_behave, flow_at, leaves_behave}
-use Rattle.markdown_blocks.specs.Registry.{LeafName}
-use Rattle.markdown_blocks.specs.Table.{construct_behaves, construct_owner, construct_transition, tried_at}
+use Rattle.markdown_blocks.specs.Registry.{LeafName, construct_behaves, construct_owner, construct_transition, tried_at}
 
 -- the states in front of the lines stand in the table of the document; no tokenizer stands at those that are not built
 abbrev pub containers_owner : DocumentState → Scheme

@@ -14,8 +14,8 @@ use Rattle.md_seam.specs.Standard.State.{InQuote}
 use Rattle.md_seam.proofs.FeedLines.{Stops}
 use Rattle.md_seam.proofs.RestCells.{RestAt, past_rest, rest_cells}
 use Rattle.md_seam.proofs.TextsLemmas.{NoEnding}
-use Rattle.markdown_blocks.specs.Containers.BlockQuote.{quote_new, quote_on}
-use Rattle.markdown_blocks.specs.Registry.{goes_at, opens_at}
+use Rattle.markdown_blocks.specs.Containers.BlockQuote.{quote_new, quote_on, quote_rules}
+use Rattle.markdown_blocks.specs.Passed.{Passed}
 use Rattle.markdown_blocks.proofs.PassedFacts.{Agree, HasFurther, HasOpening, HasPassed}
 use Rattle.markdown_blocks.proofs.BlockQuote.Facts.{quote-continues, quote-opens}
 use Rattle.md_engine.specs.declared.event.Name.TheVariants as n
@@ -33,47 +33,54 @@ quote-passes options line text past r end stop cells p es t h e has = record {
   shorter = let lt = has.shorter in omega arith;
 }
 
--- a quote goes on
-pub quote-goes : (options : ParseOptions) (line : Line) (text past : List ℕ) (r : Rest) (stop : List Cell) (p : Point) → RestAt text past r p → NoEnding r.bytes → Stops stop → length (rest_cells line r p ++ stop) < 2 ^ 63 →
-    Agree (HasFurther line text past p (past_rest r p) stop (rest_cells line r p ++ stop)) (goes_at options InQuote (rest_cells line r p ++ stop) p) (quote_taken options r)
-quote-goes options line text past r stop p is h k short = go (quote_taken options r) refl (prefix-agrees options line text past r stop p is k short)
+-- a quote goes on or opens by the cells where its prefix stands by the bytes
+by-prefix : (Has : Passed → Taken → Type 0) (passed : Passed) (options : ParseOptions) (line : Line) (text past : List ℕ) (r : Rest) (stop : List Cell) (p : Point) →
+    ((t : Taken) → quote_taken options r ≡ Some t → HasPrefix options line text past (past_rest r p) stop (rest_cells line r p ++ stop) p t.rest → Has passed t) →
+    RestAt text past r p → Stops stop → length (rest_cells line r p ++ stop) < 2 ^ 63 →
+    Agree Has (cond (takes_prefix options (rest_cells line r p ++ stop)) (Some passed) None) (quote_taken options r)
+by-prefix Has passed options line text past r stop p found is k short = go (quote_taken options r) refl (prefix-agrees options line text past r stop p is k short)
   where
     cells : List Cell
     cells = rest_cells line r p ++ stop
 
     By : Bool → Option Taken → Type 0
-    By x taken = Agree (HasFurther line text past p (past_rest r p) stop cells) (cond x (Some (quote_on options cells p)) None) taken
+    By x taken = Agree Has (cond x (Some passed) None) taken
 
     go : (taken : Option Taken) → quote_taken options r ≡ taken → PrefixIs options line text past (past_rest r p) stop cells p taken → By (takes_prefix options cells) taken
     go None e none = subst (λ (x : Bool). By x None) (sym none) tt
-    go (Some t) e has =
-        subst (λ (x : Bool). By x (Some t)) (sym has.takes)
-        (record { passes = quote-passes options line text past r (past_rest r p) stop cells p (prefix_events options cells p) t h e has; further = quote-continues text p (prefix_end options cells p) (prefix_events options cells p) has.prefix })
+    go (Some t) e has = subst (λ (x : Bool). By x (Some t)) (sym has.takes) (found t e has)
+
+-- a quote goes on
+pub quote-goes : (options : ParseOptions) (line : Line) (text past : List ℕ) (r : Rest) (stop : List Cell) (p : Point) → RestAt text past r p → NoEnding r.bytes → Stops stop → length (rest_cells line r p ++ stop) < 2 ^ 63 →
+    Agree (HasFurther line text past p (past_rest r p) stop (rest_cells line r p ++ stop)) (cond (takes_prefix options (rest_cells line r p ++ stop)) (Some (quote_on options (rest_cells line r p ++ stop) p)) None) (quote_taken options r)
+quote-goes options line text past r stop p is h k short =
+    by-prefix (HasFurther line text past p (past_rest r p) stop cells) (quote_on options cells p) options line text past r stop p
+    (λ t e has. record { passes = quote-passes options line text past r (past_rest r p) stop cells p (prefix_events options cells p) t h e has; further = quote-continues text p (prefix_end options cells p) (prefix_events options cells p) has.prefix }) is k short
+  where
+    cells : List Cell
+    cells = rest_cells line r p ++ stop
 
 -- a quote opens, if quotes are on
 pub quote-begins : (options : ParseOptions) (interrupting : Bool) (line : Line) (text past : List ℕ) (r : Rest) (stop : List Cell) (p : Point) → RestAt text past r p → NoEnding r.bytes → Stops stop → length (rest_cells line r p ++ stop) < 2 ^ 63 →
-    Agree (HasOpening line text past p (past_rest r p) stop (rest_cells line r p ++ stop)) (opens_at options interrupting (rest_cells line r p ++ stop) p) (opens_quote options r)
+    Agree (HasOpening line text past p (past_rest r p) stop (rest_cells line r p ++ stop)) (quote_rules.opens options interrupting (rest_cells line r p ++ stop) p) (opens_quote options r)
 unfolding opens_quote
 quote-begins options interrupting line text past r stop p is h k short = on options.constructs.block_quote
   where
     cells : List Cell
     cells = rest_cells line r p ++ stop
 
-    By : Bool → Option Taken → Type 0
-    By x taken = Agree (HasOpening line text past p (past_rest r p) stop cells) (cond x (Some (quote_new options cells p)) None) taken
+    Has : Passed → Taken → Type 0
+    Has passed taken = HasOpening line text past p (past_rest r p) stop cells passed taken
 
-    go : (taken : Option Taken) → quote_taken options r ≡ taken → PrefixIs options line text past (past_rest r p) stop cells p taken → By (takes_prefix options cells) taken
-    go None e none = subst (λ (x : Bool). By x None) (sym none) tt
-    go (Some t) e has =
-        subst (λ (x : Bool). By x (Some t)) (sym has.takes)
-        (record {
-          passes = quote-passes options line text past r (past_rest r p) stop cells p (enter n.BlockQuote p ∷ prefix_events options cells p) t h e has;
-          inside = prefix_events options cells p;
-          events = refl;
-          opening = quote-opens text p (prefix_end options cells p) (prefix_events options cells p) has.prefix;
-          fewer = has.shorter;
-        })
+    opening : (t : Taken) → quote_taken options r ≡ Some t → HasPrefix options line text past (past_rest r p) stop cells p t.rest → Has (quote_new options cells p) t
+    opening t e has = record {
+      passes = quote-passes options line text past r (past_rest r p) stop cells p (enter n.BlockQuote p ∷ prefix_events options cells p) t h e has;
+      inside = prefix_events options cells p;
+      events = refl;
+      opening = quote-opens text p (prefix_end options cells p) (prefix_events options cells p) has.prefix;
+      fewer = has.shorter;
+    }
 
-    on : (x : Bool) → By (x && takes_prefix options cells) (cond x (quote_taken options r) None)
-    on true = go (quote_taken options r) refl (prefix-agrees options line text past r stop p is k short)
+    on : (x : Bool) → Agree Has (cond (x && takes_prefix options cells) (Some (quote_new options cells p)) None) (cond x (quote_taken options r) None)
+    on true = by-prefix Has (quote_new options cells p) options line text past r stop p opening is k short
     on false = tt

@@ -1,52 +1,50 @@
 -- What is tried for a block quote: its prefix is taken where its cells say so, and takes a cell at least.
-use Rattle.std.proofs.Common.{◌≡◌, ◌<◌, Bool, true, false, cond, ◌&&◌, List, length, Some, None, refl, ◌∙◌, ap, arith}
+use Rattle.std.proofs.Common.{◌≡◌, Bool, true, false, cond, ◌&&◌, List, length, Some, None, refl, ◌∙◌, subst}
 use Rattle.std.proofs.lemmas.Bool.{and_parts}
 use Rattle.md_engine.specs.declared.configuration.ParseOptions.{ParseOptions}
 use Rattle.md_engine.specs.declared.event.Point.{Point}
+use Rattle.md_engine.specs.declared.tokenizer.container.ContainerKind.TheVariants as kind
 use Rattle.md_engine.specs.Meaning.{Accepts, Cell, Here, Refuses}
-use Rattle.md_containers.specs.QuoteRule.{prefix_at, prefix_rest, quote_at, takes_prefix}
+use Rattle.md_containers.specs.QuoteRule.{prefix_at, quote_at, takes_prefix}
 use Rattle.md_seam.specs.Spaces.{IsRest}
-use Rattle.md_seam.specs.Standard.State.{InQuote}
-use Rattle.markdown_blocks.specs.Containers.BlockQuote.{quote_new, quote_on}
+use Rattle.markdown_blocks.specs.Containers.BlockQuote.{quote_new, quote_on, quote_rules}
 use Rattle.markdown_blocks.specs.Passed.{Passed, passed_by, passed_here}
-use Rattle.markdown_blocks.specs.Registry.{goes_at, opens_at}
+use Rattle.markdown_blocks.proofs.BlockQuote.Cells.{quote-front}
+use Rattle.markdown_blocks.proofs.ContainerLaws.{IsPassed}
 use Rattle.md_containers.proofs.QuoteCells.{prefix-is, prefix-shorter, quote-is}
+
+-- what stands here, if it does, is taken, and else refused
+tried-if : (x : Bool) (u : Passed) (h : Here) → cond x (Accepts (passed_here u h) u.cells) (Refuses h.scratch h.flags) ≡ passed_by (cond x (Some u) None) h
+tried-if true u h = refl
+tried-if false u h = refl
+
+-- what is taken, if anything is, stands here
+taken-if : (x : Bool) (u t : Passed) → cond x (Some u) None ≡ Some t → (x ≡ true) × (u ≡ t)
+taken-if true u t e = let same : u ≡ t = cc in (refl, same)
+taken-if false u t e = cc
 
 -- on a further line,
 pub prefix-tried : (options : ParseOptions) (cells : List Cell) (h : Here) → IsRest h.scratch →
-    prefix_at options cells h ≡ passed_by (goes_at options InQuote cells h.point) h
-prefix-tried options cells h is = prefix-is options cells h is ∙ go (takes_prefix options cells)
-  where
-    go : (x : Bool) → cond x (Accepts (passed_here (quote_on options cells h.point) h) (prefix_rest options cells)) (Refuses h.scratch h.flags) ≡ passed_by (cond x (Some (quote_on options cells h.point)) None) h
-    go true = refl
-    go false = refl
+    prefix_at options cells h ≡ passed_by (cond (takes_prefix options cells) (Some (quote_on options cells h.point)) None) h
+prefix-tried options cells h is = prefix-is options cells h is ∙ tried-if (takes_prefix options cells) (quote_on options cells h.point) h
 
-pub prefix-taken : (options : ParseOptions) (cells : List Cell) (p : Point) (t : Passed) → goes_at options InQuote cells p ≡ Some t →
-    (InQuote ≡ t.container) × (length t.cells < length cells)
-prefix-taken options cells p t e = go (takes_prefix options cells) refl e
-  where
-    go : (x : Bool) → takes_prefix options cells ≡ x → cond x (Some (quote_on options cells p)) None ≡ Some t → (InQuote ≡ t.container) × (length t.cells < length cells)
-    go true takes e =
-        let same : quote_on options cells p ≡ t = cc in
-        (ap (λ (x : Passed). x.container) same, omega (arith, prefix-shorter options cells takes, ap (λ (x : Passed). length x.cells) same))
-    go false takes e = cc
+pub prefix-passed : (options : ParseOptions) (cells : List Cell) (p : Point) (t : Passed) →
+    cond (takes_prefix options cells) (Some (quote_on options cells p)) None ≡ Some t → IsPassed kind.BlockQuote cells t
+prefix-passed options cells p t e =
+    let is = taken-if (takes_prefix options cells) (quote_on options cells p) t e in
+    subst (IsPassed kind.BlockQuote cells) is.1
+    (record { one = refl; shorter = prefix-shorter options cells is.0; front = quote-front options cells p })
 
 -- and where one opens
 pub quote-tried : (options : ParseOptions) (interrupting : Bool) (cells : List Cell) (h : Here) → IsRest h.scratch →
-    quote_at options cells h ≡ passed_by (opens_at options interrupting cells h.point) h
-quote-tried options interrupting cells h is = quote-is options cells h is ∙ go (options.constructs.block_quote && takes_prefix options cells)
-  where
-    go : (x : Bool) → cond x (Accepts (passed_here (quote_new options cells h.point) h) (prefix_rest options cells)) (Refuses h.scratch h.flags) ≡ passed_by (cond x (Some (quote_new options cells h.point)) None) h
-    go true = refl
-    go false = refl
+    quote_at options cells h ≡ passed_by (quote_rules.opens options interrupting cells h.point) h
+quote-tried options interrupting cells h is =
+    quote-is options cells h is ∙ tried-if (options.constructs.block_quote && takes_prefix options cells) (quote_new options cells h.point) h
 
-pub quote-taken : (options : ParseOptions) (interrupting : Bool) (cells : List Cell) (p : Point) (t : Passed) → opens_at options interrupting cells p ≡ Some t →
-    (InQuote ≡ t.container) × (length t.cells < length cells)
-quote-taken options interrupting cells p t e = go (options.constructs.block_quote && takes_prefix options cells) refl e
-  where
-    go : (x : Bool) → (options.constructs.block_quote && takes_prefix options cells) ≡ x → cond x (Some (quote_new options cells p)) None ≡ Some t → (InQuote ≡ t.container) × (length t.cells < length cells)
-    go true takes e =
-        let same : quote_new options cells p ≡ t = cc in
-        let more = prefix-shorter options cells (and_parts options.constructs.block_quote (takes_prefix options cells) takes).1 in
-        (ap (λ (x : Passed). x.container) same, omega (arith, more, ap (λ (x : Passed). length x.cells) same))
-    go false takes e = cc
+pub quote-passed : (options : ParseOptions) (interrupting : Bool) (cells : List Cell) (p : Point) (t : Passed) →
+    quote_rules.opens options interrupting cells p ≡ Some t → IsPassed kind.BlockQuote cells t
+quote-passed options interrupting cells p t e =
+    let is = taken-if (options.constructs.block_quote && takes_prefix options cells) (quote_new options cells p) t e in
+    let takes = (and_parts options.constructs.block_quote (takes_prefix options cells) is.0).1 in
+    subst (IsPassed kind.BlockQuote cells) is.1
+    (record { one = refl; shorter = prefix-shorter options cells takes; front = (refl, refl, quote-front options cells p) })

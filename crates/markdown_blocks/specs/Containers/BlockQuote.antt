@@ -1,18 +1,45 @@
 -- Block quotes (CommonMark 5.1), as containers of a line.
-use Rattle.std.specs.Prelude.{◌∷◌, List}
+use Rattle.std.specs.Prelude.{◌∷◌, ◌&&◌, if◌then◌else◌, List, Some, None}
 use Rattle.md_engine.specs.declared.configuration.ParseOptions.{ParseOptions}
 use Rattle.md_engine.specs.declared.event.Name.TheVariants as n
 use Rattle.md_engine.specs.declared.event.Point.{Point}
+use Rattle.md_engine.specs.declared.state.Name.TheVariants as s
+use Rattle.md_engine.specs.declared.state.block_quote.State.TheVariants as its
 use Rattle.md_engine.specs.Meaning.{Cell}
-use Rattle.md_containers.specs.QuoteRule.{prefix_end, prefix_events, prefix_rest}
+use Rattle.md_containers.specs.QuoteRule.{prefix_at, prefix_end, prefix_events, prefix_rest, quote_at, takes_prefix}
 use Rattle.md_seam.specs.Events.Nested.{enter}
+use Rattle.md_seam.specs.Standard.Containers.{opens_quote}
 use Rattle.md_seam.specs.Standard.State.{InQuote}
+use Rattle.markdown_blocks.specs.ContainerRules.{ContainerRules}
 use Rattle.markdown_blocks.specs.Passed.{Passed}
 
 -- a quote that goes on
 abbrev pub quote_on : ParseOptions → List Cell → Point → Passed
-quote_on options cells p = record { container = InQuote; events = prefix_events options cells p; cells = prefix_rest options cells; point = prefix_end options cells p }
+quote_on options cells p = record {
+  container = InQuote;
+  events = prefix_events options cells p;
+  cells = prefix_rest options cells;
+  point = prefix_end options cells p;
+}
 
 -- one that opens
 abbrev pub quote_new : ParseOptions → List Cell → Point → Passed
-quote_new options cells p = record { container = InQuote; events = enter n.BlockQuote p ∷ prefix_events options cells p; cells = prefix_rest options cells; point = prefix_end options cells p }
+quote_new options cells p = record {
+  container = InQuote;
+  events = enter n.BlockQuote p ∷ prefix_events options cells p;
+  cells = prefix_rest options cells;
+  point = prefix_end options cells p;
+}
+
+-- it needs nothing: its kind tells all of it
+abbrev pub quote_rules : ContainerRules
+quote_rules = record {
+  start = s.BlockQuote its.Start;
+  begins = λ options cells h. quote_at options cells h;
+  further = s.BlockQuote its.ContStart;
+  continues = λ options cells h. prefix_at options cells h;
+  opens = λ options interrupting cells p. if options.constructs.block_quote && takes_prefix options cells then Some (quote_new options cells p) else None;
+  goes = λ options c cells p. if takes_prefix options cells then Some (quote_on options cells p) else None;
+  found = λ options interrupting r. opens_quote options r;
+  holds = λ held c. Unit {0};
+}

@@ -3,6 +3,9 @@ use Rattle.std.specs.Prelude.{ℕ, ◌&&◌, List, [], ◌∷◌, ◌++◌, drop
 use Rattle.md_engine.specs.declared.event.Event.{Event}
 use Rattle.md_engine.specs.declared.event.Name.TheVariants as n
 use Rattle.md_engine.specs.declared.event.Point.{Point}
+use Rattle.md_engine.specs.declared.state.Name.TheVariants as s
+use Rattle.md_engine.specs.declared.state.flow.State.TheVariants as flow
+use Rattle.md_engine.specs.declared.state.heading_atx.State.TheVariants as its
 use Rattle.md_leaves.specs.HeadingRule.{Apart, heading_at, heading_inside, is_heading, is_heading_line}
 use Rattle.md_leaves.specs.HeadingTitle.{Title, line_runs, title_of, unread_title}
 use Rattle.md_seam.specs.declared.inline.Chunk.{Chunk}
@@ -38,6 +41,8 @@ heading_around line p inside = around n.HeadingAtx p (past_text line p) inside
 
 abbrev pub heading_leaf : LineLeaf
 heading_leaf = record {
+  start = s.HeadingAtx its.Start;
+  before = flow.BeforeHeadingAtx;
   trial = heading_at;
   takes = is_heading_line;
   adds = λ options cells p. around n.HeadingAtx p (line_end cells p) (heading_inside options cells p);

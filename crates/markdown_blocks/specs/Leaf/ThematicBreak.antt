@@ -4,6 +4,9 @@ use Rattle.md_engine.specs.declared.configuration.ParseOptions.{ParseOptions}
 use Rattle.md_engine.specs.declared.event.Event.{Event}
 use Rattle.md_engine.specs.declared.event.Name.TheVariants as n
 use Rattle.md_engine.specs.declared.event.Point.{Point}
+use Rattle.md_engine.specs.declared.state.Name.TheVariants as s
+use Rattle.md_engine.specs.declared.state.flow.State.TheVariants as flow
+use Rattle.md_engine.specs.declared.state.thematic_break.State.TheVariants as its
 use Rattle.md_engine.specs.Meaning.{Cell}
 use Rattle.md_leaves.specs.BreakRule.{Apart, break_at, runs}
 use Rattle.md_seam.specs.Ahead.{begins_white, line_bytes, line_cells, line_end, white_end, white_rest}
@@ -49,6 +52,8 @@ break_line line p = around n.ThematicBreak p (past_text line p) (mark_runs n.The
 
 abbrev pub break_leaf : LineLeaf
 break_leaf = record {
+  start = s.ThematicBreak its.Start;
+  before = flow.BeforeThematicBreak;
   trial = break_at;
   takes = is_break;
   adds = λ options cells p. around n.ThematicBreak p (line_end cells p) (break_inside options cells p);

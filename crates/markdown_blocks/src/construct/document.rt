@@ -18,7 +18,7 @@ ghost use Rattle.md_engine.specs.declared.state.document.State.{State as Documen
 ghost use Rattle.markdown_blocks.specs.Flow.{containers_after_transition, existing_after_transition, existing_before_transition, flow_end_transition, new_after_transition, new_before_transition};
 ghost use Rattle.markdown_blocks.specs.LineFlags.{ending_name, next_container, stays};
 ghost use Rattle.markdown_blocks.specs.Document.{before_frontmatter_transition, document_own_transition, document_table_scheme, document_transition, start_transition};
-ghost use Rattle.markdown_blocks.specs.Table.{goes_on_with};
+ghost use Rattle.markdown_blocks.specs.Registry.{goes_on_with};
 ghost use Rattle.md_seam.specs.Transition.{IsAt, NeedsNothing};
 
 use crate::resolve;

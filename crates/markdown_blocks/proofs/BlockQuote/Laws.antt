@@ -1,0 +1,44 @@
+-- The laws of block quotes, as containers.
+use Rattle.std.proofs.Common.{◌≡◌, Bool, true, false, cond, refl, sym, ap, ◌∙◌, List, [], ◌++◌}
+use Rattle.std.specs.Prelude.{None, Some, Option}
+use Rattle.md_engine.specs.declared.tokenizer.container.ContainerKind.{ContainerKind}
+use Rattle.md_engine.specs.declared.tokenizer.container.ContainerKind.TheVariants as kind
+use Rattle.md_containers.specs.QuoteRule.{takes_prefix}
+use Rattle.md_containers.proofs.QuoteShorter.{prefix-shortens, quote-shortens}
+use Rattle.md_seam.specs.Standard.Containers.{continues}
+use Rattle.md_seam.specs.Standard.Preamble.{rest_at}
+use Rattle.md_seam.specs.Standard.State.{Container, InFootnote, InItem, InQuote, container_block}
+use Rattle.md_seam.proofs.RestCells.{past_rest, rest_cells}
+use Rattle.markdown_blocks.specs.Containers.BlockQuote.{quote_on, quote_rules}
+use Rattle.markdown_blocks.specs.Registry.{IsOf, kind_of, shape_of}
+use Rattle.markdown_blocks.proofs.BlockQuote.Fronts.{quote-begins, quote-goes}
+use Rattle.markdown_blocks.proofs.BlockQuote.Tree.{no_quote-empty, opens-quote, simple-quote}
+use Rattle.markdown_blocks.proofs.BlockQuote.Trial.{prefix-passed, prefix-tried, quote-passed, quote-tried}
+use Rattle.markdown_blocks.proofs.ContainerLaws.{ContainerLaws}
+use Rattle.markdown_blocks.proofs.PassedFacts.{Agree, HasFurther}
+use Rattle.markdown_blocks.proofs.SimpleBlocks.{IsSimple}
+
+-- what holds of a quote holds of each container of its kind
+each-quote : (P : Container → Type 0) → P InQuote → (c : Container) → IsOf kind.BlockQuote c → P c
+each-quote P h InQuote is = h
+each-quote P h (InItem digits marker width starts_blank) is = cc
+each-quote P h (InFootnote label) is = cc
+
+pub quote-laws : ContainerLaws kind.BlockQuote quote_rules
+quote-laws = record {
+  begins_is = λ options interrupting cells h rest. quote-tried options interrupting cells h rest;
+  continues_is = λ options held c cells h rest is holds. prefix-tried options cells h rest;
+  begins_shorter = λ options cells h. quote-shortens options cells h;
+  continues_shorter = λ options cells h. prefix-shortens options cells h;
+  opened = λ options interrupting cells p t e. quote-passed options interrupting cells p t e;
+  went = λ options c cells p t is e. prefix-passed options cells p t e;
+  held_new = λ options interrupting cells p t e. tt;
+  held_on = λ options held c cells p t holds e. tt;
+  opens_agrees = λ options interrupting line text past r stop p at none stops short. quote-begins options interrupting line text past r stop p at none stops short;
+  goes_agrees = λ options line text past c r stop p is at none stops short.
+      each-quote (λ d. Agree (HasFurther line text past p (past_rest r p) stop (rest_cells line r p ++ stop)) (quote_rules.goes options d (rest_cells line r p ++ stop) p) (continues options d r))
+      (quote-goes options line text past r stop p at none stops short) c is;
+  found_one = λ options interrupting r t e. ap (λ (c : Container). kind_of (shape_of c)) (opens-quote options r t e);
+  empty_ends = λ options c column is. each-quote (λ d. continues options d (rest_at column []) ≡ None) (no_quote-empty options column) c is;
+  simple = λ c bs is simple. each-quote (λ d. IsSimple (container_block d bs)) (simple-quote bs simple) c is;
+}
