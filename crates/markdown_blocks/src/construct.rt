@@ -2,6 +2,7 @@
 
 pub mod document;
 pub mod flow;
+pub mod registry;
 
 pub use md_containers::block_quote;
 pub use md_content::{content, paragraph};

@@ -6,12 +6,12 @@ ghost use Rattle.md_engine.specs.Found.{found_in};
 ghost use Rattle.md_engine.specs.World.{world};
 ghost use Rattle.markdown_blocks.specs.Resolved.{resolved_as};
 
+use crate::construct::registry;
 use md_content::content;
 use md_engine::message::Message;
 pub use md_engine::resolve::Name;
 use md_engine::subtokenize::Subresult;
 use md_engine::tokenizer::Tokenizer;
-use md_leaves::heading_atx;
 
 /// Runs the resolver of this name; changes nothing for names of the inline layer.
 ///
@@ -23,7 +23,6 @@ pub fn call(tokenizer: &mut Tokenizer, name: Name) -> Result<Option<Subresult>, 
 {
     match name {
         Name::Content => content::resolve(tokenizer),
-        Name::HeadingAtx => heading_atx::resolve(tokenizer),
-        _ => Ok(None),
+        _ => registry::resolve(tokenizer, name),
     }
 }

@@ -18,22 +18,21 @@ ghost use Rattle.md_engine.specs.declared.state.document.State.{State as Documen
 ghost use Rattle.markdown_blocks.specs.Flow.{containers_after_transition, existing_after_transition, existing_before_transition, flow_end_transition, new_after_transition, new_before_transition};
 ghost use Rattle.markdown_blocks.specs.LineFlags.{ending_name, next_container, stays};
 ghost use Rattle.markdown_blocks.specs.Document.{before_frontmatter_transition, document_own_transition, document_table_scheme, document_transition, start_transition};
-ghost use Rattle.markdown_blocks.specs.Registry.{goes_on_with};
 ghost use Rattle.md_seam.specs.Transition.{IsAt, NeedsNothing};
 
+use crate::construct::registry;
 use crate::resolve;
 use md_engine::event::Name;
 use md_engine::message::Message;
 use md_engine::or_error;
 use md_engine::resolve::Name as ResolveName;
-use md_engine::state::block_quote::State as QuoteState;
 use md_engine::state::bom::State as BomState;
 use md_engine::state::document::State as DocumentState;
 use md_engine::state::flow::State as FlowState;
 use md_engine::state::{Name as StateName, State};
 use md_engine::subtokenize::Subresult;
 use md_engine::table::Table;
-use md_engine::tokenizer::{Container, ContainerKind, Flags, Tokenizer};
+use md_engine::tokenizer::{Container, Flags, Tokenizer};
 use md_leaves::partial_bom;
 
 /// At the start of the text: before a byte order mark, if there is one.
@@ -75,15 +74,6 @@ fn next_container(tokenizer: &Tokenizer) -> Option<Container>
     tokenizer.containers.get(tokenizer.flags.continued).copied()
 }
 
-/// The state in front of the prefix of a container on a further line.
-fn goes_on_with(kind: ContainerKind) -> StateName
-    ensures { result ≡ goes_on_with kind }
-{
-    match kind {
-        ContainerKind::BlockQuote => StateName::BlockQuote(QuoteState::ContStart),
-    }
-}
-
 /// At the begin of a line, or behind the prefix of a container that went on: before the next one that is open.
 ///
 /// ```markdown
@@ -103,7 +93,7 @@ pub fn container_existing_before(tokenizer: &mut Tokenizer) -> State
                 State::Next(StateName::Document(DocumentState::ContainerExistingAfter)),
                 State::Next(StateName::Document(DocumentState::ContainerNewBefore))
             ));
-            State::Retry(goes_on_with(container.kind))
+            State::Retry(registry::goes_on_with(container.kind))
         }
     }
 }
@@ -141,7 +131,7 @@ pub fn container_new_before(tokenizer: &mut Tokenizer) -> State
         State::Next(StateName::Document(DocumentState::ContainerNewAfter)),
         State::Next(StateName::Document(DocumentState::ContainersAfter))
     ));
-    State::Retry(StateName::BlockQuote(QuoteState::Start))
+    State::Retry(registry::first_container())
 }
 
 /// Behind the first prefix of a container that opens: those that did not go on end before it.
@@ -162,7 +152,7 @@ pub fn container_new_after(tokenizer: &mut Tokenizer) -> State
     } = tokenizer.flags;
     or_error!(tokenizer.close(continued, line_end));
     or_error!(tokenizer.open(Container {
-        kind: ContainerKind::BlockQuote
+        kind: registry::new_kind()
     }));
     tokenizer.flags.continued = tokenizer.containers.len();
     tokenizer.flags.interrupt = false;

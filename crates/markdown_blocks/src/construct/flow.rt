@@ -16,15 +16,13 @@ ghost use Rattle.markdown_blocks.specs.Flow.{after_transition, before_content_tr
 ghost use Rattle.markdown_blocks.specs.Registry.{LeafName};
 ghost use Rattle.md_seam.specs.Transition.{IsAt, NeedsNothing};
 
-use crate::construct::document;
+use crate::construct::{document, registry};
 use crate::resolve;
-use md_containers::block_quote;
 use md_content::content;
 use md_engine::message::Message;
 use md_engine::or_error;
 use md_engine::resolve::Name as ResolveName;
 use md_engine::state::blank_line::State as BlankState;
-use md_engine::state::block_quote::State as QuoteState;
 use md_engine::state::content::State as ContentState;
 use md_engine::state::document::State as DocumentState;
 use md_engine::state::flow::State as FlowState;
@@ -34,7 +32,7 @@ use md_engine::state::{Name as StateName, State};
 use md_engine::subtokenize::Subresult;
 use md_engine::table::Table;
 use md_engine::tokenizer::Tokenizer;
-use md_leaves::{blank_line, heading_atx, thematic_break};
+use md_leaves::blank_line;
 use md_seam::space_or_tab;
 
 /// At the start of a line.
@@ -177,14 +175,11 @@ fn call_state(tokenizer: &mut Tokenizer, name: StateName) -> State
 {
     match name {
         StateName::BlankLine(state) => blank_line::call(tokenizer, state),
-        StateName::BlockQuote(state) => block_quote::call(tokenizer, state),
         StateName::Content(state) => content::call(tokenizer, state),
         StateName::Document(state) => document::call(tokenizer, state),
         StateName::Flow(state) => call(tokenizer, state),
-        StateName::HeadingAtx(state) => heading_atx::call(tokenizer, state),
         StateName::SpaceOrTab(state) => space_or_tab::call(tokenizer, state),
-        StateName::ThematicBreak(state) => thematic_break::call(tokenizer, state),
-        _ => State::Nok,
+        _ => registry::call(tokenizer, name),
     }
 }
 

@@ -1,0 +1,78 @@
+// The constructs that are built: the one place of the frame's code that names them, but for the states of flow in front of leaves.
+//
+//     container ::= block_quote
+//     leaf      ::= heading_atx | thematic_break
+//
+// What flow itself is made of (blank lines, content, whitespace) stands in its own table.
+
+ghost use Rattle.std.specs.Prelude.{◌≡◌, ◌≢◌, [], IfOk, None, OnOk};
+ghost use Rattle.std.specs.Option.{option_map};
+ghost use Rattle.md_engine.specs.Found.{found_in};
+ghost use Rattle.md_engine.specs.Scheme.{stands};
+ghost use Rattle.md_engine.specs.World.{looks, world};
+ghost use Rattle.md_engine.specs.declared.resolve.name.Name.{Name as ResolveName};
+ghost use Rattle.md_engine.specs.declared.state.State.{State};
+ghost use Rattle.markdown_blocks.specs.Registry.{construct_transition, first_container, goes_on_with, new_kind, resolved_by};
+ghost use Rattle.markdown_blocks.specs.States.{flow_table_scheme};
+
+use md_containers::block_quote;
+use md_engine::message::Message;
+use md_engine::resolve::Name as ResolveName;
+use md_engine::state::block_quote::State as QuoteState;
+use md_engine::state::{Name as StateName, State};
+use md_engine::subtokenize::Subresult;
+use md_engine::tokenizer::{ContainerKind, Tokenizer};
+use md_leaves::{heading_atx, thematic_break};
+
+/// The kind of the container that may open.
+pub fn new_kind() -> ContainerKind
+    ensures { result ≡ new_kind }
+{
+    ContainerKind::BlockQuote
+}
+
+/// The state where it may open.
+pub fn first_container() -> StateName
+    ensures { result ≡ first_container }
+{
+    StateName::BlockQuote(QuoteState::Start)
+}
+
+/// The state in front of the prefix of a container on a further line.
+pub fn goes_on_with(kind: ContainerKind) -> StateName
+    ensures { result ≡ goes_on_with kind }
+{
+    match kind {
+        ContainerKind::BlockQuote => StateName::BlockQuote(QuoteState::ContStart),
+    }
+}
+
+/// Calls a state of a construct.
+pub fn call(tokenizer: &mut Tokenizer, name: StateName) -> State
+    requires current { (world tokenizer.old).current ≡ looks (world tokenizer.old) }
+    requires stands { stands flow_table_scheme (world tokenizer.old) (State.Next name) }
+    ensures to { result ≢ State.Error → result ≡ (construct_transition (λ target other. ⟦<ResolveName as PartialEq>⟧.eq other target) name (world tokenizer.old)).to }
+    ensures world { result ≢ State.Error → world tokenizer.new ≡ (construct_transition (λ target other. ⟦<ResolveName as PartialEq>⟧.eq other target) name (world tokenizer.old)).world }
+{
+    match name {
+        StateName::BlockQuote(state) => block_quote::call(tokenizer, state),
+        StateName::HeadingAtx(state) => heading_atx::call(tokenizer, state),
+        StateName::ThematicBreak(state) => thematic_break::call(tokenizer, state),
+        _ => State::Nok,
+    }
+}
+
+/// Runs the resolver of a construct; one that has none changes nothing.
+///
+/// After an `Err`, which says that memory ran out, the parse has failed and the tokenizer is only dropped.
+pub fn resolve(tokenizer: &mut Tokenizer, name: ResolveName) -> Result<Option<Subresult>, Message>
+    requires { (world tokenizer.old).frames ≡ [] }
+    ensures frames { OnOk result ((world tokenizer.new).frames ≡ []) }
+    ensures finds { IfOk result (λ found. option_map found_in found ≡ None) }
+    ensures resolves { OnOk result (world tokenizer.new ≡ record (world tokenizer.old) { events = resolved_by name (world tokenizer.old).events }) }
+{
+    match name {
+        ResolveName::HeadingAtx => heading_atx::resolve(tokenizer),
+        _ => Ok(None),
+    }
+}
