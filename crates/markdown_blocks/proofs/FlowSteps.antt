@@ -23,12 +23,12 @@ use Rattle.md_seam.specs.Substituted.{Readings, Substituted}
 use Rattle.markdown_blocks.specs.Change.{interrupts, open_behind, others_of}
 use Rattle.markdown_blocks.specs.FlowReads.{has_text}
 use Rattle.markdown_blocks.specs.Rows.{BlankRow, Front, Held, Row, RowKind, TextRow, ending_of, held_at, in_front, inside_of, is_text, leaf_events, new_front, no_front, row_events, row_kind, rows_at, rows_by, rows_events, tail_events, went_front, LeafRow}
-use Rattle.markdown_blocks.proofs.EachEvent.{Each, each-behind, each-front}
+use Rattle.markdown_blocks.proofs.EachEvent.{Each, each-behind, each-front, joined-each}
 use Rattle.markdown_blocks.proofs.EachRow.{EachRow}
 use Rattle.markdown_blocks.specs.Registry.{is_own, goes_at, opens_at}
 use Rattle.markdown_blocks.proofs.OutsideFacts.{AreOutside, outside-append, IsNoEnd, IsOutside, NoEnds}
 use Rattle.markdown_blocks.proofs.OutsideLemmas.{front-outside, tail-outside, ending-own}
-use Rattle.markdown_blocks.proofs.Registry.{laws}
+use Rattle.markdown_blocks.proofs.Registry.{laws, text-laws}
 use Rattle.markdown_blocks.proofs.JoinedLemmas.{EachNoContent, events-no_content, front-no_content, joined-passes}
 use Rattle.markdown_blocks.proofs.SubstitutedLemmas.{keeps, keeps-each}
 use Rattle.markdown_blocks.proofs.ContentFacts.{NoContent, no_content-append, no_content-unwanted, nothing}
@@ -130,29 +130,6 @@ content-same reads rows framed quiet none =
     subst (λ (l : List Event). Substituted wants_content reads [] 0 l es) (sym same)
     (keeps wants_content reads [] 0 es (no_content-unwanted wants_content es (rows-no_content wants_content refl rows framed quiet none)))
 
--- What holds of each event wherever it stands, and of each that is read, goes on to hold.
-
--- once lines are joined
-joined-each : (P : Event → Type 0) → ((e : Event) (q : Point) → P e → P (record e { point = q })) → (es : List Event) → Each P es → Each P (joined es)
-joined-each P moves [] h = tt
-joined-each P moves (e ∷ []) h = h
-joined-each P moves (e ∷ f ∷ []) h = h
-joined-each P moves (e ∷ f ∷ g ∷ es) h = go (is_exit e.kind && is_content e.name && goes_on (f ∷ g ∷ es)) (joined-each P moves es h.1.1.1) (joined-each P moves (f ∷ g ∷ es) h.1)
-  where
-    go : (x : Bool) → Each P (joined es) → Each P (joined (f ∷ g ∷ es)) → Each P (cond x (record e { point = g.point } ∷ joined es) (e ∷ joined (f ∷ g ∷ es)))
-    go true k l = (moves e g.point h.0, k)
-    go false k l = (h.0, l)
-
--- once lines end where their chunks do
-settled-each : (P : Event → Type 0) → ((e : Event) (q : Point) → P e → P (record e { point = q })) → (chunks : List Chunk) (es : List Event) → Each P es → Each P (settled chunks es)
-settled-each P moves chunks [] h = tt
-settled-each P moves [] (e ∷ es) h = h
-settled-each P moves (chunk ∷ chunks) (e ∷ es) h = go (is_data_end e) (settled-each P moves chunks es h.1) (settled-each P moves (chunk ∷ chunks) es h.1)
-  where
-    go : (x : Bool) → Each P (settled chunks es) → Each P (settled (chunk ∷ chunks) es) → Each P (cond x (record e { point = chunk.after } ∷ settled chunks es) (e ∷ settled (chunk ∷ chunks) es))
-    go true k l = (moves e chunk.after h.0, k)
-    go false k l = (h.0, l)
-
 -- The resolvers behind that of content.
 
 -- what flow adds for a line, but for what stands around it
@@ -176,25 +153,8 @@ rows-outside (row ∷ rows) framed h =
     outside-append (row_events row) (rows_events rows) (row-outside row framed.0 (each-front (IsNoEnd is_own) (row_events row) (rows_events rows) h))
     (rows-outside rows framed.1 (each-behind (IsNoEnd is_own) (row_events row) (rows_events rows) h))
 
--- the lines of a paragraph
-lines-outside : (cells : List Cell) (p : Point) → AreOutside (line_events cells p)
-lines-outside [] p = (refl, tt)
-lines-outside (c ∷ cs) p = go (c.byte == 10) (lines-outside cs c.after)
-  where
-    go : (x : Bool) → AreOutside (line_events cs c.after) → AreOutside (cond x (exit n.Data c.after ∷ enter_link n.Data c.after text_link ∷ line_events cs c.after) (line_events cs c.after))
-    go true k = (refl, (refl, k))
-    go false k = k
-
--- what is read of content is a paragraph
-content-outside : (bytes : List ℕ) (options : ParseOptions) (chunks : List Chunk) → AreOutside (content_events bytes options chunks)
-unfolding content_events
-content-outside bytes options chunks =
-    let w : World = part_world bytes options chunks in
-    let cells : List Cell = text_feed w.setting w.point in
-    settled-each IsOutside (λ e q h. h) chunks (paragraph_over cells w.point) (refl, (refl, outside-append (line_events cells w.point) (exit n.Paragraph (point_after cells w.point) ∷ []) (lines-outside cells w.point) (refl, tt)))
-
--- so nothing of a resolver begins behind it where nothing did before
+-- so nothing of a resolver begins where content is read and nothing did before
 pub reading-outside : (bytes : List ℕ) (options : ParseOptions) (es out : List Event) → AreOutside es → Substituted wants_content (content_readings bytes options) [] 0 (joined es) out → AreOutside out
 reading-outside bytes options es out h s =
-    keeps-each IsOutside wants_content (content_readings bytes options) (λ content chunks answer is. subst (Each IsOutside) (sym is) (content-outside bytes options chunks)) [] 0 (joined es) out tt
+    keeps-each IsOutside wants_content (content_readings bytes options) (λ content chunks answer is. subst (Each IsOutside) (sym is) (text-laws.outside bytes options chunks)) [] 0 (joined es) out tt
     (joined-each IsOutside (λ e q h. h) es h) s

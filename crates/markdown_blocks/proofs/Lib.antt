@@ -39,6 +39,7 @@ pub mod RestRows
 pub mod RegistryRead
 pub mod PassedFacts
 pub mod ContainerLaws
+pub mod TextLaws
 pub mod RegistryContainers
 pub mod FrontRows
 pub mod RowLemmas

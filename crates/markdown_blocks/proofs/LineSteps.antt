@@ -20,9 +20,8 @@ use Rattle.markdown_blocks.specs.Registry.{LeafName, leaf, text_leaf}
 use Rattle.markdown_blocks.specs.Rows.{BlankRow, LeafRow, RowKind, TextRow, is_lazy, is_text, kind_of, line_kind}
 use Rattle.markdown_blocks.specs.Stands.{IsPlain, IsPlainLeaf, containers_of, is_going}
 use Rattle.markdown_blocks.specs.Leaf.Paragraph.{held_of}
-use Rattle.markdown_blocks.proofs.Paragraph.Open.{open-cases, shut-lines}
 use Rattle.markdown_blocks.proofs.ContainedLemmas.{change-opens, contained-size, lazy-opens, lazy-some}
-use Rattle.markdown_blocks.proofs.Registry.{came_of, leaf_at}
+use Rattle.markdown_blocks.proofs.Registry.{came_of, leaf_at, text-laws}
 use Rattle.markdown_blocks.proofs.RegistryFound.{starts-found, table-off, underline-off}
 
 -- Lines, one after another.
@@ -50,12 +49,12 @@ text-found : (options : ParseOptions) (bs : Blocks) (lines : List Kept) (k : Kep
     text_line options bs (k ∷ lines) r ≡ spot_by bs (k ∷ lines) r (line_kind options r)
 unfolding text_line
 text-found options bs lines k r built =
-    rw (underline-off options r built, starts-found options Text r built, shut-lines options bs (texts (k ∷ lines)) built.definition) (go (is_blank r.bytes) (leaf_at options r))
+    rw (underline-off options r built, starts-found options Text r built, text-laws.shut options bs (k ∷ lines) built.definition) (go (is_blank r.bytes) (leaf_at options r))
   where
     go : (x : Bool) (o : Option LeafName) →
         cond x (spot_of (text_leaf.behind bs (texts (k ∷ lines)))) (text_by options bs (k ∷ lines) r (came_of r o)) ≡ spot_by bs (k ∷ lines) r (cond x BlankRow (kind_of o))
     go true o = refl
-    go false (Some l) = ap (λ (x : Blocks). spot_of (then_block x ((leaf l).block r))) (shut-lines options bs (texts (k ∷ lines)) built.definition)
+    go false (Some l) = ap (λ (x : Blocks). spot_of (then_block x ((leaf l).block r))) (text-laws.shut options bs (k ∷ lines) built.definition)
     go false None = rw (table-off options bs (k ∷ lines) r built) refl
 
 -- The containers that open.
@@ -172,7 +171,7 @@ entered-new options bs t = ap (Within bs t.container) (opened-new options (lengt
 -- where all containers go on, and none opens
 leaf-stepped : (options : ParseOptions) (bs : Blocks) (leaf : Leaf) (r : Rest) → IsBuilt options → IsPlainLeaf leaf → At (leaf_line options (record { here = bs; leaf = leaf }) r) ≡ stepped options (At (record { here = bs; leaf = leaf })) [] (no_prefix r)
 leaf-stepped options bs leaf r built plain =
-    open-cases (λ (leaf : Leaf). At (leaf_line options (record { here = bs; leaf = leaf }) r) ≡ stepped options (At (record { here = bs; leaf = leaf })) [] (no_prefix r)) refl text leaf plain
+    text-laws.cases (λ (leaf : Leaf). At (leaf_line options (record { here = bs; leaf = leaf }) r) ≡ stepped options (At (record { here = bs; leaf = leaf })) [] (no_prefix r)) refl text leaf plain
   where
     by : Kept → List Kept → RowKind → Spot → Path
     by k ks kind s = cond (is_lazy true [] kind) (At (with_line bs (k ∷ ks) r)) (At s)
@@ -187,7 +186,7 @@ leaf-stepped options bs leaf r built plain =
     text k ks =
         ap At (text-found options bs ks k r built)
         ∙ go k ks (line_kind options r)
-        ∙ sym (ap (by k ks (line_kind options r)) (ap (λ (x : Blocks). fresh_line options x r) (shut-lines options bs (texts (k ∷ ks)) built.definition) ∙ fresh-found options (text_leaf.behind bs (texts (k ∷ ks))) r built))
+        ∙ sym (ap (by k ks (line_kind options r)) (ap (λ (x : Blocks). fresh_line options x r) (text-laws.shut options bs (k ∷ ks) built.definition) ∙ fresh-found options (text_leaf.behind bs (texts (k ∷ ks))) r built))
 
 -- where all containers go on
 step-at : (options : ParseOptions) (s : Spot) (r : Rest) → IsBuilt options → IsPlainLeaf s.leaf → all_continued options s r ≡ stepped options (At s) [] (all_new options (interrupts (is_open_text s.leaf) []) r)
@@ -202,7 +201,7 @@ step-at options s r built plain =
 
     free : (leaf : Leaf) → IsPlainLeaf leaf → cond (is_concrete leaf) None (opens options (is_open_text leaf) r) ≡ opens options (interrupts (is_open_text leaf) []) r
     free leaf plain =
-        open-cases (λ (leaf : Leaf). cond (is_concrete leaf) None (opens options (is_open_text leaf) r) ≡ opens options (interrupts (is_open_text leaf) []) r) refl (λ k ks. refl) leaf plain
+        text-laws.cases (λ (leaf : Leaf). cond (is_concrete leaf) None (opens options (is_open_text leaf) r) ≡ opens options (interrupts (is_open_text leaf) []) r) refl (λ k ks. refl) leaf plain
 
     go : (o : Option Taken) → all_continued_by options s r o ≡ stepped options (At s) [] (found_by options r o)
     go None = leaf-stepped options s.here s.leaf r built plain
@@ -216,7 +215,7 @@ at_spot-longer (Within before container p) lines more e = ap (Within before cont
 lazy-stepped : (options : ParseOptions) (before : Blocks) (c : Container) (p : Path) (r : Rest) → IsBuilt options → (leaf : Leaf) → (spot p).leaf ≡ leaf → IsPlainLeaf leaf →
     lazy_by options before c p r (with_lazy options leaf r) ≡
     cond (is_lazy (is_open_text leaf) [] (line_kind options r)) (Within before c (longer (renewed (containers_of p) p) (kept r ∷ []))) (At (fresh_line options (then_block before (container_block c (closed options p))) r))
-lazy-stepped options before c p r built leaf e plain = open-cases By (λ e. refl) text leaf plain e
+lazy-stepped options before c p r built leaf e plain = text-laws.cases By (λ e. refl) text leaf plain e
   where
     other : Path
     other = At (fresh_line options (then_block before (container_block c (closed options p))) r)
@@ -350,7 +349,7 @@ pub plain-longer : (p : Path) (k : Kept) (ks : List Kept) → IsPlain p → IsPl
 plain-longer (At s) k ks plain = go s.leaf plain
   where
     go : (leaf : Leaf) → IsPlainLeaf leaf → IsPlainLeaf (text_leaf.held (held_of leaf ++ k ∷ ks))
-    go leaf h = open-cases (λ (leaf : Leaf). IsPlainLeaf (text_leaf.held (held_of leaf ++ k ∷ ks))) tt (λ j js. tt) leaf h
+    go leaf h = text-laws.cases (λ (leaf : Leaf). IsPlainLeaf (text_leaf.held (held_of leaf ++ k ∷ ks))) tt (λ j js. tt) leaf h
 plain-longer (Within before container p) k ks plain = plain-longer p k ks plain
 
 plain-behind : (p : Path) (f : Blocks → Path) → ((bs : Blocks) → IsPlain (f bs)) → IsPlain (behind_path p f)

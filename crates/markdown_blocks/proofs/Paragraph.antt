@@ -1,2 +1,2 @@
--- Paragraphs: what the line definition holds of them.
-pub mod Open
+-- Paragraphs.
+pub mod Laws

@@ -41,7 +41,7 @@ use Rattle.markdown_blocks.specs.FlowRule.{Rule, leaves_behave, leaves_of}
 use Rattle.markdown_blocks.specs.Leaf.HeadingAtx.{heading_leaf}
 use Rattle.markdown_blocks.specs.Leaf.ThematicBreak.{break_leaf}
 use Rattle.markdown_blocks.specs.Parsed.{IsBuilt}
-use Rattle.markdown_blocks.specs.Registry.{HeadingAtx, LeafName, ThematicBreak, behind, construct_owner, construct_transition, container_rules, first_of, is_own, leaf, new_kind, next_of, resolved, trials, tried_at}
+use Rattle.markdown_blocks.specs.Registry.{HeadingAtx, LeafName, ThematicBreak, behind, construct_owner, construct_transition, container_rules, first_of, is_own, leaf, new_kind, next_of, resolved, text_leaf, trials, tried_at}
 use Rattle.markdown_blocks.specs.States.{flow_behaves_by, flow_owner, flow_table_scheme}
 use Rattle.markdown_blocks.proofs.BlockQuote.Laws.{quote-laws}
 use Rattle.markdown_blocks.proofs.BlockQuote.Registers.{quote-registers}
@@ -54,8 +54,10 @@ use Rattle.markdown_blocks.proofs.HeadingAtx.Outside.{front-heading, heading-pas
 use Rattle.markdown_blocks.proofs.HeadingAtx.Registers.{heading-registers}
 use Rattle.markdown_blocks.proofs.LeafLaws.{LeafLaws}
 use Rattle.markdown_blocks.proofs.OutsideFacts.{AreOutside}
+use Rattle.markdown_blocks.proofs.Paragraph.Laws.{paragraph-laws}
 use Rattle.markdown_blocks.proofs.Registers.{Registers}
 use Rattle.markdown_blocks.proofs.SimpleBlocks.{IsSimple}
+use Rattle.markdown_blocks.proofs.TextLaws.{TextLaws}
 use Rattle.markdown_blocks.proofs.ThematicBreak.Found.{break-found, break-simple}
 use Rattle.markdown_blocks.proofs.ThematicBreak.Laws.{break-laws}
 use Rattle.markdown_blocks.proofs.ThematicBreak.Registers.{break-registers}
@@ -148,6 +150,11 @@ pub left-next : (options : ParseOptions) (next : Rule) (l : LeafName) (cells : L
     leaves_behave options next (next_of l) cells h ≡ leaves_of options next (behind l) cells h
 left-next options next HeadingAtx cells h = refl
 left-next options next ThematicBreak cells h = refl
+
+-- Lines of text.
+
+pub text-laws : TextLaws text_leaf
+text-laws = paragraph-laws
 
 -- Resolvers.
 

@@ -3,7 +3,7 @@ use Rattle.std.proofs.Common.{◌≡◌, ℕ, true, List, refl, ap, ◌∙◌}
 use Rattle.std.proofs.lemmas.Bool.{and_from}
 use Rattle.md_seam.specs.Standard.Grouped.{grouped, grouped_block, with_front}
 use Rattle.md_seam.specs.Standard.State.{then_block}
-use Rattle.md_seam.specs.Standard.Tree.{Block, Blocks, End, More, Paragraph}
+use Rattle.md_seam.specs.Standard.Tree.{Block, Blocks, End, More}
 use Rattle.md_outline.specs.HeadingDepths.{are_shallow, is_shallow}
 
 pub record IsSimple (b : Block) : Type 0 where
@@ -32,6 +32,3 @@ grouped-blocks (More b bs) h =
 pub simple-then : (bs : Blocks) (b : Block) → AreSimple bs → IsSimple b → AreSimple (then_block bs b)
 simple-then End b h k = (k, tt)
 simple-then (More a bs) b h k = (h.0, simple-then bs b h.1 k)
-
-pub simple-text : (lines : List (List ℕ)) → IsSimple (Paragraph lines)
-simple-text lines = record { shallow = refl; grouped_same = refl; in_front = λ bs. refl }

@@ -26,7 +26,7 @@ use Rattle.markdown_blocks.proofs.ContainedLemmas.{contained-shapes, lazy-opens}
 use Rattle.markdown_blocks.proofs.FrontFacts.{Behind, Begins, LinePrefix, Goes}
 use Rattle.markdown_blocks.proofs.LineSteps.{behind_path, contained-lazy, contained_at, containers-step, fresh-found, going-step, goes_lazy, kept_to, lazy-text, longer, new_line, new_path, plain-step, renewed, spot_by, step-contained}
 use Rattle.markdown_blocks.specs.Leaf.Paragraph.{held_of}
-use Rattle.markdown_blocks.proofs.Paragraph.Open.{shut-lines}
+use Rattle.markdown_blocks.proofs.Registry.{text-laws}
 use Rattle.markdown_blocks.proofs.RowFacts as f
 use Rattle.markdown_blocks.proofs.LeafFacts.{shown}
 use Rattle.markdown_blocks.proofs.RowLeaf.{block_of, row-facts}
@@ -199,7 +199,7 @@ reading-longer : (options : ParseOptions) (p : Path) (k : Kept) (ks : List Kept)
 reading-longer options p k ks built none =
     ap (reading options) (longer-with p (k ∷ ks) none)
     ∙ reading-with options p (λ bs. record { here = bs; leaf = text_leaf.held (k ∷ ks) }) none
-    ∙ ap (λ (bs : Blocks). record (reading options p) { here = bs }) (shut-lines options (reading options p).here (texts (k ∷ ks)) built.definition)
+    ∙ ap (λ (bs : Blocks). record (reading options p) { here = bs }) (text-laws.shut options (reading options p).here (k ∷ ks) built.definition)
 
 -- Events.
 

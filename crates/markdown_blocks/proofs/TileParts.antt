@@ -91,14 +91,14 @@ blocks-chunks options bytes cs going p lines rows are quiet = all-chunks bytes (
 abbrev Listed : List ℕ → List Name → Point → List Group → Type 0
 Listed bytes names p gs = Under names p (listed_groups bytes gs)
 
-titled-by_groups : (bytes : List ℕ) → ByGroups bytes (Listed bytes)
-titled-by_groups bytes = record {
+listed-by_groups : (bytes : List ℕ) → ByGroups bytes (Listed bytes)
+listed-by_groups bytes = record {
   none = λ p. record { matches = tt; closed = refl; forward = tt };
   group = λ names kept p group gs o keeps on. under-group bytes names kept p group (group_unread bytes group) (listed_groups bytes gs) o keeps o.leaf.1.unread_nested on;
 }
 
 listed-nest : (options : ParseOptions) (bytes : List ℕ) (p : Point) (lines : List (List ℕ)) (rows : List Row) → AreRows options bytes [] false p lines rows → Onward p (listed_groups bytes (groups rows))
-listed-nest options bytes p lines rows are = under-none p (listed_groups bytes (groups rows)) (rows-hold bytes (Listed bytes) (titled-by_groups bytes) options p lines rows are)
+listed-nest options bytes p lines rows are = under-none p (listed_groups bytes (groups rows)) (rows-hold bytes (Listed bytes) (listed-by_groups bytes) options p lines rows are)
 
 pub blocks-nested : (options : ParseOptions) (bytes : List ℕ) (lines : List (List ℕ)) (rows : List Row) → AreRows options bytes [] false (body_point bytes) lines rows → Nested (mark_events bytes ++ listed_groups bytes (groups rows))
 blocks-nested options bytes lines rows are =

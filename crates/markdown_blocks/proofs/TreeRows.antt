@@ -24,18 +24,17 @@ use Rattle.markdown_blocks.specs.Document.{body_point, mark_end}
 use Rattle.markdown_blocks.specs.Fed.{rests_from}
 use Rattle.markdown_blocks.specs.Fronted.{Contained, Prefixed, contained, no_prefix, one_more, prefixes_new, prefixes_on}
 use Rattle.markdown_blocks.specs.Parsed.{IsBuilt}
-use Rattle.markdown_blocks.specs.Registry.{leaf}
+use Rattle.markdown_blocks.specs.Registry.{leaf, text_leaf}
 use Rattle.markdown_blocks.specs.Rows.{BlankRow, LeafRow, Row, RowKind, TextRow, groups, groups_events, is_lazy, line_kind}
 use Rattle.markdown_blocks.specs.Stands.{IsPlain, IsPlainLeaf, containers_of, is_going}
 use Rattle.markdown_blocks.proofs.ContainedLemmas.{contained-shapes}
 use Rattle.markdown_blocks.proofs.KindLemmas.{kind-starts}
-use Rattle.markdown_blocks.proofs.Paragraph.Open.{shut-lines}
 use Rattle.markdown_blocks.proofs.LineSteps.{behind_path, contained_at, fresh-found, goes_lazy, kept_to, longer, new_line, new_path, plain-step, renewed, spot_by, step-contained, step-new, stepped_on}
 use Rattle.markdown_blocks.proofs.MarkLemmas.{without-mark}
 use Rattle.markdown_blocks.proofs.RowFacts as f
 use Rattle.markdown_blocks.proofs.SpelledRows.{spelled-rows}
-use Rattle.markdown_blocks.proofs.Registry.{leaf-simple}
-use Rattle.markdown_blocks.proofs.SimpleBlocks.{AreSimple, grouped-blocks, shallow-blocks, simple-text, simple-then}
+use Rattle.markdown_blocks.proofs.Registry.{leaf-simple, text-laws}
+use Rattle.markdown_blocks.proofs.SimpleBlocks.{AreSimple, grouped-blocks, shallow-blocks, simple-then}
 use Rattle.markdown_blocks.proofs.RegistryRead.{AreRead, IsRead, IsReadTaken, read-front, shapes-read}
 use Rattle.markdown_blocks.proofs.RegistryContainers.{empty-ends, opens-read, read-simple}
 use Rattle.md_outline.specs.HeadingDepths.{are_shallow}
@@ -88,13 +87,11 @@ simple-read (Within before container p) h = (h.1, simple-read p h.2)
 
 simple-shut : (options : ParseOptions) (s : Spot) → IsBuilt options → IsPlainLeaf s.leaf → AreSimple s.here →
     AreSimple (shut options s)
-simple-shut options s built plain h = go s.leaf plain
+simple-shut options s built plain h = text-laws.cases (λ (leaf : Leaf). AreSimple (then_leaf options s.here leaf)) h text s.leaf plain
   where
-    go : (leaf : Leaf) → IsPlainLeaf leaf → AreSimple (then_leaf options s.here leaf)
-    go NoLeaf plain = h
-    go (OpenParagraph (k ∷ ks)) plain =
-        subst AreSimple (sym (shut-lines options s.here (texts (k ∷ ks)) built.definition)) (simple-then s.here (Paragraph (texts (k ∷ ks))) h (simple-text (texts (k ∷ ks))))
-    go leaf plain = absurd plain
+    text : (k : Kept) (ks : List Kept) → AreSimple (then_leaf options s.here (text_leaf.held (k ∷ ks)))
+    text k ks =
+        subst AreSimple (sym (text-laws.shut options s.here (k ∷ ks) built.definition)) (text-laws.simple s.here (texts (k ∷ ks)) h)
 
 simple-closed : (options : ParseOptions) (p : Path) → IsBuilt options → IsPlain p → HoldsSimple p →
     AreSimple (closed options p)
