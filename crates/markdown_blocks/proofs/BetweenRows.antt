@@ -1,4 +1,6 @@
 -- The events of a text stand between its characters, where only quotes, headings and breaks are on.
+use Rattle.md_engine.specs.declared.tokenizer.open_leaf.OpenLeaf.TheVariants as open_leaf
+use Rattle.md_engine.specs.declared.tokenizer.open_leaf.OpenLeaf.{OpenLeaf}
 use Rattle.std.proofs.Common.{◌≡◌, ℕ, Bool, true, false, List, [], ◌∷◌, ◌++◌, refl, sym, subst}
 use Rattle.std.specs.Prelude.{Option, Some, None}
 use Rattle.md_engine.specs.declared.configuration.ParseOptions.{ParseOptions}
@@ -10,7 +12,7 @@ use Rattle.md_seam.specs.Standard.State.{Container}
 use Rattle.md_outline.specs.Between.{is_between}
 use Rattle.markdown_blocks.specs.Change.{ends_of}
 use Rattle.markdown_blocks.specs.Fronted.{contained, rest_from, rest_line}
-use Rattle.markdown_blocks.specs.Rows.{final_row, first_row, group_done, group_events, group_kind, ending_of, Group, Lines, Row, Single, behind_row, ending_events, groups, groups_events, is_text, tail_events}
+use Rattle.markdown_blocks.specs.Rows.{leaf_behind, final_row, first_row, group_done, group_events, group_kind, ending_of, Group, Lines, Row, Single, behind_row, ending_events, groups, groups_events, is_text, tail_events}
 use Rattle.markdown_blocks.proofs.EachRow.{EachGroup, EachRow, OfGroup, groups-each, last-each}
 use Rattle.markdown_blocks.proofs.FrontStands.{fronts-between}
 use Rattle.markdown_blocks.proofs.JoinedLemmas.{behind-is, behind-none}
@@ -74,10 +76,10 @@ between-by_groups bytes = record {
 }
 
 -- Each line of a text stands so.
-pub rows-stand : (options : ParseOptions) (bytes : List ℕ) (open_before : List Container) (going : Bool) (p : Point) (lines : List (List ℕ)) (rows : List Row) → is_between bytes p.index ≡ true → AreRows options bytes open_before going p lines rows → EachRow (RowBetween bytes) rows
-rows-stand options bytes open_before going p (line ∷ []) (row ∷ []) from are =
-    let at : IsLine options bytes open_before going p line row = are.0 in
-    let rest : List ℕ = rest_line (contained options open_before going (rest_from p line)).rest in
+pub rows-stand : (options : ParseOptions) (bytes : List ℕ) (open_before : List Container) (still : OpenLeaf) (p : Point) (lines : List (List ℕ)) (rows : List Row) → is_between bytes p.index ≡ true → AreRows options bytes open_before still p lines rows → EachRow (RowBetween bytes) rows
+rows-stand options bytes open_before still p (line ∷ []) (row ∷ []) from are =
+    let at : IsLine options bytes open_before still p line row = are.0 in
+    let rest : List ℕ = rest_line (contained options open_before still (rest_from p line)).rest in
     let is : IsRow options bytes rest row = at.is in
     let end : is_between bytes row.end.index ≡ true = between-end bytes row.end.index are.3 in
     let behind : behind_row row ≡ row.end = behind-none row are.2 in
@@ -89,9 +91,9 @@ rows-stand options bytes open_before going p (line ∷ []) (row ∷ []) from are
       },
       tt,
     )
-rows-stand options bytes open_before going p (line ∷ next ∷ lines) (row ∷ below ∷ rows) from are =
-    let at : IsLine options bytes open_before going p line row = are.0 in
-    let rest : List ℕ = rest_line (contained options open_before going (rest_from p line)).rest in
+rows-stand options bytes open_before still p (line ∷ next ∷ lines) (row ∷ below ∷ rows) from are =
+    let at : IsLine options bytes open_before still p line row = are.0 in
+    let rest : List ℕ = rest_line (contained options open_before still (rest_from p line)).rest in
     let is : IsRow options bytes rest row = at.is in
     let end : is_between bytes row.end.index ≡ true = ending-before bytes row.end are.2 are.4 in
     let after : is_between bytes are.2.index ≡ true = ending-behind bytes row.end are.2 are.4 in
@@ -102,10 +104,10 @@ rows-stand options bytes open_before going p (line ∷ next ∷ lines) (row ∷ 
         end = end;
         behind = subst (λ (q : Point). is_between bytes q.index ≡ true) (sym behind) after;
       },
-      rows-stand options bytes (behind_line options open_before going p line) (is_text row.kind) are.2 (next ∷ lines) (below ∷ rows) after are.5,
+      rows-stand options bytes (behind_line options open_before still p line) (leaf_behind row.kind) are.2 (next ∷ lines) (below ∷ rows) after are.5,
     )
-rows-stand options bytes open_before going p lines rows from are = absurd are
+rows-stand options bytes open_before still p lines rows from are = absurd are
 
 -- The groups of the lines of a text stand between its characters.
-pub rows-between : (options : ParseOptions) (bytes : List ℕ) (p : Point) (lines : List (List ℕ)) (rows : List Row) → is_between bytes p.index ≡ true → AreRows options bytes [] false p lines rows → AreBetween bytes (groups_events bytes (groups rows))
-rows-between options bytes p lines rows from are = rows-hold bytes (BetweenGroups bytes) (between-by_groups bytes) options p lines rows are from (groups-each (RowBetween bytes) rows (rows-stand options bytes [] false p lines rows from are))
+pub rows-between : (options : ParseOptions) (bytes : List ℕ) (p : Point) (lines : List (List ℕ)) (rows : List Row) → is_between bytes p.index ≡ true → AreRows options bytes [] open_leaf.None p lines rows → AreBetween bytes (groups_events bytes (groups rows))
+rows-between options bytes p lines rows from are = rows-hold bytes (BetweenGroups bytes) (between-by_groups bytes) options p lines rows are from (groups-each (RowBetween bytes) rows (rows-stand options bytes [] open_leaf.None p lines rows from are))

@@ -1,4 +1,6 @@
 -- The containers of a line by its bytes: those that go on are those that were open.
+use Rattle.md_engine.specs.declared.tokenizer.open_leaf.OpenLeaf.TheVariants as open_leaf
+use Rattle.md_engine.specs.declared.tokenizer.open_leaf.OpenLeaf.{OpenLeaf}
 use Rattle.std.proofs.Common.{◌≡◌, ◌+◌, Bool, true, false, List, [], ◌∷◌, ◌++◌, length, map, refl, ap, sym, ◌∙◌, append-nil}
 use Rattle.std.specs.Prelude.{Option, Some, None}
 use Rattle.std.proofs.lemmas.List.{length-append, length-map}
@@ -31,25 +33,25 @@ on-shapes options (c ∷ cs) r = go (on-shapes options cs) (continues options c 
         ∙ ap (λ (ss : List Shape). shape_of c ∷ ss) (below t.rest)
 
 -- What stays and what ends are the containers that were open.
-pub contained-shapes : (options : ParseOptions) (cs : List Container) (going : Bool) (r : Rest) → map shape_of ((contained options cs going r).change.stays ++ (contained options cs going r).change.closes) ≡ map shape_of cs
+pub contained-shapes : (options : ParseOptions) (cs : List Container) (still : OpenLeaf) (r : Rest) → map shape_of ((contained options cs still r).change.stays ++ (contained options cs still r).change.closes) ≡ map shape_of cs
 unfolding contained
-contained-shapes options cs going r = go (is_lazy going new.containers (line_kind options new.rest))
+contained-shapes options cs still r = go (is_lazy still new.containers (line_kind options new.rest))
   where
     on : Prefixed
     on = prefixes_on options cs r
 
     new : Prefixed
-    new = prefixes_new options (interrupts going (others_of cs on.containers)) (length on.rest.bytes) on.rest
+    new = prefixes_new options (interrupts still (others_of cs on.containers)) (length on.rest.bytes) on.rest
 
     go : (x : Bool) → map shape_of ((change_by x on.containers (others_of cs on.containers) new.containers).stays ++ (change_by x on.containers (others_of cs on.containers) new.containers).closes) ≡ map shape_of cs
     go true = ap (map shape_of) (append-nil (on.containers ++ others_of cs on.containers)) ∙ on-shapes options cs r
     go false = on-shapes options cs r
 
 -- so many stay, and so many end
-pub contained-size : (options : ParseOptions) (cs : List Container) (going : Bool) (r : Rest) → length (contained options cs going r).change.stays + length (contained options cs going r).change.closes ≡ length cs
-contained-size options cs going r =
-    let c = (contained options cs going r).change in
-    sym (length-append c.stays c.closes) ∙ sym (length-map (c.stays ++ c.closes) shape_of) ∙ ap length (contained-shapes options cs going r) ∙ length-map cs shape_of
+pub contained-size : (options : ParseOptions) (cs : List Container) (still : OpenLeaf) (r : Rest) → length (contained options cs still r).change.stays + length (contained options cs still r).change.closes ≡ length cs
+contained-size options cs still r =
+    let c = (contained options cs still r).change in
+    sym (length-append c.stays c.closes) ∙ sym (length-map (c.stays ++ c.closes) shape_of) ∙ ap length (contained-shapes options cs still r) ∙ length-map cs shape_of
 
 -- What opens.
 
@@ -63,12 +65,12 @@ change-opens true went others opens = refl
 change-opens false went others opens = refl
 
 -- a line on which a container opens goes on no paragraph
-pub lazy-some : (going : Bool) (c : Container) (cs : List Container) (kind : RowKind) → is_lazy going (c ∷ cs) kind ≡ false
-lazy-some true c cs kind = refl
-lazy-some false c cs kind = refl
+pub lazy-some : (still : OpenLeaf) (c : Container) (cs : List Container) (kind : RowKind) → is_lazy still (c ∷ cs) kind ≡ false
+lazy-some open_leaf.Text c cs kind = refl
+lazy-some open_leaf.None c cs kind = refl
 
 -- on a line that goes on the open paragraph nothing opens
-pub lazy-opens : (going : Bool) (opens : List Container) (kind : RowKind) → is_lazy going opens kind ≡ true → opens ≡ []
-lazy-opens going [] kind e = refl
-lazy-opens true (c ∷ cs) kind e = cc
-lazy-opens false (c ∷ cs) kind e = cc
+pub lazy-opens : (still : OpenLeaf) (opens : List Container) (kind : RowKind) → is_lazy still opens kind ≡ true → opens ≡ []
+lazy-opens still [] kind e = refl
+lazy-opens open_leaf.Text (c ∷ cs) kind e = cc
+lazy-opens open_leaf.None (c ∷ cs) kind e = cc

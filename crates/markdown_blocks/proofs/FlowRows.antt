@@ -1,4 +1,7 @@
 -- What flow adds to the events: line by line, what the rows of the text say.
+use Rattle.markdown_blocks.specs.OpenLeaf.{takes_lazy}
+use Rattle.md_engine.specs.declared.tokenizer.open_leaf.OpenLeaf.TheVariants as open_leaf
+use Rattle.md_engine.specs.declared.tokenizer.open_leaf.OpenLeaf.{OpenLeaf}
 use Rattle.std.proofs.Common.{◌≡◌, ℕ, zero, suc, ◌+◌, ◌<◌, ◌≤◌, Bool, true, false, cond, ◌&&◌, nat_eq, List, [], ◌∷◌, ◌++◌, length, take, drop, Option, Some, None, refl, sym, ◌∙◌, ap, ap₂, subst, arith, append_assoc, append-nil, length-drop}
 use Rattle.std.specs.Prelude.{nat_lt, slice_get}
 use Rattle.std.proofs.Math.ListN.{drop_of_length-le}
@@ -26,7 +29,7 @@ use Rattle.markdown_blocks.specs.FlowRule.{Rule, behind_containers, blank_ended,
 use Rattle.markdown_blocks.specs.LineFlags.{begun_line, ending_name, next_line, stays, went_on}
 use Rattle.markdown_blocks.specs.Passed.{Passed, passed_by, passed_here}
 use Rattle.markdown_blocks.specs.Registry.{first_of, goes_at, leaf, LeafName, MatchesContainer, new_kind, opens_at, trials}
-use Rattle.markdown_blocks.specs.Rows.{BlankRow, Front, Held, LeafRow, Row, RowKind, TextRow, after_ending, closes_before, ending_of, held_at, held_by, held_of, in_front, inside_of, is_lazy, is_text, kind_of, leaf_events, new_front, no_front, row_events, row_kind, row_of, rows_at, rows_events, went_front}
+use Rattle.markdown_blocks.specs.Rows.{leaf_behind, BlankRow, Front, Held, LeafRow, Row, RowKind, TextRow, after_ending, closes_before, ending_of, held_at, held_by, held_of, in_front, inside_of, is_lazy, is_text, kind_of, leaf_events, new_front, no_front, row_events, row_kind, row_of, rows_at, rows_events, went_front}
 use Rattle.markdown_blocks.specs.Stands.{AreOpen}
 use Rattle.markdown_blocks.proofs.ContainedLemmas.{lazy-some}
 use Rattle.markdown_blocks.proofs.FromEnding.{from_ending-shrinks}
@@ -51,7 +54,7 @@ abbrev leaf_here : ParseOptions → List Cell → Here → RowKind → Here
 leaf_here options cells h k = record h {
   events = h.events ++ added_by options cells h.point k;
   point = line_end cells h.point;
-  flags = record h.flags { interrupt = is_text k; blank = blank_by k h.flags.blank };
+  flags = record h.flags { leaf = leaf_behind k; blank = blank_by k h.flags.blank };
 }
 
 -- of these leaves, the one that takes these cells
@@ -299,11 +302,11 @@ record Opened (options : ParseOptions) (next : Rule) (cs : List Container) (h : 
   point : new.point ≡ f.point
   containers : AreOpen new.flags.containers (cs ++ f.containers)
   all : new.flags.continued ≡ length new.flags.containers
-  interrupt : new.flags.interrupt ≡ false
+  leaf : new.flags.leaf ≡ open_leaf.None
   blank : new.flags.blank ≡ h.flags.blank
 
 -- none does
-opened-none : (options : ParseOptions) (next : Rule) (cs : List Container) (cells : List Cell) (h : Here) (o : Outcome) → o ≡ behind_containers options next cells h → IsRest h.scratch → AreOpen h.flags.containers cs → h.flags.continued ≡ length h.flags.containers → h.flags.interrupt ≡ false →
+opened-none : (options : ParseOptions) (next : Rule) (cs : List Container) (cells : List Cell) (h : Here) (o : Outcome) → o ≡ behind_containers options next cells h → IsRest h.scratch → AreOpen h.flags.containers cs → h.flags.continued ≡ length h.flags.containers → h.flags.leaf ≡ open_leaf.None →
     Opened options next cs h (no_front cells h.point) o
 opened-none options next cs cells h o same is are all shut = record {
   new = h;
@@ -313,11 +316,11 @@ opened-none options next cs cells h o same is are all shut = record {
   point = refl;
   containers = let P : List Container → Type 0 = λ l. AreOpen h.flags.containers l in subst P (sym (append-nil cs)) are;
   all = all;
-  interrupt = shut;
+  leaf = shut;
   blank = refl;
 }
 
-new-more : (options : ParseOptions) (next : Rule) (m size : ℕ) (cs : List Container) (cells : List Cell) (h : Here) → IsRest h.scratch → length cells < m → length cells ≤ size → AreOpen h.flags.containers cs → h.flags.continued ≡ length h.flags.containers → h.flags.interrupt ≡ false →
+new-more : (options : ParseOptions) (next : Rule) (m size : ℕ) (cs : List Container) (cells : List Cell) (h : Here) → IsRest h.scratch → length cells < m → length cells ≤ size → AreOpen h.flags.containers cs → h.flags.continued ≡ length h.flags.containers → h.flags.leaf ≡ open_leaf.None →
     Opened options next cs h (new_front options false size cells h.point) (new_from options next m cells h)
 new-more options next zero size cs cells h is some most are all shut = absurd (omega arith)
 new-more options next (suc m) zero cs cells h is some most are all shut =
@@ -351,7 +354,7 @@ new-more options next (suc m) (suc size) cs cells h is some most are all shut =
           point = o.point;
           containers = subst P (append_assoc cs (t.container ∷ []) f.containers) o.containers;
           all = o.all;
-          interrupt = o.interrupt;
+          leaf = o.leaf;
           blank = o.blank;
         }
 
@@ -365,24 +368,30 @@ pub record Done (next : Rule) (options : ParseOptions) (front tail : List Event)
   pub events : new.events ≡ front ++ (ends_of x.change.closes p ++ (tail ++ (x.front ++ added_by options x.cells x.point (row_kind options x.cells))))
   pub point : new.point ≡ line_end x.cells x.point
   pub containers : AreOpen new.flags.containers (open_behind x.change)
-  pub interrupt : new.flags.interrupt ≡ is_text (row_kind options x.cells)
+  pub leaf : new.flags.leaf ≡ leaf_behind (row_kind options x.cells)
   pub blank : new.flags.blank ≡ blank_by (row_kind options x.cells) false
 
 -- behind the containers that went on
-record Between (front tail : List Event) (p : Point) (cs : List Container) (going : Bool) (w : Front) (h : Here) : Type 0 where
+record Between (front tail : List Event) (p : Point) (cs : List Container) (still : OpenLeaf) (w : Front) (h : Here) : Type 0 where
   rest : IsRest h.scratch
   events : h.events ≡ front ++ (tail ++ w.events)
   containers : AreOpen h.flags.containers (w.containers ++ others_of cs w.containers)
   continued : h.flags.continued ≡ length w.containers
-  interrupt : h.flags.interrupt ≡ going
+  leaf : h.flags.leaf ≡ still
   blank : h.flags.blank ≡ false
   line_end : h.flags.line_end ≡ length front
   ends : Ends h.flags.containers tail p
 
 -- where no container opens, a line of text goes on the open paragraph
-lazy-none : (going : Bool) (k : RowKind) → is_lazy going [] k ≡ (going && is_text k)
-lazy-none true k = refl
-lazy-none false k = refl
+lazy-none : (still : OpenLeaf) (k : RowKind) → is_lazy still [] k ≡ (takes_lazy still && is_text k)
+lazy-none open_leaf.Text k = refl
+lazy-none open_leaf.None k = refl
+
+-- and such a line leaves a leaf that takes one
+lazy-behind : (k : RowKind) → takes_lazy (leaf_behind k) ≡ is_text k
+lazy-behind BlankRow = refl
+lazy-behind (LeafRow l) = refl
+lazy-behind TextRow = refl
 
 -- those that stay, and those that end, are all that went on or did not
 change-parts : (x : Bool) (went others : List Container) → let c = change_by x went others [] in c.stays ++ c.closes ≡ went ++ others
@@ -404,17 +413,17 @@ regroup-line : (front ends tail w begin more added : List Event) → ((front ++ 
 regroup-line front ends tail w begin more added = simp append_assoc
 
 -- no container opens
-done-none : (options : ParseOptions) (next : Rule) (front tail : List Event) (p : Point) (cs : List Container) (going : Bool) (w : Front) (cells : List Cell) (h : Here) → Between front tail p cs going w h →
-    Done next options front tail p (held_of options cs going w (no_front cells h.point)) (behind_containers options next cells h)
-done-none options next front tail p cs going w cells h b = record {
+done-none : (options : ParseOptions) (next : Rule) (front tail : List Event) (p : Point) (cs : List Container) (still : OpenLeaf) (w : Front) (cells : List Cell) (h : Here) → Between front tail p cs still w h →
+    Done next options front tail p (held_of options cs still w (no_front cells h.point)) (behind_containers options next cells h)
+done-none options next front tail p cs still w cells h b = record {
   new = ended_to keep leaf.flags.line_end leaf;
   is = leaf-is options next cells (record h { flags = begun_line h.flags }) b.rest;
   rest = b.rest;
   events = closed-ends front tail (w.events ++ added) leaf.events p leaf.point keep leaf.flags.line_end h.flags.containers c.closes b.ends parts.1 b.line_end (ap (λ (es : List Event). es ++ added) b.events ∙ regroup-ends front tail w.events added)
       ∙ ap (λ (es : List Event). front ++ (ends_of c.closes p ++ (tail ++ (es ++ added)))) (sym (append-nil w.events));
   point = refl;
-  containers = let P : List Container → Type 0 = λ l. AreOpen (take keep h.flags.containers) l in subst P (sym (change-none (is_lazy going [] k) w.containers (others_of cs w.containers))) parts.0;
-  interrupt = refl;
+  containers = let P : List Container → Type 0 = λ l. AreOpen (take keep h.flags.containers) l in subst P (sym (change-none (is_lazy still [] k) w.containers (others_of cs w.containers))) parts.0;
+  leaf = refl;
   blank = ap (λ (x : Bool). blank_by k x) b.blank;
 }
   where
@@ -431,26 +440,26 @@ done-none options next front tail p cs going w cells h b = record {
     keep = stays leaf.flags
 
     c : Change
-    c = change_by (is_lazy going [] (row_kind options cells)) w.containers (others_of cs w.containers) []
+    c = change_by (is_lazy still [] (row_kind options cells)) w.containers (others_of cs w.containers) []
 
     kept : keep ≡ length c.stays
     kept =
-        ap (λ (x : Bool). cond (x && is_text k) (length h.flags.containers) h.flags.continued) b.interrupt
-        ∙ ap₂ (λ (x y : ℕ). cond (going && is_text k) x y) (open-length h.flags.containers (w.containers ++ others_of cs w.containers) b.containers) b.continued
-        ∙ ap (λ (x : Bool). cond x (length (w.containers ++ others_of cs w.containers)) (length w.containers)) (sym (lazy-none going k))
-        ∙ sym (change-stays (is_lazy going [] k) w.containers (others_of cs w.containers))
+        ap₂ (λ (x : OpenLeaf) (y : Bool). cond (takes_lazy x && y) (length h.flags.containers) h.flags.continued) b.leaf (lazy-behind k)
+        ∙ ap₂ (λ (x y : ℕ). cond (takes_lazy still && is_text k) x y) (open-length h.flags.containers (w.containers ++ others_of cs w.containers) b.containers) b.continued
+        ∙ ap (λ (x : Bool). cond x (length (w.containers ++ others_of cs w.containers)) (length w.containers)) (sym (lazy-none still k))
+        ∙ sym (change-stays (is_lazy still [] k) w.containers (others_of cs w.containers))
 
     parts : AreOpen (take keep h.flags.containers) c.stays × AreOpen (drop keep h.flags.containers) c.closes
     parts =
         let P : ℕ → Type 0 = λ n. AreOpen (take n h.flags.containers) c.stays × AreOpen (drop n h.flags.containers) c.closes in
         let Q : List Container → Type 0 = λ l. AreOpen h.flags.containers l in
-        subst P (sym kept) (open-parts h.flags.containers c.stays c.closes (subst Q (sym (change-parts (is_lazy going [] k) w.containers (others_of cs w.containers))) b.containers))
+        subst P (sym kept) (open-parts h.flags.containers c.stays c.closes (subst Q (sym (change-parts (is_lazy still [] k) w.containers (others_of cs w.containers))) b.containers))
 
 -- containers open
-done-some : (options : ParseOptions) (next : Rule) (front tail : List Event) (p : Point) (cs : List Container) (going : Bool) (w f : Front) (t : Passed) (h : Here) (o : Outcome) → Between front tail p cs going w h →
-    Opened options next (w.containers ++ t.container ∷ []) (opened (passed_here t h)) f o → Done next options front tail p (held_of options cs going w (in_front t f)) o
-done-some options next front tail p cs going w f t h out b o =
-    subst P (sym (lazy-some going t.container f.containers k)) (record {
+done-some : (options : ParseOptions) (next : Rule) (front tail : List Event) (p : Point) (cs : List Container) (still : OpenLeaf) (w f : Front) (t : Passed) (h : Here) (o : Outcome) → Between front tail p cs still w h →
+    Opened options next (w.containers ++ t.container ∷ []) (opened (passed_here t h)) f o → Done next options front tail p (held_of options cs still w (in_front t f)) o
+done-some options next front tail p cs still w f t h out b o =
+    subst P (sym (lazy-some still t.container f.containers k)) (record {
       new = ended_to keep leaf.flags.line_end leaf;
       is = o.is ∙ leaf-is options next f.cells (record o.new { flags = begun_line o.new.flags }) o.rest;
       rest = o.rest;
@@ -459,7 +468,7 @@ done-some options next front tail p cs going w f t h out b o =
           ∙ regroup-line front (ends_of (others_of cs w.containers) p) tail w.events t.events f.events (added_by options f.cells f.point k);
       point = ap (λ (q : Point). line_end f.cells q) o.point;
       containers = open-all keep o.new.flags.containers (w.containers ++ t.container ∷ f.containers) kept (subst Q (append_assoc w.containers (t.container ∷ []) f.containers) o.containers);
-      interrupt = refl;
+      leaf = refl;
       blank = ap (λ (x : Bool). blank_by k x) (o.blank ∙ b.blank);
     })
   where
@@ -479,7 +488,7 @@ done-some options next front tail p cs going w f t h out b o =
     keep = stays leaf.flags
 
     kept : keep ≡ length o.new.flags.containers
-    kept = ap (λ (x : Bool). cond (x && is_text k) (length o.new.flags.containers) o.new.flags.continued) o.interrupt ∙ o.all
+    kept = ap (λ (x : OpenLeaf). cond (takes_lazy x && takes_lazy (leaf_behind k)) (length o.new.flags.containers) o.new.flags.continued) o.leaf ∙ o.all
 
     ended : AreOpen (drop h.flags.continued h.flags.containers) (others_of cs w.containers)
     ended =
@@ -494,18 +503,18 @@ done-some options next front tail p cs going w f t h out b o =
 done-same : (options : ParseOptions) (next : Rule) (front tail : List Event) (p : Point) (x : Held) (a b : Outcome) → a ≡ b → Done next options front tail p x b → Done next options front tail p x a
 done-same options next front tail p x a b e d = let P : Outcome → Type 0 = λ o. Done next options front tail p x o in subst P (sym e) d
 
-new-done : (options : ParseOptions) (next : Rule) (front tail : List Event) (p : Point) (cs : List Container) (going interrupting : Bool) (w : Front) (m size : ℕ) (cells : List Cell) (h : Here) → Between front tail p cs going w h → length cells ≤ m → length cells ≤ size →
-    Done next options front tail p (held_of options cs going w (new_front options interrupting size cells h.point)) (new_from options next (suc m) cells h)
-new-done options next front tail p cs going interrupting w m zero cells h b some most =
-    done-same options next front tail p _ _ _ (new-none options next interrupting m cells h b.rest (opens-none options interrupting cells h.point most)) (done-none options next front tail p cs going w cells h b)
-new-done options next front tail p cs going interrupting w m (suc size) cells h b some most = go (opens_at options interrupting cells h.point) refl
+new-done : (options : ParseOptions) (next : Rule) (front tail : List Event) (p : Point) (cs : List Container) (still : OpenLeaf) (interrupting : Bool) (w : Front) (m size : ℕ) (cells : List Cell) (h : Here) → Between front tail p cs still w h → length cells ≤ m → length cells ≤ size →
+    Done next options front tail p (held_of options cs still w (new_front options interrupting size cells h.point)) (new_from options next (suc m) cells h)
+new-done options next front tail p cs still interrupting w m zero cells h b some most =
+    done-same options next front tail p _ _ _ (new-none options next interrupting m cells h b.rest (opens-none options interrupting cells h.point most)) (done-none options next front tail p cs still w cells h b)
+new-done options next front tail p cs still interrupting w m (suc size) cells h b some most = go (opens_at options interrupting cells h.point) refl
   where
     new : Known
     new = record { kind = new_kind }
 
     go : (x : Option Passed) → opens_at options interrupting cells h.point ≡ x →
-        Done next options front tail p (held_of options cs going w (elim x [ None ↦ no_front cells h.point | Some t ↦ in_front t (new_front options false size t.cells t.point) ])) (new_from options next (suc m) cells h)
-    go None e = done-same options next front tail p _ _ _ (new-none options next interrupting m cells h b.rest e) (done-none options next front tail p cs going w cells h b)
+        Done next options front tail p (held_of options cs still w (elim x [ None ↦ no_front cells h.point | Some t ↦ in_front t (new_front options false size t.cells t.point) ])) (new_from options next (suc m) cells h)
+    go None e = done-same options next front tail p _ _ _ (new-none options next interrupting m cells h b.rest e) (done-none options next front tail p cs still w cells h b)
     go (Some t) e =
         let shorter = opens-shorter options interrupting cells h.point t e in
         let R : ℕ → Type 0 = λ n. AreOpen (take n h.flags.containers) w.containers in
@@ -513,38 +522,38 @@ new-done options next front tail p cs going interrupting w m (suc size) cells h 
         let begun : AreOpen (opened (passed_here t h)).flags.containers (w.containers ++ t.container ∷ []) =
         open-append (take h.flags.continued h.flags.containers) (new ∷ []) w.containers (t.container ∷ []) stayed (opens-same options interrupting cells h.point t e, tt) in
         done-same options next front tail p _ _ _ (new-one options next interrupting m cells h t b.rest e)
-        (done-some options next front tail p cs going w (new_front options false size t.cells t.point) t h _ b
+        (done-some options next front tail p cs still w (new_front options false size t.cells t.point) t h _ b
         (new-more options next m size (w.containers ++ t.container ∷ []) t.cells (opened (passed_here t h)) b.rest (omega (arith, shorter)) (omega (arith, shorter)) begun refl refl))
 
 -- at the begin of a line
-pub record Begins (front tail : List Event) (p : Point) (cs : List Container) (going : Bool) (h : Here) : Type 0 where
+pub record Begins (front tail : List Event) (p : Point) (cs : List Container) (still : OpenLeaf) (h : Here) : Type 0 where
   pub rest : IsRest h.scratch
   pub events : h.events ≡ front ++ tail
   pub containers : AreOpen h.flags.containers cs
   pub continued : h.flags.continued ≡ 0
-  pub interrupt : h.flags.interrupt ≡ going
+  pub leaf : h.flags.leaf ≡ still
   pub blank : h.flags.blank ≡ false
   pub line_end : h.flags.line_end ≡ length front
   pub ends : Ends h.flags.containers tail p
 
-pub line-done : (options : ParseOptions) (next : Rule) (front tail : List Event) (p : Point) (cs : List Container) (going : Bool) (cells : List Cell) (h : Here) → Begins front tail p cs going h →
-    Done next options front tail p (held_at options cs going cells h.point) (line_then options next cells h)
+pub line-done : (options : ParseOptions) (next : Rule) (front tail : List Event) (p : Point) (cs : List Container) (still : OpenLeaf) (cells : List Cell) (h : Here) → Begins front tail p cs still h →
+    Done next options front tail p (held_at options cs still cells h.point) (line_then options next cells h)
 unfolding line_then new_of held_at
-line-done options next front tail p cs going cells h b =
+line-done options next front tail p cs still cells h b =
     done-same options next front tail p _ _ _
     (ap (λ (k : ℕ). existing_from options next (suc (length cells)) cells (with_continued k h)) b.continued ∙ existing-is options next (suc (length cells)) 0 cs cells h b.rest (omega arith) b.containers)
-    (new-done options next front tail p cs going (interrupts going (others_of cs w.containers)) w (length w.cells) (length w.cells) w.cells (gone 0 w h) between (omega arith) (omega arith))
+    (new-done options next front tail p cs still (interrupts still (others_of cs w.containers)) w (length w.cells) (length w.cells) w.cells (gone 0 w h) between (omega arith) (omega arith))
   where
     w : Front
     w = went_front options cs cells h.point
 
-    between : Between front tail p cs going w (gone 0 w h)
+    between : Between front tail p cs still w (gone 0 w h)
     between = record {
       rest = b.rest;
       events = ap (λ (es : List Event). es ++ w.events) b.events ∙ append_assoc front tail w.events;
       containers = went-open options h.flags.containers cs cells h.point b.containers;
       continued = omega arith;
-      interrupt = b.interrupt;
+      leaf = b.leaf;
       blank = b.blank;
       line_end = b.line_end;
       ends = b.ends;
@@ -570,8 +579,8 @@ regroup-row front ends tail w added more ending rows = simp append_assoc
 -- What stands behind a line.
 
 -- the rows behind these cells, from the ending of a line on
-abbrev pub rows_below : ParseOptions → ℕ → List Container → Bool → List Cell → List Row
-rows_below options m cs going left = elim left [ [] ↦ [] | x ∷ xs ↦ rows_at options m cs going xs x.after ]
+abbrev pub rows_below : ParseOptions → ℕ → List Container → OpenLeaf → List Cell → List Row
+rows_below options m cs still left = elim left [ [] ↦ [] | x ∷ xs ↦ rows_at options m cs still xs x.after ]
 
 -- its ending
 abbrev pub ending_here : Name → Point → List Cell → List Event
@@ -580,29 +589,29 @@ ending_here name p (c ∷ cs) = pair name p c.after
 
 -- what flow adds from the begin of a line on, with so many lines at most
 abbrev Adds : ParseOptions → ℕ → Rule → Type 0
-Adds options m next = (front tail : List Event) (p : Point) (cs : List Container) (going : Bool) (cells : List Cell) (h new : Here) (rest : List Cell) → length cells < m → Begins front tail p cs going h → next cells h ≡ Accepts new rest →
-    new.events ≡ front ++ (ends_of (closes_before cs (rows_at options m cs going cells h.point)) p ++ (tail ++ rows_events (rows_at options m cs going cells h.point)))
+Adds options m next = (front tail : List Event) (p : Point) (cs : List Container) (still : OpenLeaf) (cells : List Cell) (h new : Here) (rest : List Cell) → length cells < m → Begins front tail p cs still h → next cells h ≡ Accepts new rest →
+    new.events ≡ front ++ (ends_of (closes_before cs (rows_at options m cs still cells h.point)) p ++ (tail ++ rows_events (rows_at options m cs still cells h.point)))
 
 -- behind the ending of a line, at the begin of the next
 abbrev pub next_here : Cell → Here → Here
 next_here c h = record h { events = h.events ++ pair (ending_name h.flags.blank) h.point c.after; point = c.after; flags = next_line (length h.events) h.flags }
 
-pub next-begins : (cs : List Container) (going : Bool) (c : Cell) (h : Here) → IsRest h.scratch → h.flags.interrupt ≡ going → AreOpen h.flags.containers cs →
-    Begins h.events (pair (ending_name h.flags.blank) h.point c.after) h.point cs going (next_here c h)
-next-begins cs going c h is held are = record {
+pub next-begins : (cs : List Container) (still : OpenLeaf) (c : Cell) (h : Here) → IsRest h.scratch → h.flags.leaf ≡ still → AreOpen h.flags.containers cs →
+    Begins h.events (pair (ending_name h.flags.blank) h.point c.after) h.point cs still (next_here c h)
+next-begins cs still c h is held are = record {
   rest = is;
   events = refl;
   containers = are;
   continued = refl;
-  interrupt = held;
+  leaf = held;
   blank = refl;
   line_end = refl;
   ends = ends-behind h.flags.containers (enter (ending_name h.flags.blank) h.point) (exit (ending_name h.flags.blank) c.after ∷ []);
 }
 
-ended-adds : (options : ParseOptions) (m : ℕ) (next : Rule) → Adds options m next → (cs : List Container) (going : Bool) (left : List Cell) (h new : Here) (rest : List Cell) → length left ≤ m → IsRest h.scratch → h.flags.interrupt ≡ going → AreOpen h.flags.containers cs → ended next left h ≡ Accepts new rest →
-    new.events ≡ h.events ++ (ends_of (closes_before cs (rows_below options m cs going left)) h.point ++ (ending_here (ending_name h.flags.blank) h.point left ++ rows_events (rows_below options m cs going left)))
-ended-adds options m next adds cs going [] h new rest fits is held are e =
+ended-adds : (options : ParseOptions) (m : ℕ) (next : Rule) → Adds options m next → (cs : List Container) (still : OpenLeaf) (left : List Cell) (h new : Here) (rest : List Cell) → length left ≤ m → IsRest h.scratch → h.flags.leaf ≡ still → AreOpen h.flags.containers cs → ended next left h ≡ Accepts new rest →
+    new.events ≡ h.events ++ (ends_of (closes_before cs (rows_below options m cs still left)) h.point ++ (ending_here (ending_name h.flags.blank) h.point left ++ rows_events (rows_below options m cs still left)))
+ended-adds options m next adds cs still [] h new rest fits is held are e =
     ap (λ (x : Here). x.events) same
     ∙ ap₂ (λ (a b : List Event). (a ++ ends_at h.flags.containers (point_of b h.point)) ++ b) (take-length h.events) (drop-length h.events)
     ∙ append_assoc h.events (ends_at h.flags.containers h.point) []
@@ -610,21 +619,21 @@ ended-adds options m next adds cs going [] h new rest fits is held are e =
   where
     same : new ≡ ended_to 0 (length h.events) h
     same = cc
-ended-adds options m next adds cs going (x ∷ xs) h new rest fits is held are e = go (nat_eq x.byte 10) e
+ended-adds options m next adds cs still (x ∷ xs) h new rest fits is held are e = go (nat_eq x.byte 10) e
   where
     name : Name
     name = ending_name h.flags.blank
 
     go : (b : Bool) → cond b (next xs (next_here x h)) (Refuses h.scratch h.flags) ≡ Accepts new rest →
-        new.events ≡ h.events ++ (ends_of (closes_before cs (rows_at options m cs going xs x.after)) h.point ++ (pair (ending_name h.flags.blank) h.point x.after ++ rows_events (rows_at options m cs going xs x.after)))
-    go true k = adds h.events (pair name h.point x.after) h.point cs going xs (next_here x h) new rest (omega arith) (next-begins cs going x h is held are) k
+        new.events ≡ h.events ++ (ends_of (closes_before cs (rows_at options m cs still xs x.after)) h.point ++ (pair (ending_name h.flags.blank) h.point x.after ++ rows_events (rows_at options m cs still xs x.after)))
+    go true k = adds h.events (pair name h.point x.after) h.point cs still xs (next_here x h) new rest (omega arith) (next-begins cs still x h is held are) k
     go false k = cc
 
-pub held-shorter : (options : ParseOptions) (cs : List Container) (going : Bool) (cells : List Cell) (p : Point) → length (held_at options cs going cells p).cells ≤ length cells
+pub held-shorter : (options : ParseOptions) (cs : List Container) (still : OpenLeaf) (cells : List Cell) (p : Point) → length (held_at options cs still cells p).cells ≤ length cells
 unfolding held_at
-held-shorter options cs going cells p =
+held-shorter options cs still cells p =
     let w = went_front options cs cells p in
-    omega (arith, went-shorter options cs cells p, new-shorter options (interrupts going (others_of cs w.containers)) (length w.cells) w.cells w.point)
+    omega (arith, went-shorter options cs cells p, new-shorter options (interrupts still (others_of cs w.containers)) (length w.cells) w.cells w.point)
 
 ending-same : (name : Name) (p : Point) (left : List Cell) → ending_here name p left ≡ elim (after_ending left) [ None ↦ [] | Some q ↦ pair name p q ]
 ending-same name p [] = refl
@@ -654,48 +663,48 @@ row-adds next options front tail p x o d ls left below more e =
 -- flow adds the events of the rows, and the ends of the containers that the first of them closes in front of the ending before it
 flow-adds : (options : ParseOptions) (m : ℕ) → Adds options m (flow_lines options m)
 unfolding flow_lines
-flow-adds options zero front tail p cs going cells h new rest fits b e = absurd (omega arith)
-flow-adds options (suc m) front tail p cs going cells h new rest fits b e =
-    ended-adds options m (flow_lines options m) (flow-adds options m) (open_behind x.change) (is_text k) left d.new new rest (omega (arith, from_ending-shrinks x.cells, held-shorter options cs going cells h.point)) d.rest d.interrupt d.containers (sym d.is ∙ e)
+flow-adds options zero front tail p cs still cells h new rest fits b e = absurd (omega arith)
+flow-adds options (suc m) front tail p cs still cells h new rest fits b e =
+    ended-adds options m (flow_lines options m) (flow-adds options m) (open_behind x.change) (leaf_behind k) left d.new new rest (omega (arith, from_ending-shrinks x.cells, held-shorter options cs still cells h.point)) d.rest d.leaf d.containers (sym d.is ∙ e)
     ∙ row-adds (flow_lines options m) options front tail p x (line_then options (flow_lines options m) cells h) d (closes_before (open_behind x.change) below) left below (rows_events below) refl
   where
-    d : Done (flow_lines options m) options front tail p (held_at options cs going cells h.point) (line_then options (flow_lines options m) cells h)
-    d = line-done options (flow_lines options m) front tail p cs going cells h b
+    d : Done (flow_lines options m) options front tail p (held_at options cs still cells h.point) (line_then options (flow_lines options m) cells h)
+    d = line-done options (flow_lines options m) front tail p cs still cells h b
 
     x : Held
-    x = held_at options cs going cells h.point
+    x = held_at options cs still cells h.point
 
     k : RowKind
-    k = row_kind options (held_at options cs going cells h.point).cells
+    k = row_kind options (held_at options cs still cells h.point).cells
 
     left : List Cell
-    left = from_ending (held_at options cs going cells h.point).cells
+    left = from_ending (held_at options cs still cells h.point).cells
 
     below : List Row
-    below = rows_below options m (open_behind x.change) (is_text k) left
+    below = rows_below options m (open_behind x.change) (leaf_behind k) left
 
 -- before the first line no container ends
-pub no-closes : (options : ParseOptions) (cells : List Cell) (p : Point) → (held_at options [] false cells p).change.closes ≡ []
+pub no-closes : (options : ParseOptions) (cells : List Cell) (p : Point) → (held_at options [] open_leaf.None cells p).change.closes ≡ []
 unfolding held_at
 no-closes options cells p = refl
 
 -- at the begin of a text
-pub text-begins : (h : Here) → IsRest h.scratch → h.events ≡ [] → h.flags.containers ≡ [] → h.flags.continued ≡ 0 → h.flags.interrupt ≡ false → h.flags.blank ≡ false → h.flags.line_end ≡ 0 → Begins [] [] h.point [] false h
-text-begins h is none shut continued interrupt blank line_end = record {
+pub text-begins : (h : Here) → IsRest h.scratch → h.events ≡ [] → h.flags.containers ≡ [] → h.flags.continued ≡ 0 → h.flags.leaf ≡ open_leaf.None → h.flags.blank ≡ false → h.flags.line_end ≡ 0 → Begins [] [] h.point [] open_leaf.None h
+text-begins h is none shut continued leaf blank line_end = record {
   rest = is;
   events = none;
   containers = let P : List Known → Type 0 = λ l. AreOpen l [] in subst P (sym shut) tt;
   continued = continued;
-  interrupt = interrupt;
+  leaf = leaf;
   blank = blank;
   line_end = line_end;
   ends = ends-none h.flags.containers h.point shut;
 }
 
 -- so the rule of all lines adds the events of all rows
-pub flow_at-rows : (options : ParseOptions) (cells : List Cell) (h new : Here) (rest : List Cell) → IsRest h.scratch → h.events ≡ [] → h.flags.containers ≡ [] → h.flags.continued ≡ 0 → h.flags.interrupt ≡ false → h.flags.blank ≡ false → h.flags.line_end ≡ 0 →
-    flow_at options cells h ≡ Accepts new rest → new.events ≡ rows_events (rows_at options (suc (length cells)) [] false cells h.point)
+pub flow_at-rows : (options : ParseOptions) (cells : List Cell) (h new : Here) (rest : List Cell) → IsRest h.scratch → h.events ≡ [] → h.flags.containers ≡ [] → h.flags.continued ≡ 0 → h.flags.leaf ≡ open_leaf.None → h.flags.blank ≡ false → h.flags.line_end ≡ 0 →
+    flow_at options cells h ≡ Accepts new rest → new.events ≡ rows_events (rows_at options (suc (length cells)) [] open_leaf.None cells h.point)
 unfolding flow_at
-flow_at-rows options cells h new rest is none shut continued interrupt blank line_end e =
-    flow-adds options (suc (length cells)) [] [] h.point [] false cells h new rest (omega arith) (text-begins h is none shut continued interrupt blank line_end) e
-    ∙ ap (λ (cs : List Container). ends_of cs h.point ++ rows_events (rows_at options (suc (length cells)) [] false cells h.point)) (no-closes options cells h.point)
+flow_at-rows options cells h new rest is none shut continued leaf blank line_end e =
+    flow-adds options (suc (length cells)) [] [] h.point [] open_leaf.None cells h new rest (omega arith) (text-begins h is none shut continued leaf blank line_end) e
+    ∙ ap (λ (cs : List Container). ends_of cs h.point ++ rows_events (rows_at options (suc (length cells)) [] open_leaf.None cells h.point)) (no-closes options cells h.point)

@@ -1,4 +1,5 @@
 -- Behind the states of flow each resolver is a step that changes nothing where no line is its own: then it does not matter whether it ran.
+use Rattle.md_engine.specs.declared.tokenizer.open_leaf.OpenLeaf.{OpenLeaf}
 use Rattle.std.proofs.Common.{◌≡◌, ◌≢◌, ℕ, zero, suc, Bool, true, false, cond, ◌&&◌, ◌==◌, List, [], ◌∷◌, ◌++◌, length, refl, ap, sym, ◌∙◌, subst, append-nil}
 use Rattle.std.specs.Prelude.{Option, Some, None}
 use Rattle.std.proofs.lemmas.Bool.{or_parts}
@@ -22,7 +23,7 @@ use Rattle.md_seam.specs.Standard.State.{Container}
 use Rattle.md_seam.specs.Substituted.{Readings, Substituted}
 use Rattle.markdown_blocks.specs.Change.{interrupts, open_behind, others_of}
 use Rattle.markdown_blocks.specs.FlowReads.{has_text}
-use Rattle.markdown_blocks.specs.Rows.{BlankRow, Front, Held, Row, RowKind, TextRow, ending_of, held_at, in_front, inside_of, is_text, leaf_events, new_front, no_front, row_events, row_kind, rows_at, rows_by, rows_events, tail_events, went_front, LeafRow}
+use Rattle.markdown_blocks.specs.Rows.{leaf_behind, BlankRow, Front, Held, Row, RowKind, TextRow, ending_of, held_at, in_front, inside_of, is_text, leaf_events, new_front, no_front, row_events, row_kind, rows_at, rows_by, rows_events, tail_events, went_front, LeafRow}
 use Rattle.markdown_blocks.proofs.EachEvent.{Each, each-behind, each-front, joined-each}
 use Rattle.markdown_blocks.proofs.EachRow.{EachRow}
 use Rattle.markdown_blocks.specs.Registry.{is_own, goes_at, opens_at}
@@ -61,13 +62,13 @@ new-are options interrupting (suc size) cells p =
     (opens_at options interrupting cells p) (opens-front options interrupting cells p)
 
 -- all of it
-held-are : (options : ParseOptions) (cs : List Container) (going : Bool) (cells : List Cell) (p : Point) → AreFront (held_at options cs going cells p).front
+held-are : (options : ParseOptions) (cs : List Container) (still : OpenLeaf) (cells : List Cell) (p : Point) → AreFront (held_at options cs still cells p).front
 unfolding held_at
-held-are options cs going cells p =
+held-are options cs still cells p =
     let went : Front = went_front options cs cells p in
-    let new : Front = new_front options (interrupts going (others_of cs went.containers)) (length went.cells) went.cells went.point in
+    let new : Front = new_front options (interrupts still (others_of cs went.containers)) (length went.cells) went.cells went.point in
     front-append went.events new.events (went-are options cs cells p)
-    (new-are options (interrupts going (others_of cs went.containers)) (length went.cells) went.cells went.point)
+    (new-are options (interrupts still (others_of cs went.containers)) (length went.cells) went.cells went.point)
 
 -- Lines.
 
@@ -88,22 +89,22 @@ pub record IsFramed (row : Row) : Type 0 where
   pub own : NoEnds is_own row.inside → AreOutside row.inside
 
 -- so it is in the lines that flow reads
-rows_by-framed : (options : ParseOptions) (h : Held) (further : List Container → Bool → List Cell → Point → List Row) → AreFront h.front →
-    ((open_before : List Container) (going : Bool) (cells : List Cell) (p : Point) → EachRow IsFramed (further open_before going cells p)) → EachRow IsFramed (rows_by options h further)
+rows_by-framed : (options : ParseOptions) (h : Held) (further : List Container → OpenLeaf → List Cell → Point → List Row) → AreFront h.front →
+    ((open_before : List Container) (still : OpenLeaf) (cells : List Cell) (p : Point) → EachRow IsFramed (further open_before still cells p)) → EachRow IsFramed (rows_by options h further)
 rows_by-framed options h further front each = (record { front = front; own = inside-own options h.cells h.point (row_kind options h.cells) }, go (from_ending h.cells))
   where
-    going : Bool
-    going = is_text (row_kind options h.cells)
+    still : OpenLeaf
+    still = leaf_behind (row_kind options h.cells)
 
-    go : (rest : List Cell) → EachRow IsFramed (elim rest [ [] ↦ [] | c ∷ cs ↦ further (open_behind h.change) going cs c.after ])
+    go : (rest : List Cell) → EachRow IsFramed (elim rest [ [] ↦ [] | c ∷ cs ↦ further (open_behind h.change) still cs c.after ])
     go [] = tt
-    go (c ∷ cs) = each (open_behind h.change) going cs c.after
+    go (c ∷ cs) = each (open_behind h.change) still cs c.after
 
 -- however many there are
-pub rows_at-framed : (options : ParseOptions) (size : ℕ) (open_before : List Container) (going : Bool) (cells : List Cell) (p : Point) → EachRow IsFramed (rows_at options size open_before going cells p)
-rows_at-framed options zero open_before going cells p = tt
-rows_at-framed options (suc size) open_before going cells p =
-    rows_by-framed options (held_at options open_before going cells p) (rows_at options size) (held-are options open_before going cells p) (rows_at-framed options size)
+pub rows_at-framed : (options : ParseOptions) (size : ℕ) (open_before : List Container) (still : OpenLeaf) (cells : List Cell) (p : Point) → EachRow IsFramed (rows_at options size open_before still cells p)
+rows_at-framed options zero open_before still cells p = tt
+rows_at-framed options (suc size) open_before still cells p =
+    rows_by-framed options (held_at options open_before still cells p) (rows_at options size) (held-are options open_before still cells p) (rows_at-framed options size)
 
 -- Reading content.
 

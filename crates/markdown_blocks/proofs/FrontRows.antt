@@ -1,5 +1,6 @@
 -- The containers of a line that flow reads are those of its bytes: which go on and open, what stands in front of the line, and what is
 -- left of it.
+use Rattle.md_engine.specs.declared.tokenizer.open_leaf.OpenLeaf.{OpenLeaf}
 use Rattle.std.proofs.Common.{◌≡◌, ℕ, zero, suc, ◌^◌, ◌<◌, ◌≤◌, Bool, true, false, List, [], ◌∷◌, ◌++◌, length, Option, Some, None, refl, sym, ap, ap₂, ◌∙◌, subst, arith, append_assoc}
 use Rattle.md_engine.specs.declared.configuration.ParseOptions.{ParseOptions}
 use Rattle.md_engine.specs.declared.event.Event.{Event}
@@ -201,12 +202,12 @@ held-by line text past p end stop cells cs lazy went new on more read a b = reco
   shorter = let le = a.front.shorter in let ge = b.front.shorter in omega arith;
 }
 
-held-behind : (options : ParseOptions) (line : Line) (text past : List ℕ) (p end : Point) (stop cells : List Cell) (cs : List Container) (going : Bool) (went : Front) (on : Prefixed) → IsBuilt options → AreRead cs → Stops stop → length cells < 2 ^ 63 →
-    HasWent line text past p end stop cells went on → HasHeld line text past p end stop cells (held_behind options cs going went) (contained_behind options cs going on)
-held-behind options line text past p end stop cells cs going went on built read k short is =
+held-behind : (options : ParseOptions) (line : Line) (text past : List ℕ) (p end : Point) (stop cells : List Cell) (cs : List Container) (still : OpenLeaf) (went : Front) (on : Prefixed) → IsBuilt options → AreRead cs → Stops stop → length cells < 2 ^ 63 →
+    HasWent line text past p end stop cells went on → HasHeld line text past p end stop cells (held_behind options cs still went) (contained_behind options cs still on)
+held-behind options line text past p end stop cells cs still went on built read k short is =
     let le = is.front.shorter in
     let size = ap length is.front.fed in
-    let interrupting : Bool = interrupts going (others_of cs went.containers) in
+    let interrupting : Bool = interrupts still (others_of cs went.containers) in
     let new : Front = new_front options interrupting (length went.cells) went.cells went.point in
     let more : Prefixed = prefixes_new options interrupting (length on.rest.bytes) on.rest in
     let opened : HasNew line text past went.point (past_rest on.rest went.point) stop went.cells new more =
@@ -217,17 +218,17 @@ held-behind options line text past p end stop cells cs going went on built read 
     let kind : row_kind options new.cells ≡ line_kind options more.rest =
     ap (row_kind options) opened.front.fed
     ∙ kind-rest options line text past more.rest new.point stop opened.front.stands opened.front.no_ending k (omega (arith, le, shorter, few, short)) in
-    let lazy : is_lazy going new.containers (row_kind options new.cells) ≡ is_lazy going more.containers (line_kind options more.rest) = ap₂ (is_lazy going) opened.front.containers kind in
-    let behind : contained_of options cs going on more ≡ contained_behind options cs going on =
-    ap (λ (w : List Container). contained_of options cs going on (prefixes_new options (interrupts going (others_of cs w)) (length on.rest.bytes) on.rest)) is.front.containers in
-    subst (HasHeld line text past p end stop cells (held_behind options cs going went)) behind
-    (subst (λ (x : Bool). HasHeld line text past p end stop cells (held_behind options cs going went) (contained_by cs x on more)) lazy
-    (held-by line text past p end stop cells cs (is_lazy going new.containers (row_kind options new.cells)) went new on more read is opened))
+    let lazy : is_lazy still new.containers (row_kind options new.cells) ≡ is_lazy still more.containers (line_kind options more.rest) = ap₂ (is_lazy still) opened.front.containers kind in
+    let behind : contained_of options cs still on more ≡ contained_behind options cs still on =
+    ap (λ (w : List Container). contained_of options cs still on (prefixes_new options (interrupts still (others_of cs w)) (length on.rest.bytes) on.rest)) is.front.containers in
+    subst (HasHeld line text past p end stop cells (held_behind options cs still went)) behind
+    (subst (λ (x : Bool). HasHeld line text past p end stop cells (held_behind options cs still went) (contained_by cs x on more)) lazy
+    (held-by line text past p end stop cells cs (is_lazy still new.containers (row_kind options new.cells)) went new on more read is opened))
 
 -- which containers go on and open on a line, what stands in front of it, and what is left of it
-pub held-is : (options : ParseOptions) (line : Line) (text past : List ℕ) (cs : List Container) (going : Bool) (r : Rest) (stop : List Cell) (p : Point) → IsBuilt options → AreRead cs → RestAt text past r p → NoEnding r.bytes → Stops stop → length (rest_cells line r p ++ stop) < 2 ^ 63 →
-    HasHeld line text past p (past_rest r p) stop (rest_cells line r p ++ stop) (held_at options cs going (rest_cells line r p ++ stop) p) (contained options cs going r)
+pub held-is : (options : ParseOptions) (line : Line) (text past : List ℕ) (cs : List Container) (still : OpenLeaf) (r : Rest) (stop : List Cell) (p : Point) → IsBuilt options → AreRead cs → RestAt text past r p → NoEnding r.bytes → Stops stop → length (rest_cells line r p ++ stop) < 2 ^ 63 →
+    HasHeld line text past p (past_rest r p) stop (rest_cells line r p ++ stop) (held_at options cs still (rest_cells line r p ++ stop) p) (contained options cs still r)
 unfolding held_at contained
-held-is options line text past cs going r stop p built read is h k short =
-    held-behind options line text past p (past_rest r p) stop (rest_cells line r p ++ stop) cs going (went_front options cs (rest_cells line r p ++ stop) p) (prefixes_on options cs r) built read k short
+held-is options line text past cs still r stop p built read is h k short =
+    held-behind options line text past p (past_rest r p) stop (rest_cells line r p ++ stop) cs still (went_front options cs (rest_cells line r p ++ stop) p) (prefixes_on options cs r) built read k short
     (went-is options line text past cs r stop p read is h k short)

@@ -1,4 +1,5 @@
 -- The events of the lines of a text, joined and read, are those of its blocks.
+use Rattle.md_engine.specs.declared.tokenizer.open_leaf.OpenLeaf.{OpenLeaf}
 use Rattle.std.proofs.Common.{◌≡◌, ◌≢◌, ℕ, ◌<◌, ◌≤◌, Bool, true, false, cond, ◌&&◌, List, [], ◌∷◌, ◌++◌, length, drop, slice_range, refl, ap, sym, ◌∙◌, subst, append_assoc, append-nil, arith, length-append}
 use Rattle.std.specs.Prelude.{◌==◌, Option, Some, None}
 use Rattle.std.specs.List.{list_all}
@@ -27,7 +28,7 @@ use Rattle.md_seam.specs.Standard.Texts.{split_lines}
 use Rattle.markdown_blocks.specs.Change.{ends_of}
 use Rattle.markdown_blocks.specs.Change as change
 use Rattle.markdown_blocks.specs.Registry.{container_name, first_of, leaf as line_leaf, LeafName, resolved, text_leaf, trials}
-use Rattle.markdown_blocks.specs.Rows.{BlankRow, Group, LeafRow, Lines, Row, RowKind, Single, TextRow, behind_row, blank_line, chunks_of, ending_events, ending_of, goes_on, group_events, groups, groups_events, is_text, kind_of, last_row, leaf_done, leaf_events, leaf_unread, line_kind, onto_groups, read_lines, row_events, row_events_by, rows_events, single_events_by, tail_events}
+use Rattle.markdown_blocks.specs.Rows.{leaf_behind, BlankRow, Group, LeafRow, Lines, Row, RowKind, Single, TextRow, behind_row, blank_line, chunks_of, ending_events, ending_of, goes_on, group_events, groups, groups_events, is_text, kind_of, last_row, leaf_done, leaf_events, leaf_unread, line_kind, onto_groups, read_lines, row_events, row_events_by, rows_events, single_events_by, tail_events}
 use Rattle.markdown_blocks.specs.Fronted.{contained, cut_tab, rest_from, rest_line}
 use Rattle.markdown_blocks.specs.Unread.{joined_groups, linked, linked_lines, listed_group, listed_groups, listed_row_by, unread_group, unread_groups, text_unread, unread_lines}
 use Rattle.md_seam.proofs.FeedLines.{ending-some}
@@ -122,50 +123,50 @@ last-are options bytes line p row is BlankRow e = (alone-is options bytes line p
 last-are options bytes line p row is (LeafRow l) e = (alone-is options bytes line p row is (λ k. cc), tt)
 last-are options bytes line p row is TextRow e = ((line, is.is, e), tt, (p, is.front), tt)
 
-line-begun : (options : ParseOptions) (bytes : List ℕ) (open_before : List Container) (going : Bool) (p : Point) (line : List ℕ) (row : Row) → IsLine options bytes open_before going p line row → HasNoContent row → IsBegun options bytes (rest_line (contained options open_before going (rest_from p line)).rest) p row
-line-begun options bytes open_before going p line row is quiet = record { is = is.is; front = is.front; quiet = quiet }
+line-begun : (options : ParseOptions) (bytes : List ℕ) (open_before : List Container) (still : OpenLeaf) (p : Point) (line : List ℕ) (row : Row) → IsLine options bytes open_before still p line row → HasNoContent row → IsBegun options bytes (rest_line (contained options open_before still (rest_from p line)).rest) p row
+line-begun options bytes open_before still p line row is quiet = record { is = is.is; front = is.front; quiet = quiet }
 
 -- what stands in front of the first line
-pub first-front : (options : ParseOptions) (bytes : List ℕ) (open_before : List Container) (going : Bool) (p : Point) (lines : List (List ℕ)) (row : Row) (rows : List Row) → AreRows options bytes open_before going p lines (row ∷ rows) → LinePrefix bytes row.change.opens p row.first row.front
-first-front options bytes open_before going p [] row rows h = absurd h
-first-front options bytes open_before going p (line ∷ []) row [] h = h.0.front
-first-front options bytes open_before going p (line ∷ []) row (below ∷ rows) h = absurd h
-first-front options bytes open_before going p (line ∷ next ∷ lines) row [] h = absurd h
-first-front options bytes open_before going p (line ∷ next ∷ lines) row (below ∷ rows) h = h.0.front
+pub first-front : (options : ParseOptions) (bytes : List ℕ) (open_before : List Container) (still : OpenLeaf) (p : Point) (lines : List (List ℕ)) (row : Row) (rows : List Row) → AreRows options bytes open_before still p lines (row ∷ rows) → LinePrefix bytes row.change.opens p row.first row.front
+first-front options bytes open_before still p [] row rows h = absurd h
+first-front options bytes open_before still p (line ∷ []) row [] h = h.0.front
+first-front options bytes open_before still p (line ∷ []) row (below ∷ rows) h = absurd h
+first-front options bytes open_before still p (line ∷ next ∷ lines) row [] h = absurd h
+first-front options bytes open_before still p (line ∷ next ∷ lines) row (below ∷ rows) h = h.0.front
 
 -- The groups of the lines of a text are lines of text that belong together, and lines that are no text.
-pub groups-are : (options : ParseOptions) (bytes : List ℕ) (open_before : List Container) (going : Bool) (p : Point) (lines : List (List ℕ)) (rows : List Row) → AreRows options bytes open_before going p lines rows → EachNoContent rows → AreGroups options bytes (groups rows)
-groups-are options bytes open_before going p [] rows h k = absurd h
-groups-are options bytes open_before going p (line ∷ []) [] h k = absurd h
-groups-are options bytes open_before going p (line ∷ next ∷ lines) [] h k = absurd h
-groups-are options bytes open_before going p (line ∷ []) (row ∷ []) h k = last-are options bytes (rest_line (contained options open_before going (rest_from p line)).rest) p row (line-begun options bytes open_before going p line row h.0 k.0) row.kind refl
-groups-are options bytes open_before going p (line ∷ []) (row ∷ below ∷ rows) h k = absurd h
-groups-are options bytes open_before going p (line ∷ next ∷ lines) (row ∷ []) h k = absurd h
-groups-are options bytes open_before going p (line ∷ next ∷ lines) (row ∷ below ∷ rows) h k =
-    let open_next = behind_line options open_before going p line in
-    let going_next = is_text row.kind in
-    onto-are options bytes (rest_line (contained options open_before going (rest_from p line)).rest) p row h.2 (groups (below ∷ rows)) (line-begun options bytes open_before going p line row h.0 k.0) h.3 h.4
-    (onto-front bytes h.2 below below.kind (groups rows) (first-front options bytes open_next going_next h.2 (next ∷ lines) below rows h.5))
-    (groups-are options bytes open_next going_next h.2 (next ∷ lines) (below ∷ rows) h.5 k.1) row.kind refl
+pub groups-are : (options : ParseOptions) (bytes : List ℕ) (open_before : List Container) (still : OpenLeaf) (p : Point) (lines : List (List ℕ)) (rows : List Row) → AreRows options bytes open_before still p lines rows → EachNoContent rows → AreGroups options bytes (groups rows)
+groups-are options bytes open_before still p [] rows h k = absurd h
+groups-are options bytes open_before still p (line ∷ []) [] h k = absurd h
+groups-are options bytes open_before still p (line ∷ next ∷ lines) [] h k = absurd h
+groups-are options bytes open_before still p (line ∷ []) (row ∷ []) h k = last-are options bytes (rest_line (contained options open_before still (rest_from p line)).rest) p row (line-begun options bytes open_before still p line row h.0 k.0) row.kind refl
+groups-are options bytes open_before still p (line ∷ []) (row ∷ below ∷ rows) h k = absurd h
+groups-are options bytes open_before still p (line ∷ next ∷ lines) (row ∷ []) h k = absurd h
+groups-are options bytes open_before still p (line ∷ next ∷ lines) (row ∷ below ∷ rows) h k =
+    let open_next = behind_line options open_before still p line in
+    let still_next = leaf_behind row.kind in
+    onto-are options bytes (rest_line (contained options open_before still (rest_from p line)).rest) p row h.2 (groups (below ∷ rows)) (line-begun options bytes open_before still p line row h.0 k.0) h.3 h.4
+    (onto-front bytes h.2 below below.kind (groups rows) (first-front options bytes open_next still_next h.2 (next ∷ lines) below rows h.5))
+    (groups-are options bytes open_next still_next h.2 (next ∷ lines) (below ∷ rows) h.5 k.1) row.kind refl
 
 -- each line of a text but the last has an ending
-pub rows-end : (options : ParseOptions) (bytes : List ℕ) (open_before : List Container) (going : Bool) (p : Point) (lines : List (List ℕ)) (rows : List Row) → AreRows options bytes open_before going p lines rows → EachEnds rows
-rows-end options bytes open_before going p lines [] h = tt
-rows-end options bytes open_before going p lines (row ∷ []) h = tt
-rows-end options bytes open_before going p [] (row ∷ below ∷ rows) h = absurd h
-rows-end options bytes open_before going p (line ∷ []) (row ∷ below ∷ rows) h = absurd h
-rows-end options bytes open_before going p (line ∷ next ∷ lines) (row ∷ below ∷ rows) h =
-    (h.2, h.3, rows-end options bytes (behind_line options open_before going p line) (is_text row.kind) h.2 (next ∷ lines) (below ∷ rows) h.5)
+pub rows-end : (options : ParseOptions) (bytes : List ℕ) (open_before : List Container) (still : OpenLeaf) (p : Point) (lines : List (List ℕ)) (rows : List Row) → AreRows options bytes open_before still p lines rows → EachEnds rows
+rows-end options bytes open_before still p lines [] h = tt
+rows-end options bytes open_before still p lines (row ∷ []) h = tt
+rows-end options bytes open_before still p [] (row ∷ below ∷ rows) h = absurd h
+rows-end options bytes open_before still p (line ∷ []) (row ∷ below ∷ rows) h = absurd h
+rows-end options bytes open_before still p (line ∷ next ∷ lines) (row ∷ below ∷ rows) h =
+    (h.2, h.3, rows-end options bytes (behind_line options open_before still p line) (leaf_behind row.kind) h.2 (next ∷ lines) (below ∷ rows) h.5)
 
 -- in front of each line of a text stand prefixes and begins of containers
-pub rows-front : (options : ParseOptions) (bytes : List ℕ) (open_before : List Container) (going : Bool) (p : Point) (lines : List (List ℕ)) (rows : List Row) → AreRows options bytes open_before going p lines rows → EachFront bytes rows
-rows-front options bytes open_before going p lines [] h = tt
-rows-front options bytes open_before going p [] (row ∷ rows) h = absurd h
-rows-front options bytes open_before going p (line ∷ []) (row ∷ []) h = ((p, h.0.front), tt)
-rows-front options bytes open_before going p (line ∷ next ∷ lines) (row ∷ []) h = absurd h
-rows-front options bytes open_before going p (line ∷ []) (row ∷ below ∷ rows) h = absurd h
-rows-front options bytes open_before going p (line ∷ next ∷ lines) (row ∷ below ∷ rows) h =
-    ((p, h.0.front), rows-front options bytes (behind_line options open_before going p line) (is_text row.kind) h.2 (next ∷ lines) (below ∷ rows) h.5)
+pub rows-front : (options : ParseOptions) (bytes : List ℕ) (open_before : List Container) (still : OpenLeaf) (p : Point) (lines : List (List ℕ)) (rows : List Row) → AreRows options bytes open_before still p lines rows → EachFront bytes rows
+rows-front options bytes open_before still p lines [] h = tt
+rows-front options bytes open_before still p [] (row ∷ rows) h = absurd h
+rows-front options bytes open_before still p (line ∷ []) (row ∷ []) h = ((p, h.0.front), tt)
+rows-front options bytes open_before still p (line ∷ next ∷ lines) (row ∷ []) h = absurd h
+rows-front options bytes open_before still p (line ∷ []) (row ∷ below ∷ rows) h = absurd h
+rows-front options bytes open_before still p (line ∷ next ∷ lines) (row ∷ below ∷ rows) h =
+    ((p, h.0.front), rows-front options bytes (behind_line options open_before still p line) (leaf_behind row.kind) h.2 (next ∷ lines) (below ∷ rows) h.5)
 
 -- Where the lines stand.
 
@@ -361,12 +362,12 @@ groups-content options bytes wants reads w other unique (Lines row rows ∷ gs) 
     group-joins row.front given tail (unread_groups gs) out begun.0 rest.0 two.0 begun.1 rest.2 two.1 (groups-content options bytes wants reads w other unique gs are.3 rest.1 two.0 two.2)
 
 -- The events of the lines of a text, joined, and their content read: texts that are not read yet.
-pub content-read : (options : ParseOptions) (bytes : List ℕ) (open_before : List Container) (going : Bool) (p : Point) (lines : List (List ℕ)) (rows : List Row) → AreRows options bytes open_before going p lines rows → EachNoContent rows →
+pub content-read : (options : ParseOptions) (bytes : List ℕ) (open_before : List Container) (still : OpenLeaf) (p : Point) (lines : List (List ℕ)) (rows : List Row) → AreRows options bytes open_before still p lines rows → EachNoContent rows →
     (wants : Content → Bool) (reads : Readings) → wants content.Content ≡ true → wants content.Text ≡ false → ReadsContent options bytes reads →
     (unread : List Event) → Substituted wants reads [] 0 (joined (rows_events rows)) unread → unread ≡ unread_groups (groups rows)
-content-read options bytes open_before going p lines rows are quiet wants reads w other unique unread s =
-    groups-content options bytes wants reads w other unique (groups rows) (groups-are options bytes open_before going p lines rows are quiet) [] unread
-    (subst (λ (l : List Event). Substituted wants reads [] 0 l unread) (joined-rows bytes rows (rows-front options bytes open_before going p lines rows are) (rows-end options bytes open_before going p lines rows are) quiet) s)
+content-read options bytes open_before still p lines rows are quiet wants reads w other unique unread s =
+    groups-content options bytes wants reads w other unique (groups rows) (groups-are options bytes open_before still p lines rows are quiet) [] unread
+    (subst (λ (l : List Event). Substituted wants reads [] 0 l unread) (joined-rows bytes rows (rows-front options bytes open_before still p lines rows are) (rows-end options bytes open_before still p lines rows are) quiet) s)
 
 -- Resolvers.
 
@@ -401,9 +402,9 @@ groups-set options bytes (Lines row rows ∷ gs) are =
     ∙ ap (λ (l : List Event). unread_group (Lines row rows) ++ l) (groups-set options bytes gs are.3)
 
 -- Each leaf is set, and all else stays.
-pub leaves-set : (options : ParseOptions) (bytes : List ℕ) (open_before : List Container) (going : Bool) (p : Point) (lines : List (List ℕ)) (rows : List Row) → AreRows options bytes open_before going p lines rows → EachNoContent rows →
+pub leaves-set : (options : ParseOptions) (bytes : List ℕ) (open_before : List Container) (still : OpenLeaf) (p : Point) (lines : List (List ℕ)) (rows : List Row) → AreRows options bytes open_before still p lines rows → EachNoContent rows →
     resolved (unread_groups (groups rows)) ≡ listed_groups bytes (groups rows)
-leaves-set options bytes open_before going p lines rows are quiet = groups-set options bytes (groups rows) (groups-are options bytes open_before going p lines rows are quiet)
+leaves-set options bytes open_before still p lines rows are quiet = groups-set options bytes (groups rows) (groups-are options bytes open_before still p lines rows are quiet)
 
 -- The text of leaves, and texts.
 
@@ -504,12 +505,12 @@ groups-become options bytes wants reads w rt (Lines row rows ∷ gs) are =
     (lines-become options bytes row rows wants reads w rt are.0 are.2) (groups-become options bytes wants reads w rt gs are.3)
 
 -- The text of leaves, and texts, read: the events of a text.
-pub text-read : (options : ParseOptions) (bytes : List ℕ) (open_before : List Container) (going : Bool) (p : Point) (lines : List (List ℕ)) (rows : List Row) → AreRows options bytes open_before going p lines rows → EachNoContent rows →
+pub text-read : (options : ParseOptions) (bytes : List ℕ) (open_before : List Container) (still : OpenLeaf) (p : Point) (lines : List (List ℕ)) (rows : List Row) → AreRows options bytes open_before still p lines rows → EachNoContent rows →
     (wants : Content → Bool) (reads : Readings) → wants content.Text ≡ true → ReadsText bytes reads →
     (events : List Event) → Substituted wants reads [] 0 (listed_groups bytes (groups rows)) events → events ≡ groups_events bytes (groups rows)
-text-read options bytes open_before going p lines rows are quiet wants reads w rt events s =
+text-read options bytes open_before still p lines rows are quiet wants reads w rt events s =
     let unread : List Event = listed_groups bytes (groups rows) in
     let rest : Rest wants reads (groups_events bytes (groups rows)) [] events =
-    groups-become options bytes wants reads w rt (groups rows) (groups-are options bytes open_before going p lines rows are quiet) [] [] events
+    groups-become options bytes wants reads w rt (groups rows) (groups-are options bytes open_before still p lines rows are quiet) [] [] events
     (subst (λ (l : List Event). Substituted wants reads [] 0 l events) (sym (append-nil unread)) s) in
     rest.2 ∙ ap (λ (l : List Event). groups_events bytes (groups rows) ++ l) rest.3 ∙ append-nil (groups_events bytes (groups rows))

@@ -1,4 +1,5 @@
 -- Lines of text that follow one another, joined.
+use Rattle.md_engine.specs.declared.tokenizer.open_leaf.OpenLeaf.{OpenLeaf}
 use Rattle.std.proofs.Common.{◌≡◌, ◌≢◌, ℕ, zero, suc, Bool, true, false, cond, ◌&&◌, List, [], ◌∷◌, ◌++◌, refl, ap, sym, ◌∙◌, subst, append_assoc}
 use Rattle.std.specs.Prelude.{Option, Some, None}
 use Rattle.std.proofs.lemmas.Bool.{and_right}
@@ -18,7 +19,7 @@ use Rattle.md_seam.specs.Events.Nested.{enter_link, exit, pair, is_enter, is_exi
 use Rattle.md_seam.specs.Standard.State.{Container}
 use Rattle.md_seam.specs.Events.Prefix.{is_prefix}
 use Rattle.markdown_blocks.specs.Change.{ends_of, is_none, open_behind}
-use Rattle.markdown_blocks.specs.Rows.{BlankRow, Group, Held, Lines, Row, RowKind, Single, TextRow, behind_row, ending_events, ending_of, groups, held_at, inside_of, is_text, last_row, leaf_events, onto_groups, onto_lines, row_events, row_events_by, row_kind, rows_at, rows_by, rows_events, tail_events, LeafRow}
+use Rattle.markdown_blocks.specs.Rows.{leaf_behind, BlankRow, Group, Held, Lines, Row, RowKind, Single, TextRow, behind_row, ending_events, ending_of, groups, held_at, inside_of, is_text, last_row, leaf_events, onto_groups, onto_lines, row_events, row_events_by, row_kind, rows_at, rows_by, rows_events, tail_events, LeafRow}
 use Rattle.markdown_blocks.specs.Rows as lines
 use Rattle.markdown_blocks.specs.Unread.{joined_groups, linked_lines}
 use Rattle.markdown_blocks.proofs.FrontNames.{HasFront, ends-are, ends-first, front-content, fronts-are, fronts-prefixes, fronts-stop, prefixes-content}
@@ -49,16 +50,16 @@ inside-no_content wants w options cells p (LeafRow l) = (laws l).no_content want
 inside-no_content wants w options cells p TextRow = tt
 
 -- no content stands inside the lines that flow reads
-pub rows_at-no_content : (options : ParseOptions) (size : ℕ) (open_before : List Container) (going : Bool) (cells : List Cell) (p : Point) → EachNoContent (rows_at options size open_before going cells p)
-rows_at-no_content options zero open_before going cells p = tt
-rows_at-no_content options (suc size) open_before going cells p = by (rows_at-no_content options size) (held_at options open_before going cells p)
+pub rows_at-no_content : (options : ParseOptions) (size : ℕ) (open_before : List Container) (still : OpenLeaf) (cells : List Cell) (p : Point) → EachNoContent (rows_at options size open_before still cells p)
+rows_at-no_content options zero open_before still cells p = tt
+rows_at-no_content options (suc size) open_before still cells p = by (rows_at-no_content options size) (held_at options open_before still cells p)
   where
-    by : ((open_before : List Container) (going : Bool) (cells : List Cell) (p : Point) → EachNoContent (rows_at options size open_before going cells p)) → (h : Held) → EachNoContent (rows_by options h (rows_at options size))
+    by : ((open_before : List Container) (still : OpenLeaf) (cells : List Cell) (p : Point) → EachNoContent (rows_at options size open_before still cells p)) → (h : Held) → EachNoContent (rows_by options h (rows_at options size))
     by further h = (λ wants w. inside-no_content wants w options h.cells h.point (row_kind options h.cells), go (from_ending h.cells))
       where
-        go : (rest : List Cell) → EachNoContent (elim rest [ [] ↦ [] | c ∷ cs ↦ rows_at options size (open_behind h.change) (is_text (row_kind options h.cells)) cs c.after ])
+        go : (rest : List Cell) → EachNoContent (elim rest [ [] ↦ [] | c ∷ cs ↦ rows_at options size (open_behind h.change) (leaf_behind (row_kind options h.cells)) cs c.after ])
         go [] = tt
-        go (c ∷ cs) = further (open_behind h.change) (is_text (row_kind options h.cells)) cs c.after
+        go (c ∷ cs) = further (open_behind h.change) (leaf_behind (row_kind options h.cells)) cs c.after
 
 -- Their events.
 

@@ -1,4 +1,7 @@
 -- What one line does to the containers and the text that are open, where only leaves that are built may be on.
+use Rattle.markdown_blocks.specs.OpenLeaf.{takes_lazy}
+use Rattle.md_engine.specs.declared.tokenizer.open_leaf.OpenLeaf.TheVariants as open_leaf
+use Rattle.md_engine.specs.declared.tokenizer.open_leaf.OpenLeaf.{OpenLeaf}
 use Rattle.std.proofs.Common.{◌≡◌, ℕ, zero, suc, ◌+◌, ◌≤◌, Bool, true, false, cond, ◌&&◌, ◌||◌, List, [], ◌∷◌, ◌++◌, length, refl, ap, sym, ◌∙◌, subst, append-nil, arith}
 use Rattle.std.specs.Prelude.{Option, Some, None}
 use Rattle.std.specs.Option.{is_some}
@@ -17,8 +20,9 @@ use Rattle.markdown_blocks.specs.Change.{Change, change_by, interrupts, is_none,
 use Rattle.markdown_blocks.specs.Fronted.{Contained, Prefixed, contained, no_prefix, one_more, prefixes_new, prefixes_on}
 use Rattle.markdown_blocks.specs.Parsed.{IsBuilt}
 use Rattle.markdown_blocks.specs.Registry.{LeafName, leaf, text_leaf}
-use Rattle.markdown_blocks.specs.Rows.{BlankRow, LeafRow, RowKind, TextRow, is_lazy, is_text, kind_of, line_kind}
-use Rattle.markdown_blocks.specs.Stands.{IsPlain, IsPlainLeaf, containers_of, is_going}
+use Rattle.markdown_blocks.specs.Rows.{leaf_behind, BlankRow, LeafRow, RowKind, TextRow, is_lazy, is_text, kind_of, line_kind}
+use Rattle.markdown_blocks.specs.OpenLeaf.{IsBuiltLeaf, kind_of_leaf}
+use Rattle.markdown_blocks.specs.Stands.{IsPlain, containers_of, still_of}
 use Rattle.markdown_blocks.specs.Leaf.Paragraph.{held_of}
 use Rattle.markdown_blocks.proofs.ContainedLemmas.{change-opens, contained-size, lazy-opens, lazy-some}
 use Rattle.markdown_blocks.proofs.Registry.{came_of, leaf_at, text-laws}
@@ -136,7 +140,7 @@ new_line options (c ∷ cs) r bs = Within bs c (new_line options cs r End)
 -- all else is closed, and it begins in the new ones.
 abbrev pub stepped : ParseOptions → Path → List Container → Prefixed → Path
 stepped options p went new =
-    cond (is_lazy (is_going p) new.containers (line_kind options new.rest)) (longer (renewed (went ++ others_of (containers_of p) went) p) (kept new.rest ∷ []))
+    cond (is_lazy (still_of p) new.containers (line_kind options new.rest)) (longer (renewed (went ++ others_of (containers_of p) went) p) (kept new.rest ∷ []))
     (behind_path (kept_to options went p) (new_line options new.containers new.rest))
 
 renewed-same : (p : Path) → renewed (containers_of p) p ≡ p
@@ -151,7 +155,7 @@ renewed-spot (c ∷ cs) (Within before container p) = renewed-spot cs p
 stepped-more : (options : ParseOptions) (p : Path) (went : List Container) (c : Container) (new : Prefixed) → stepped options p went (one_more c new) ≡ behind_path (kept_to options went p) (new_line options (c ∷ new.containers) new.rest)
 stepped-more options p went c new =
     ap (λ (x : Bool). cond x (longer (renewed (went ++ others_of (containers_of p) went) p) (kept new.rest ∷ [])) (behind_path (kept_to options went p) (new_line options (c ∷ new.containers) new.rest)))
-    (lazy-some (is_going p) c new.containers (line_kind options new.rest))
+    (lazy-some (still_of p) c new.containers (line_kind options new.rest))
 
 -- the containers that open in a new one
 opened-new : (options : ParseOptions) (n : ℕ) (r : Rest) → opened options n r ≡ new_line options (prefixes_new options false n r).containers (prefixes_new options false n r).rest End
@@ -169,12 +173,12 @@ entered-new options bs t = ap (Within bs t.container) (opened-new options (lengt
 -- One line.
 
 -- where all containers go on, and none opens
-leaf-stepped : (options : ParseOptions) (bs : Blocks) (leaf : Leaf) (r : Rest) → IsBuilt options → IsPlainLeaf leaf → At (leaf_line options (record { here = bs; leaf = leaf }) r) ≡ stepped options (At (record { here = bs; leaf = leaf })) [] (no_prefix r)
+leaf-stepped : (options : ParseOptions) (bs : Blocks) (leaf : Leaf) (r : Rest) → IsBuilt options → IsBuiltLeaf leaf → At (leaf_line options (record { here = bs; leaf = leaf }) r) ≡ stepped options (At (record { here = bs; leaf = leaf })) [] (no_prefix r)
 leaf-stepped options bs leaf r built plain =
     text-laws.cases (λ (leaf : Leaf). At (leaf_line options (record { here = bs; leaf = leaf }) r) ≡ stepped options (At (record { here = bs; leaf = leaf })) [] (no_prefix r)) refl text leaf plain
   where
     by : Kept → List Kept → RowKind → Spot → Path
-    by k ks kind s = cond (is_lazy true [] kind) (At (with_line bs (k ∷ ks) r)) (At s)
+    by k ks kind s = cond (is_lazy open_leaf.Text [] kind) (At (with_line bs (k ∷ ks) r)) (At s)
 
     go : (k : Kept) (ks : List Kept) (kind : RowKind) → At (spot_by bs (k ∷ ks) r kind) ≡ by k ks kind (spot_by (text_leaf.behind bs (texts (k ∷ ks))) [] r kind)
     go k ks BlankRow = refl
@@ -189,7 +193,7 @@ leaf-stepped options bs leaf r built plain =
         ∙ sym (ap (by k ks (line_kind options r)) (ap (λ (x : Blocks). fresh_line options x r) (text-laws.shut options bs (k ∷ ks) built.definition) ∙ fresh-found options (text_leaf.behind bs (texts (k ∷ ks))) r built))
 
 -- where all containers go on
-step-at : (options : ParseOptions) (s : Spot) (r : Rest) → IsBuilt options → IsPlainLeaf s.leaf → all_continued options s r ≡ stepped options (At s) [] (all_new options (interrupts (is_open_text s.leaf) []) r)
+step-at : (options : ParseOptions) (s : Spot) (r : Rest) → IsBuilt options → IsBuiltLeaf s.leaf → all_continued options s r ≡ stepped options (At s) [] (all_new options (interrupts (kind_of_leaf s.leaf) []) r)
 unfolding all_continued
 step-at options s r built plain =
     ap (all_continued_by options s r) (free s.leaf plain)
@@ -197,11 +201,11 @@ step-at options s r built plain =
     ∙ ap (stepped options (At s) []) (sym (new-found options interrupting (length r.bytes) r (omega arith)))
   where
     interrupting : Bool
-    interrupting = interrupts (is_open_text s.leaf) []
+    interrupting = interrupts (kind_of_leaf s.leaf) []
 
-    free : (leaf : Leaf) → IsPlainLeaf leaf → cond (is_concrete leaf) None (opens options (is_open_text leaf) r) ≡ opens options (interrupts (is_open_text leaf) []) r
+    free : (leaf : Leaf) → IsBuiltLeaf leaf → cond (is_concrete leaf) None (opens options (is_open_text leaf) r) ≡ opens options (interrupts (kind_of_leaf leaf) []) r
     free leaf plain =
-        text-laws.cases (λ (leaf : Leaf). cond (is_concrete leaf) None (opens options (is_open_text leaf) r) ≡ opens options (interrupts (is_open_text leaf) []) r) refl (λ k ks. refl) leaf plain
+        text-laws.cases (λ (leaf : Leaf). cond (is_concrete leaf) None (opens options (is_open_text leaf) r) ≡ opens options (interrupts (kind_of_leaf leaf) []) r) refl (λ k ks. refl) leaf plain
 
     go : (o : Option Taken) → all_continued_by options s r o ≡ stepped options (At s) [] (found_by options r o)
     go None = leaf-stepped options s.here s.leaf r built plain
@@ -212,22 +216,22 @@ at_spot-longer (At s) lines more e = ap (λ (x : Leaf). At (record { here = s.he
 at_spot-longer (Within before container p) lines more e = ap (Within before container) (at_spot-longer p lines more e)
 
 -- where this container does not go on, and none opens
-lazy-stepped : (options : ParseOptions) (before : Blocks) (c : Container) (p : Path) (r : Rest) → IsBuilt options → (leaf : Leaf) → (spot p).leaf ≡ leaf → IsPlainLeaf leaf →
+lazy-stepped : (options : ParseOptions) (before : Blocks) (c : Container) (p : Path) (r : Rest) → IsBuilt options → (leaf : Leaf) → (spot p).leaf ≡ leaf → IsBuiltLeaf leaf →
     lazy_by options before c p r (with_lazy options leaf r) ≡
-    cond (is_lazy (is_open_text leaf) [] (line_kind options r)) (Within before c (longer (renewed (containers_of p) p) (kept r ∷ []))) (At (fresh_line options (then_block before (container_block c (closed options p))) r))
+    cond (is_lazy (kind_of_leaf leaf) [] (line_kind options r)) (Within before c (longer (renewed (containers_of p) p) (kept r ∷ []))) (At (fresh_line options (then_block before (container_block c (closed options p))) r))
 lazy-stepped options before c p r built leaf e plain = text-laws.cases By (λ e. refl) text leaf plain e
   where
     other : Path
     other = At (fresh_line options (then_block before (container_block c (closed options p))) r)
 
-    longer_by : Bool → RowKind → Path
-    longer_by going kind = cond (is_lazy going [] kind) (Within before c (longer (renewed (containers_of p) p) (kept r ∷ []))) other
+    longer_by : OpenLeaf → RowKind → Path
+    longer_by still kind = cond (is_lazy still [] kind) (Within before c (longer (renewed (containers_of p) p) (kept r ∷ []))) other
 
     By : Leaf → Type 0
-    By leaf = (spot p).leaf ≡ leaf → lazy_by options before c p r (with_lazy options leaf r) ≡ longer_by (is_open_text leaf) (line_kind options r)
+    By leaf = (spot p).leaf ≡ leaf → lazy_by options before c p r (with_lazy options leaf r) ≡ longer_by (kind_of_leaf leaf) (line_kind options r)
 
     go : (k : Kept) (ks : List Kept) → (spot p).leaf ≡ text_leaf.held (k ∷ ks) → (x : Bool) (o : Option LeafName) →
-        lazy_by options before c p r (cond (x || is_some (came_of r o)) None (Some (text_leaf.held (k ∷ ks ++ kept r ∷ [])))) ≡ longer_by true (cond x BlankRow (kind_of o))
+        lazy_by options before c p r (cond (x || is_some (came_of r o)) None (Some (text_leaf.held (k ∷ ks ++ kept r ∷ [])))) ≡ longer_by open_leaf.Text (cond x BlankRow (kind_of o))
     go k ks e true o = refl
     go k ks e false (Some l) = refl
     go k ks e false None = ap (Within before c) (at_spot-longer p (k ∷ ks) (kept r ∷ []) e ∙ ap (λ (q : Path). longer q (kept r ∷ [])) (sym (renewed-same p)))
@@ -237,22 +241,22 @@ lazy-stepped options before c p r built leaf e plain = text-laws.cases By (λ e.
         ap (λ (o : Option Came). lazy_by options before c p r (cond (is_blank r.bytes || is_some o) None (Some (text_leaf.held (k ∷ ks ++ kept r ∷ []))))) (starts-found options LazyText r built)
         ∙ go k ks e (is_blank r.bytes) (leaf_at options r)
 
-step-stopped : (options : ParseOptions) (before : Blocks) (c : Container) (p : Path) (r : Rest) → IsBuilt options → IsPlain p → stopped options before c p r ≡ stepped options (Within before c p) [] (all_new options (interrupts (is_going p) (c ∷ containers_of p)) r)
+step-stopped : (options : ParseOptions) (before : Blocks) (c : Container) (p : Path) (r : Rest) → IsBuilt options → IsPlain p → stopped options before c p r ≡ stepped options (Within before c p) [] (all_new options (interrupts (still_of p) (c ∷ containers_of p)) r)
 unfolding stopped
 step-stopped options before c p r built plain =
     go (opens options false r)
-    ∙ ap (stepped options (Within before c p) []) (sym (new-found options false (length r.bytes) r (omega arith)) ∙ ap (λ (x : Bool). all_new options x r) (never (is_going p)))
+    ∙ ap (stepped options (Within before c p) []) (sym (new-found options false (length r.bytes) r (omega arith)) ∙ ap (λ (x : Bool). all_new options x r) (never (still_of p)))
   where
-    never : (x : Bool) → false ≡ interrupts x (c ∷ containers_of p)
-    never true = refl
-    never false = refl
+    never : (x : OpenLeaf) → false ≡ interrupts x (c ∷ containers_of p)
+    never open_leaf.Text = refl
+    never open_leaf.None = refl
 
     go : (o : Option Taken) → stopped_by options before c p r o ≡ stepped options (Within before c p) [] (found_by options r o)
     go None = lazy-stepped options before c p r built (spot p).leaf refl plain
     go (Some t) = entered-new options (then_block before (container_block c (closed options p))) t ∙ sym (stepped-more options (Within before c p) [] t.container (all_new options false t.rest))
 
 stepped-within : (options : ParseOptions) (before : Blocks) (c d : Container) (p : Path) (went : List Container) (new : Prefixed) → Within before d (stepped options p went new) ≡ stepped options (Within before c p) (d ∷ went) new
-stepped-within options before c d p went new = go (is_lazy (is_going p) new.containers (line_kind options new.rest))
+stepped-within options before c d p went new = go (is_lazy (still_of p) new.containers (line_kind options new.rest))
   where
     lazy : Path
     lazy = longer (renewed (went ++ others_of (containers_of p) went) p) (kept new.rest ∷ [])
@@ -269,7 +273,7 @@ abbrev on_by : ParseOptions → List Container → Rest → Option Taken → Pre
 on_by options cs r o = elim o [ None ↦ no_prefix r | Some t ↦ one_more t.container (prefixes_on options cs t.rest) ]
 
 abbrev pub stepped_on : ParseOptions → Path → Prefixed → Path
-stepped_on options p on = stepped options p on.containers (all_new options (interrupts (is_going p) (others_of (containers_of p) on.containers)) on.rest)
+stepped_on options p on = stepped options p on.containers (all_new options (interrupts (still_of p) (others_of (containers_of p) on.containers)) on.rest)
 
 pub step-new : (options : ParseOptions) (p : Path) (r : Rest) → IsBuilt options → IsPlain p → step options p r ≡ stepped_on options p (prefixes_on options (containers_of p) r)
 step-new options (At s) r built plain = step-at options s r built plain
@@ -280,15 +284,15 @@ step-new options (Within before c p) r built plain = go (λ s. step-new options 
     go below (Some t) =
         let on = prefixes_on options (containers_of p) t.rest in
         ap (Within before t.container) (below t.rest)
-        ∙ stepped-within options before c t.container p on.containers (all_new options (interrupts (is_going p) (others_of (containers_of p) on.containers)) on.rest)
+        ∙ stepped-within options before c t.container p on.containers (all_new options (interrupts (still_of p) (others_of (containers_of p) on.containers)) on.rest)
 
 -- what a line does to the containers, where a path is open
 abbrev pub contained_at : ParseOptions → Path → Rest → Contained
-contained_at options p r = contained options (containers_of p) (is_going p) r
+contained_at options p r = contained options (containers_of p) (still_of p) r
 
 -- whether a line goes on the open text
 abbrev pub goes_lazy : ParseOptions → Path → Contained → Bool
-goes_lazy options p c = is_lazy (is_going p) c.change.opens (line_kind options c.rest)
+goes_lazy options p c = is_lazy (still_of p) c.change.opens (line_kind options c.rest)
 
 -- where it does not: some containers stay, and behind them it opens others, and is a line where nothing is open
 abbrev pub new_path : ParseOptions → Path → Contained → Path
@@ -298,7 +302,7 @@ new_path options p c = behind_path (kept_to options c.change.stays p) (new_line 
 pub step-contained : (options : ParseOptions) (p : Path) (r : Rest) → IsBuilt options → IsPlain p →
     let c = contained_at options p r in step options p r ≡ cond (goes_lazy options p c) (longer (renewed c.change.stays p) (kept c.rest ∷ [])) (new_path options p c)
 unfolding contained
-step-contained options p r built plain = step-new options p r built plain ∙ go lazy ∙ sym (ap (λ (opens : List Container). by (is_lazy (is_going p) opens (line_kind options new.rest)) lazy) (change-opens lazy on.containers others new.containers))
+step-contained options p r built plain = step-new options p r built plain ∙ go lazy ∙ sym (ap (λ (opens : List Container). by (is_lazy (still_of p) opens (line_kind options new.rest)) lazy) (change-opens lazy on.containers others new.containers))
   where
     on : Prefixed
     on = prefixes_on options (containers_of p) r
@@ -307,10 +311,10 @@ step-contained options p r built plain = step-new options p r built plain ∙ go
     others = others_of (containers_of p) on.containers
 
     new : Prefixed
-    new = all_new options (interrupts (is_going p) others) on.rest
+    new = all_new options (interrupts (still_of p) others) on.rest
 
     lazy : Bool
-    lazy = is_lazy (is_going p) new.containers (line_kind options new.rest)
+    lazy = is_lazy (still_of p) new.containers (line_kind options new.rest)
 
     by : Bool → Bool → Path
     by x y = let change : Change = change_by y on.containers others new.containers in cond x (longer (renewed change.stays p) (kept new.rest ∷ [])) (behind_path (kept_to options change.stays p) (new_line options change.opens new.rest))
@@ -322,7 +326,7 @@ step-contained options p r built plain = step-new options p r built plain ∙ go
 -- a line that goes on the open text closes nothing
 pub contained-lazy : (options : ParseOptions) (p : Path) (r : Rest) → goes_lazy options p (contained_at options p r) ≡ true → (contained_at options p r).change.closes ≡ []
 unfolding contained
-contained-lazy options p r h = go lazy (sym (ap (λ (opens : List Container). is_lazy (is_going p) opens (line_kind options new.rest)) (change-opens lazy on.containers others new.containers)) ∙ h)
+contained-lazy options p r h = go lazy (sym (ap (λ (opens : List Container). is_lazy (still_of p) opens (line_kind options new.rest)) (change-opens lazy on.containers others new.containers)) ∙ h)
   where
     on : Prefixed
     on = prefixes_on options (containers_of p) r
@@ -331,10 +335,10 @@ contained-lazy options p r h = go lazy (sym (ap (λ (opens : List Container). is
     others = others_of (containers_of p) on.containers
 
     new : Prefixed
-    new = all_new options (interrupts (is_going p) others) on.rest
+    new = all_new options (interrupts (still_of p) others) on.rest
 
     lazy : Bool
-    lazy = is_lazy (is_going p) new.containers (line_kind options new.rest)
+    lazy = is_lazy (still_of p) new.containers (line_kind options new.rest)
 
     go : (x : Bool) → x ≡ true → (change_by x on.containers others new.containers).closes ≡ []
     go true e = refl
@@ -343,23 +347,23 @@ contained-lazy options p r h = go lazy (sym (ap (λ (opens : List Container). is
 -- Plain paths stay such.
 
 plain-renewed : (cs : List Container) (p : Path) → IsPlain p → IsPlain (renewed cs p)
-plain-renewed cs p plain = subst (λ (s : Spot). IsPlainLeaf s.leaf) (sym (renewed-spot cs p)) plain
+plain-renewed cs p plain = subst (λ (s : Spot). IsBuiltLeaf s.leaf) (sym (renewed-spot cs p)) plain
 
 pub plain-longer : (p : Path) (k : Kept) (ks : List Kept) → IsPlain p → IsPlain (longer p (k ∷ ks))
 plain-longer (At s) k ks plain = go s.leaf plain
   where
-    go : (leaf : Leaf) → IsPlainLeaf leaf → IsPlainLeaf (text_leaf.held (held_of leaf ++ k ∷ ks))
-    go leaf h = text-laws.cases (λ (leaf : Leaf). IsPlainLeaf (text_leaf.held (held_of leaf ++ k ∷ ks))) tt (λ j js. tt) leaf h
+    go : (leaf : Leaf) → IsBuiltLeaf leaf → IsBuiltLeaf (text_leaf.held (held_of leaf ++ k ∷ ks))
+    go leaf h = text-laws.cases (λ (leaf : Leaf). IsBuiltLeaf (text_leaf.held (held_of leaf ++ k ∷ ks))) tt (λ j js. tt) leaf h
 plain-longer (Within before container p) k ks plain = plain-longer p k ks plain
 
 plain-behind : (p : Path) (f : Blocks → Path) → ((bs : Blocks) → IsPlain (f bs)) → IsPlain (behind_path p f)
 plain-behind (At s) f each = each s.here
 plain-behind (Within before container p) f each = plain-behind p f each
 
-plain-fresh : (options : ParseOptions) (bs : Blocks) (r : Rest) → IsBuilt options → IsPlainLeaf (fresh_line options bs r).leaf
-plain-fresh options bs r built = subst (λ (s : Spot). IsPlainLeaf s.leaf) (sym (fresh-found options bs r built)) (go (line_kind options r))
+plain-fresh : (options : ParseOptions) (bs : Blocks) (r : Rest) → IsBuilt options → IsBuiltLeaf (fresh_line options bs r).leaf
+plain-fresh options bs r built = subst (λ (s : Spot). IsBuiltLeaf s.leaf) (sym (fresh-found options bs r built)) (go (line_kind options r))
   where
-    go : (kind : RowKind) → IsPlainLeaf (spot_by bs [] r kind).leaf
+    go : (kind : RowKind) → IsBuiltLeaf (spot_by bs [] r kind).leaf
     go BlankRow = tt
     go (LeafRow l) = tt
     go TextRow = tt
@@ -379,8 +383,8 @@ plain-step options p r built plain = subst IsPlain (sym (step-contained options 
     go false = plain-behind (kept_to options c.change.stays p) (new_line options c.change.opens c.rest) (λ bs. plain-new_line options c.change.opens c.rest bs built)
 
 -- a line that goes on the open text is text
-pub lazy-text : (going : Bool) (opens : List Container) (kind : RowKind) → is_lazy going opens kind ≡ true → is_text kind ≡ true
-lazy-text going opens kind e = (and_parts (going && is_none opens) (is_text kind) e).1
+pub lazy-text : (still : OpenLeaf) (opens : List Container) (kind : RowKind) → is_lazy still opens kind ≡ true → is_text kind ≡ true
+lazy-text still opens kind e = (and_parts (takes_lazy still && is_none opens) (is_text kind) e).1
 
 -- Which containers are open behind a line.
 
@@ -415,41 +419,46 @@ containers-step options p r built plain = ap containers_of (step-contained optio
     c = contained_at options p r
 
     sizes : length c.change.stays + length c.change.closes ≡ length (containers_of p)
-    sizes = contained-size options (containers_of p) (is_going p) r
+    sizes = contained-size options (containers_of p) (still_of p) r
 
     go : (x : Bool) → goes_lazy options p c ≡ x → containers_of (cond x (longer (renewed c.change.stays p) (kept c.rest ∷ [])) (new_path options p c)) ≡ c.change.stays ++ c.change.opens
     go true e =
         containers-longer (renewed c.change.stays p) (kept c.rest ∷ [])
         ∙ containers-renewed c.change.stays p (let none : length c.change.closes ≡ 0 = ap length (contained-lazy options p r e) in omega (arith, sizes))
         ∙ sym (append-nil c.change.stays)
-        ∙ ap (λ (l : List Container). c.change.stays ++ l) (sym (lazy-opens (is_going p) c.change.opens (line_kind options c.rest) e))
+        ∙ ap (λ (l : List Container). c.change.stays ++ l) (sym (lazy-opens (still_of p) c.change.opens (line_kind options c.rest) e))
     go false e =
         containers-behind (kept_to options c.change.stays p) (new_line options c.change.opens c.rest) c.change.opens (λ bs. containers-new_line options c.change.opens c.rest bs)
         ∙ ap (λ (l : List Container). l ++ c.change.opens) (containers-kept options c.change.stays p (omega (arith, sizes)))
 
--- Whether text is open behind a line.
+-- The leaf that is open behind a line.
 
-going-longer : (p : Path) (ks : List Kept) → is_going (longer p ks) ≡ true
-going-longer (At s) ks = refl
-going-longer (Within before container p) ks = going-longer p ks
+text-behind : (kind : RowKind) → is_text kind ≡ true → leaf_behind kind ≡ open_leaf.Text
+text-behind BlankRow e = cc
+text-behind (LeafRow l) e = cc
+text-behind TextRow e = refl
 
-going-behind : (p : Path) (f : Blocks → Path) (x : Bool) → ((bs : Blocks) → is_going (f bs) ≡ x) → is_going (behind_path p f) ≡ x
-going-behind (At s) f x each = each s.here
-going-behind (Within before container p) f x each = going-behind p f x each
+still-longer : (p : Path) (ks : List Kept) → still_of (longer p ks) ≡ open_leaf.Text
+still-longer (At s) ks = refl
+still-longer (Within before container p) ks = still-longer p ks
 
-going-new_line : (options : ParseOptions) (cs : List Container) (r : Rest) (bs : Blocks) → IsBuilt options →
-    is_going (new_line options cs r bs) ≡ is_text (line_kind options r)
-going-new_line options [] r bs built = ap (λ (s : Spot). is_open_text s.leaf) (fresh-found options bs r built) ∙ go (line_kind options r)
+still-behind : (p : Path) (f : Blocks → Path) (x : OpenLeaf) → ((bs : Blocks) → still_of (f bs) ≡ x) → still_of (behind_path p f) ≡ x
+still-behind (At s) f x each = each s.here
+still-behind (Within before container p) f x each = still-behind p f x each
+
+still-new_line : (options : ParseOptions) (cs : List Container) (r : Rest) (bs : Blocks) → IsBuilt options →
+    still_of (new_line options cs r bs) ≡ leaf_behind (line_kind options r)
+still-new_line options [] r bs built = ap (λ (s : Spot). kind_of_leaf s.leaf) (fresh-found options bs r built) ∙ go (line_kind options r)
   where
-    go : (kind : RowKind) → is_open_text (spot_by bs [] r kind).leaf ≡ is_text kind
+    go : (kind : RowKind) → kind_of_leaf (spot_by bs [] r kind).leaf ≡ leaf_behind kind
     go BlankRow = refl
     go (LeafRow l) = refl
     go TextRow = refl
-going-new_line options (c ∷ cs) r bs built = going-new_line options cs r End built
+still-new_line options (c ∷ cs) r bs built = still-new_line options cs r End built
 
-pub going-step : (options : ParseOptions) (p : Path) (r : Rest) → IsBuilt options → IsPlain p →
-    is_going (step options p r) ≡ is_text (line_kind options (contained_at options p r).rest)
-going-step options p r built plain = ap is_going (step-contained options p r built plain) ∙ go (goes_lazy options p c) refl
+pub still-step : (options : ParseOptions) (p : Path) (r : Rest) → IsBuilt options → IsPlain p →
+    still_of (step options p r) ≡ leaf_behind (line_kind options (contained_at options p r).rest)
+still-step options p r built plain = ap still_of (step-contained options p r built plain) ∙ go (goes_lazy options p c) refl
   where
     c : Contained
     c = contained_at options p r
@@ -457,8 +466,8 @@ going-step options p r built plain = ap is_going (step-contained options p r bui
     kind : RowKind
     kind = line_kind options c.rest
 
-    go : (x : Bool) → goes_lazy options p c ≡ x → is_going (cond x (longer (renewed c.change.stays p) (kept c.rest ∷ [])) (new_path options p c)) ≡ is_text kind
-    go true e = going-longer (renewed c.change.stays p) (kept c.rest ∷ []) ∙ sym (lazy-text (is_going p) c.change.opens kind e)
+    go : (x : Bool) → goes_lazy options p c ≡ x → still_of (cond x (longer (renewed c.change.stays p) (kept c.rest ∷ [])) (new_path options p c)) ≡ leaf_behind kind
+    go true e = still-longer (renewed c.change.stays p) (kept c.rest ∷ []) ∙ sym (text-behind kind (lazy-text (still_of p) c.change.opens kind e))
     go false e =
-        going-behind (kept_to options c.change.stays p) (new_line options c.change.opens c.rest) (is_text kind)
-        (λ bs. going-new_line options c.change.opens c.rest bs built)
+        still-behind (kept_to options c.change.stays p) (new_line options c.change.opens c.rest) (leaf_behind kind)
+        (λ bs. still-new_line options c.change.opens c.rest bs built)

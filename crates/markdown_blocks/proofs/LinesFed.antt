@@ -2,6 +2,8 @@
 --
 -- What is left of one line is a behaviour too, whose rule stops where the next line begins. So each call comes to what the line comes
 -- to, up to the call that takes the ending of the line; there the next line begins.
+use Rattle.md_engine.specs.declared.tokenizer.open_leaf.OpenLeaf.TheVariants as open_leaf
+use Rattle.md_engine.specs.declared.tokenizer.open_leaf.OpenLeaf.{OpenLeaf}
 use Rattle.std.proofs.Common.{◌≡◌, ◌^◌, ◌<◌, ◌⊎◌, inl, inr, ℕ, zero, suc, ◌+◌, Bool, true, false, cond, nat_eq, List, [], ◌∷◌, ◌++◌, length, take, drop, Option, Some, None, refl, sym, ◌∙◌, ap, subst, arith, append_assoc, append-nil, length-drop}
 use Rattle.std.proofs.lemmas.Bool.{eqb-true}
 use Rattle.md_engine.specs.declared.configuration.ParseOptions.{ParseOptions}
@@ -32,7 +34,7 @@ use Rattle.markdown_blocks.specs.Change.{ends_of, open_behind}
 use Rattle.markdown_blocks.specs.Fed.{fed, feeds, flow_begins, line_begins, not_left, place_behind}
 use Rattle.markdown_blocks.specs.FlowRule.{Rule, ended, line_then}
 use Rattle.markdown_blocks.specs.LineFlags.{ending_name}
-use Rattle.markdown_blocks.specs.Rows.{Held, Row, after_ending, behind_row, closes_before, held_at, is_text, onto_rows, row_events, row_kind, row_of, rows_at, rows_events}
+use Rattle.markdown_blocks.specs.Rows.{leaf_behind, Held, Row, after_ending, behind_row, closes_before, held_at, is_text, onto_rows, row_events, row_kind, row_of, rows_at, rows_events}
 use Rattle.markdown_blocks.specs.Stands.{AreOpen}
 use Rattle.markdown_blocks.specs.States.{FlowStep, flow_behaves_by, flow_table_scheme, flow_transition}
 use Rattle.markdown_blocks.specs.TextRows.{text_cells, text_rows, text_setting}
@@ -47,19 +49,19 @@ abbrev pub open_after : List Container → List Row → List Container
 open_after cs [] = cs
 open_after cs (row ∷ rows) = open_after (open_behind row.change) rows
 
--- and whether the last was text
-abbrev pub text_after : Bool → List Row → Bool
-text_after going [] = going
-text_after going (row ∷ rows) = text_after (is_text row.kind) rows
+-- and the leaf that is open behind them
+abbrev pub leaf_after : OpenLeaf → List Row → OpenLeaf
+leaf_after still [] = still
+leaf_after still (row ∷ rows) = leaf_after (leaf_behind row.kind) rows
 
 -- the last of them says these, and where the next begins
 open-last : (cs : List Container) (rows : List Row) (row : Row) → open_after cs (rows ++ row ∷ []) ≡ open_behind row.change
 open-last cs [] row = refl
 open-last cs (first ∷ rows) row = open-last (open_behind first.change) rows row
 
-text-last : (going : Bool) (rows : List Row) (row : Row) → text_after going (rows ++ row ∷ []) ≡ is_text row.kind
-text-last going [] row = refl
-text-last going (first ∷ rows) row = text-last (is_text first.kind) rows row
+leaf-last : (still : OpenLeaf) (rows : List Row) (row : Row) → leaf_after still (rows ++ row ∷ []) ≡ leaf_behind row.kind
+leaf-last still [] row = refl
+leaf-last still (first ∷ rows) row = leaf-last (leaf_behind first.kind) rows row
 
 place-last : (p : Point) (rows : List Row) (row : Row) → place_behind p (rows ++ row ∷ []) ≡ behind_row row
 place-last p [] row = refl
@@ -107,19 +109,19 @@ record LineAt (options : ParseOptions) (from : Point) (all : List Row) (n : ℕ)
   tail : List Event
   point : Point
   containers : List Container
-  going : Bool
-  begins : Begins front tail point containers going h
+  still : OpenLeaf
+  begins : Begins front tail point containers still h
   -- the further lines are read from here on
   size : ℕ
   fits : length left < size
-  rows : drop n all ≡ rows_at options size containers going left h.point
+  rows : drop n all ≡ rows_at options size containers still left h.point
   -- the events of the lines before it, with the ends of the containers that the line closes, and without them
   read : front ++ (ends_of (closes_before containers (drop n all)) point ++ tail) ≡ rows_events (take n all)
   events : h.events ≡ rows_events (not_left (take n all))
   -- where the last of them has ended, and what they leave open
   place : h.point ≡ place_behind from (take n all)
   containers_are : containers ≡ open_after [] (take n all)
-  going_is : going ≡ text_after false (take n all)
+  still_is : still ≡ leaf_after open_leaf.None (take n all)
 
 regroup : (front ends tail more : List Event) → front ++ (ends ++ (tail ++ more)) ≡ (front ++ (ends ++ tail)) ++ more
 regroup front ends tail more = simp append_assoc
@@ -129,16 +131,16 @@ line-next : (options : ParseOptions) (from : Point) (all : List Row) (n : ℕ) (
 line-next options from all n left h l rest new is = by l.size l.fits l.rows
   where
     x : Held
-    x = held_at options l.containers l.going left h.point
+    x = held_at options l.containers l.still left h.point
 
-    d : Done line_stop options l.front l.tail l.point (held_at options l.containers l.going left h.point) (line_then options line_stop left h)
-    d = line-done options line_stop l.front l.tail l.point l.containers l.going left h l.begins
+    d : Done line_stop options l.front l.tail l.point (held_at options l.containers l.still left h.point) (line_then options line_stop left h)
+    d = line-done options line_stop l.front l.tail l.point l.containers l.still left h l.begins
 
     behind : List Container
-    behind = open_behind (held_at options l.containers l.going left h.point).change
+    behind = open_behind (held_at options l.containers l.still left h.point).change
 
-    text : Bool
-    text = is_text (row_kind options (held_at options l.containers l.going left h.point).cells)
+    text : OpenLeaf
+    text = leaf_behind (row_kind options (held_at options l.containers l.still left h.point).cells)
 
     -- behind the line, with the ends of these containers
     added : (c : Cell) (xs : List Cell) (below : List Row) (ls : List Container) → from_ending x.cells ≡ c ∷ xs → drop n all ≡ row_of options x below ∷ below →
@@ -153,9 +155,9 @@ line-next options from all n left h l rest new is = by l.size l.fits l.rows
         ∙ ap (λ (es : List Event). es ++ (row ++ [])) l.read
         ∙ sym (events-append (take n all) (leaving ls (row_of options x below) ∷ []))
 
-    by : (size : ℕ) → length left < size → drop n all ≡ rows_at options size l.containers l.going left h.point → LineAt options from all (suc n) rest new
+    by : (size : ℕ) → length left < size → drop n all ≡ rows_at options size l.containers l.still left h.point → LineAt options from all (suc n) rest new
     by zero fits rows = absurd (omega arith)
-    by (suc m) fits rows = go (from_ending x.cells) refl (from_ending-stops x.cells) (omega (arith, from_ending-shrinks x.cells, held-shorter options l.containers l.going left h.point)) rows
+    by (suc m) fits rows = go (from_ending x.cells) refl (from_ending-stops x.cells) (omega (arith, from_ending-shrinks x.cells, held-shorter options l.containers l.still left h.point)) rows
       where
         go : (ls : List Cell) → from_ending x.cells ≡ ls → Stops ls → length ls < suc m → drop n all ≡ onto_rows options x (rows_below options m behind text ls) → LineAt options from all (suc n) rest new
         go [] e stops short rows =
@@ -174,8 +176,8 @@ line-next options from all n left h l rest new is = by l.size l.fits l.rows
               tail = tail;
               point = d.new.point;
               containers = behind;
-              going = text;
-              begins = next-begins behind text c d.new d.rest d.interrupt d.containers;
+              still = text;
+              begins = next-begins behind text c d.new d.rest d.leaf d.containers;
               size = m;
               fits = omega arith;
               rows = dropped;
@@ -183,13 +185,13 @@ line-next options from all n left h l rest new is = by l.size l.fits l.rows
               events = added c xs below [] e rows ∙ ap rows_events (sym (not_left-last (take n all) row)) ∙ ap (λ (rs : List Row). rows_events (not_left rs)) (sym taken);
               place = ap (λ (ls : List Cell). elim (after_ending ls) [ None ↦ line_end x.cells x.point | Some q ↦ q ]) (sym e) ∙ sym (ap (place_behind from) taken ∙ place-last from (take n all) row);
               containers_are = sym (ap (open_after []) taken ∙ open-last [] (take n all) row);
-              going_is = sym (ap (text_after false) taken ∙ text-last false (take n all) row);
+              still_is = sym (ap (leaf_after open_leaf.None) taken ∙ leaf-last open_leaf.None (take n all) row);
             })
 
 -- where a line begins there are more lines than before it
-is-further : (options : ParseOptions) (all : List Row) (n size : ℕ) (cs : List Container) (going : Bool) (left : List Cell) (p : Point) → length left < size → drop n all ≡ rows_at options size cs going left p → n < length all
-is-further options all n zero cs going left p fits rows = absurd (omega arith)
-is-further options all n (suc m) cs going left p fits rows =
+is-further : (options : ParseOptions) (all : List Row) (n size : ℕ) (cs : List Container) (still : OpenLeaf) (left : List Cell) (p : Point) → length left < size → drop n all ≡ rows_at options size cs still left p → n < length all
+is-further options all n zero cs still left p fits rows = absurd (omega arith)
+is-further options all n (suc m) cs still left p fits rows =
     let many = ap length rows in
     omega (arith, many, length-drop n all)
 
@@ -349,7 +351,7 @@ pub record LineFed (bytes : List ℕ) (options : ParseOptions) (p : Point) (n : 
   pub further : n < length (text_rows options bytes p)
   pub point : w.point ≡ place_behind p (take n (text_rows options bytes p))
   pub containers : AreOpen w.flags.containers (open_after [] (take n (text_rows options bytes p)))
-  pub interrupt : w.flags.interrupt ≡ text_after false (take n (text_rows options bytes p))
+  pub leaf : w.flags.leaf ≡ leaf_after open_leaf.None (take n (text_rows options bytes p))
   pub events : w.events ≡ rows_events (not_left (take n (text_rows options bytes p)))
 
 -- a call that feeds a line
@@ -373,7 +375,7 @@ text-within : (is_name : ResolveName → ResolveName → Bool) (bytes : List ℕ
     Within options (feed_of bytes options p) p (text_rows options bytes p) (fed (FlowStep is_name) true line_begins (flow_begins bytes options p) t v run) t v
 text-within is_name bytes options p small t v run = within-run is_name options (feed_of bytes options p) p (text_rows options bytes p) line_begins (flow_begins bytes options p) (text-follows_it bytes options p small) refl begun t v run
   where
-    closed : (held_at options [] false (text_cells bytes options p) p).change.closes ≡ []
+    closed : (held_at options [] open_leaf.None (text_cells bytes options p) p).change.closes ≡ []
     closed = no-closes options (text_cells bytes options p) p
 
     begun : Within options (feed_of bytes options p) p (text_rows options bytes p) 0 line_begins (flow_begins bytes options p)
@@ -386,7 +388,7 @@ text-within is_name bytes options p small t v run = within-run is_name options (
         tail = [];
         point = p;
         containers = [];
-        going = false;
+        still = open_leaf.None;
         begins = text-begins (here (flow_begins bytes options p)) refl refl refl refl refl refl refl;
         size = suc (length (text_cells bytes options p));
         fits = omega arith;
@@ -395,7 +397,7 @@ text-within is_name bytes options p small t v run = within-run is_name options (
         events = refl;
         place = refl;
         containers_are = refl;
-        going_is = refl;
+        still_is = refl;
       };
       comes = refl;
     }
@@ -406,10 +408,10 @@ pub line-fed : (is_name : ResolveName → ResolveName → Bool) (bytes : List �
     feeds calls.name (looks v) ≡ 1 → LineFed bytes options p (suc (fed (FlowStep is_name) true line_begins (flow_begins bytes options p) t v run)) v'
 line-fed is_name bytes options p small t v t' v' run c one = record {
   frames = b.frames;
-  further = is-further options (text_rows options bytes p) (suc n) b.line.size b.line.containers b.line.going (feed_of bytes options p v'.point) v'.point b.line.fits b.line.rows;
+  further = is-further options (text_rows options bytes p) (suc n) b.line.size b.line.containers b.line.still (feed_of bytes options p v'.point) v'.point b.line.fits b.line.rows;
   point = b.line.place;
   containers = let P : List Container → Type 0 = λ cs. AreOpen v'.flags.containers cs in subst P b.line.containers_are b.line.begins.containers;
-  interrupt = b.line.begins.interrupt ∙ b.line.going_is;
+  leaf = b.line.begins.leaf ∙ b.line.still_is;
   events = b.line.events;
 }
   where
@@ -435,18 +437,18 @@ line-last : (options : ParseOptions) (from : Point) (all : List Row) (n : ℕ) (
 line-last options from all n left h l new is = by l.size l.fits l.rows
   where
     x : Held
-    x = held_at options l.containers l.going left h.point
+    x = held_at options l.containers l.still left h.point
 
-    d : Done line_stop options l.front l.tail l.point (held_at options l.containers l.going left h.point) (line_then options line_stop left h)
-    d = line-done options line_stop l.front l.tail l.point l.containers l.going left h l.begins
+    d : Done line_stop options l.front l.tail l.point (held_at options l.containers l.still left h.point) (line_then options line_stop left h)
+    d = line-done options line_stop l.front l.tail l.point l.containers l.still left h l.begins
 
     behind : List Container
-    behind = open_behind (held_at options l.containers l.going left h.point).change
+    behind = open_behind (held_at options l.containers l.still left h.point).change
 
-    text : Bool
-    text = is_text (row_kind options (held_at options l.containers l.going left h.point).cells)
+    text : OpenLeaf
+    text = leaf_behind (row_kind options (held_at options l.containers l.still left h.point).cells)
 
-    by : (size : ℕ) → length left < size → drop n all ≡ rows_at options size l.containers l.going left h.point → suc n ≡ length all
+    by : (size : ℕ) → length left < size → drop n all ≡ rows_at options size l.containers l.still left h.point → suc n ≡ length all
     by zero fits rows = absurd (omega arith)
     by (suc m) fits rows = go (from_ending x.cells) refl (from_ending-stops x.cells) rows
       where

@@ -1,4 +1,6 @@
 -- The events of a text nest.
+use Rattle.md_engine.specs.declared.tokenizer.open_leaf.OpenLeaf.TheVariants as open_leaf
+use Rattle.md_engine.specs.declared.tokenizer.open_leaf.OpenLeaf.{OpenLeaf}
 use Rattle.std.proofs.Common.{◌≡◌, ◌≢◌, ℕ, Bool, true, false, cond, List, [], ◌∷◌, ◌++◌, refl, ap, sym, ◌∙◌, subst, append_assoc, append-nil}
 use Rattle.std.specs.Prelude.{IsTrue, Option, Some, None}
 use Rattle.std.proofs.lemmas.Bool.{and_parts}
@@ -12,7 +14,7 @@ use Rattle.md_seam.specs.Standard.State.{Container}
 use Rattle.md_seam.proofs.NestedLemmas.{at_or_before-refl, balanced-none, forward-append, forward-from, matches-append, open_after-append}
 use Rattle.markdown_blocks.specs.Change.{Change, ends_of, is_none, open_behind}
 use Rattle.markdown_blocks.specs.Fronted.{contained, rest_from, rest_line}
-use Rattle.markdown_blocks.specs.Rows.{final_row, first_row, group_done, group_kind, LeafRow, ending_of, BlankRow, Group, Lines, Row, RowKind, Single, TextRow, behind_row, closes_before, ending_events, goes_on, groups, groups_events, is_text, last_row, onto_groups, tail_events}
+use Rattle.markdown_blocks.specs.Rows.{leaf_behind, final_row, first_row, group_done, group_kind, LeafRow, ending_of, BlankRow, Group, Lines, Row, RowKind, Single, TextRow, behind_row, closes_before, ending_events, goes_on, groups, groups_events, is_text, last_row, onto_groups, tail_events}
 use Rattle.markdown_blocks.proofs.ContainedLemmas.{contained-shapes, none-nil}
 use Rattle.markdown_blocks.proofs.FrontFacts.{LinePrefix}
 use Rattle.markdown_blocks.proofs.FrontLemmas.{Turns, ends-spans, ends-turn, fronts-spans, fronts-turn, names-append, shapes-names, turns-balanced}
@@ -182,47 +184,47 @@ record Hold (options : ParseOptions) (bytes : List ℕ) (P : List Name → Point
   holds : P names p (groups rows)
 
 -- what was open before a line ends there or stays
-change-names : (options : ParseOptions) (bytes line : List ℕ) (cs : List Container) (going : Bool) (p : Point) (row : Row) → IsLine options bytes cs going p line row → open_names cs ≡ open_names row.change.closes ++ open_names row.change.stays
-change-names options bytes line cs going p row is =
+change-names : (options : ParseOptions) (bytes line : List ℕ) (cs : List Container) (still : OpenLeaf) (p : Point) (row : Row) → IsLine options bytes cs still p line row → open_names cs ≡ open_names row.change.closes ++ open_names row.change.stays
+change-names options bytes line cs still p row is =
     subst (λ (change : Change). open_names cs ≡ open_names change.closes ++ open_names change.stays) (sym is.change)
-    (sym (shapes-names (change.stays ++ change.closes) cs (contained-shapes options cs going (rest_from p line))) ∙ names-append change.stays change.closes)
+    (sym (shapes-names (change.stays ++ change.closes) cs (contained-shapes options cs still (rest_from p line))) ∙ names-append change.stays change.closes)
   where
     change : Change
-    change = (contained options cs going (rest_from p line)).change
+    change = (contained options cs still (rest_from p line)).change
 
 -- what is open behind a line, without what ends there, is what the line leaves
-change-keeps : (options : ParseOptions) (bytes line : List ℕ) (cs : List Container) (going : Bool) (p : Point) (row : Row) (kept : List Name) → IsLine options bytes cs going p line row → open_names (behind_line options cs going p line) ≡ open_names row.leaves ++ kept →
+change-keeps : (options : ParseOptions) (bytes line : List ℕ) (cs : List Container) (still : OpenLeaf) (p : Point) (row : Row) (kept : List Name) → IsLine options bytes cs still p line row → open_names (behind_line options cs still p line) ≡ open_names row.leaves ++ kept →
     Keeps (open_names row.change.stays) (Single row) kept
-change-keeps options bytes line cs going p row kept is h = sym (names-append row.change.stays row.change.opens) ∙ ap (λ (change : Change). open_names (open_behind change)) is.change ∙ h
+change-keeps options bytes line cs still p row kept is h = sym (names-append row.change.stays row.change.opens) ∙ ap (λ (change : Change). open_names (open_behind change)) is.change ∙ h
 
-line-holds : (options : ParseOptions) (bytes : List ℕ) (P : List Name → Point → List Group → Type 0) → ByGroups bytes P → (cs : List Container) (going : Bool) (p : Point) (line : List ℕ) (row : Row) (rows : List Row) (kept : List Name) → IsLine options bytes cs going p line row →
-    IsTrue (at_or_before row.end (behind_row row)) → open_names (behind_line options cs going p line) ≡ open_names row.leaves ++ kept → Ended bytes row (groups rows) → Begun options bytes P kept (behind_row row) (groups rows) → P kept (behind_row row) (groups rows) → Hold options bytes P cs p (row ∷ rows)
-line-holds options bytes P by cs going p line row rows kept is ends left ended begun h =
-    let rest : List ℕ = rest_line (contained options cs going (rest_from p line)).rest in
-    let here : IsBegun options bytes rest (open_names row.change.stays) kept p row = record { is = is.is; front = is.front; ends = ends; keeps = change-keeps options bytes line cs going p row kept is left } in
+line-holds : (options : ParseOptions) (bytes : List ℕ) (P : List Name → Point → List Group → Type 0) → ByGroups bytes P → (cs : List Container) (still : OpenLeaf) (p : Point) (line : List ℕ) (row : Row) (rows : List Row) (kept : List Name) → IsLine options bytes cs still p line row →
+    IsTrue (at_or_before row.end (behind_row row)) → open_names (behind_line options cs still p line) ≡ open_names row.leaves ++ kept → Ended bytes row (groups rows) → Begun options bytes P kept (behind_row row) (groups rows) → P kept (behind_row row) (groups rows) → Hold options bytes P cs p (row ∷ rows)
+line-holds options bytes P by cs still p line row rows kept is ends left ended begun h =
+    let rest : List ℕ = rest_line (contained options cs still (rest_from p line)).rest in
+    let here : IsBegun options bytes rest (open_names row.change.stays) kept p row = record { is = is.is; front = is.front; ends = ends; keeps = change-keeps options bytes line cs still p row kept is left } in
     let both = onto-holds options bytes rest P by (open_names row.change.stays) kept p row (groups rows) here ended begun h row.kind refl in
-    record { names = open_names row.change.stays; left = change-names options bytes line cs going p row is; begun = both.1; holds = both.0 }
+    record { names = open_names row.change.stays; left = change-names options bytes line cs still p row is; begun = both.1; holds = both.0 }
 
 -- It holds of the groups of a text.
-lines-hold : (options : ParseOptions) (bytes : List ℕ) (P : List Name → Point → List Group → Type 0) → ByGroups bytes P → (cs : List Container) (going : Bool) (p : Point) (lines : List (List ℕ)) (rows : List Row) → AreRows options bytes cs going p lines rows → Hold options bytes P cs p rows
-lines-hold options bytes P by cs going p (line ∷ []) (row ∷ []) are =
-    let behind : List Container = behind_line options cs going p line in
+lines-hold : (options : ParseOptions) (bytes : List ℕ) (P : List Name → Point → List Group → Type 0) → ByGroups bytes P → (cs : List Container) (still : OpenLeaf) (p : Point) (lines : List (List ℕ)) (rows : List Row) → AreRows options bytes cs still p lines rows → Hold options bytes P cs p rows
+lines-hold options bytes P by cs still p (line ∷ []) (row ∷ []) are =
+    let behind : List Container = behind_line options cs still p line in
     let ends : IsTrue (at_or_before row.end (behind_row row)) = subst (λ (q : Point). IsTrue (at_or_before row.end q)) (sym (behind-none row are.2)) (at_or_before-refl row.end) in
     let left : open_names behind ≡ open_names row.leaves ++ [] = sym (append-nil (open_names row.leaves) ∙ ap open_names are.1) in
-    line-holds options bytes P by cs going p line row [] [] are.0 ends left tt tt (by.none (behind_row row))
-lines-hold options bytes P by cs going p (line ∷ next ∷ lines) (row ∷ below ∷ rows) are =
-    let many : List Container = behind_line options cs going p line in
+    line-holds options bytes P by cs still p line row [] [] are.0 ends left tt tt (by.none (behind_row row))
+lines-hold options bytes P by cs still p (line ∷ next ∷ lines) (row ∷ below ∷ rows) are =
+    let many : List Container = behind_line options cs still p line in
     let behind : behind_row row ≡ are.2 = behind-is row are.2 are.3 in
     let ends : IsTrue (at_or_before row.end (behind_row row)) = subst (λ (q : Point). IsTrue (at_or_before row.end q)) (sym behind) (ending-order bytes row.end are.2 are.4) in
-    let more : Hold options bytes P many are.2 (below ∷ rows) = lines-hold options bytes P by many (is_text row.kind) are.2 (next ∷ lines) (below ∷ rows) are.5 in
-    line-holds options bytes P by cs going p line row (below ∷ rows) more.names are.0 ends (more.left ∙ ap (λ (l : List Container). open_names l ++ more.names) (sym are.1)) (ended (groups (below ∷ rows)))
+    let more : Hold options bytes P many are.2 (below ∷ rows) = lines-hold options bytes P by many (leaf_behind row.kind) are.2 (next ∷ lines) (below ∷ rows) are.5 in
+    line-holds options bytes P by cs still p line row (below ∷ rows) more.names are.0 ends (more.left ∙ ap (λ (l : List Container). open_names l ++ more.names) (sym are.1)) (ended (groups (below ∷ rows)))
     (subst (λ (q : Point). Begun options bytes P more.names q (groups (below ∷ rows))) (sym behind) more.begun)
     (subst (λ (q : Point). P more.names q (groups (below ∷ rows))) (sym behind) more.holds)
   where
     ended : (gs : List Group) → Ended bytes row gs
     ended [] = tt
     ended (group ∷ gs) = (are.2, are.3, are.4)
-lines-hold options bytes P by cs going p lines rows are = absurd are
+lines-hold options bytes P by cs still p lines rows are = absurd are
 
 -- nothing is left of nothing
 none-left : (ended names : List Name) → [] ≡ ended ++ names → names ≡ []
@@ -230,9 +232,9 @@ none-left [] names e = sym e
 none-left (name ∷ ended) names e = cc
 
 -- It holds of those of a whole text.
-pub rows-hold : (bytes : List ℕ) (P : List Name → Point → List Group → Type 0) → ByGroups bytes P → (options : ParseOptions) (p : Point) (lines : List (List ℕ)) (rows : List Row) → AreRows options bytes [] false p lines rows → P [] p (groups rows)
+pub rows-hold : (bytes : List ℕ) (P : List Name → Point → List Group → Type 0) → ByGroups bytes P → (options : ParseOptions) (p : Point) (lines : List (List ℕ)) (rows : List Row) → AreRows options bytes [] open_leaf.None p lines rows → P [] p (groups rows)
 rows-hold bytes P by options p lines rows are =
-    let hold : Hold options bytes P [] p rows = lines-hold options bytes P by [] false p lines rows are in
+    let hold : Hold options bytes P [] p rows = lines-hold options bytes P by [] open_leaf.None p lines rows are in
     subst (λ (l : List Name). P l p (groups rows)) (none-left (open_names (closes_before [] rows)) hold.names hold.left) hold.holds
 
 -- The events of a text.
@@ -251,5 +253,5 @@ nests-by_groups bytes = record {
 }
 
 -- The groups of the lines of a text nest.
-pub rows-nest : (options : ParseOptions) (bytes : List ℕ) (p : Point) (lines : List (List ℕ)) (rows : List Row) → AreRows options bytes [] false p lines rows → Nests bytes p (groups rows)
+pub rows-nest : (options : ParseOptions) (bytes : List ℕ) (p : Point) (lines : List (List ℕ)) (rows : List Row) → AreRows options bytes [] open_leaf.None p lines rows → Nests bytes p (groups rows)
 rows-nest options bytes p lines rows are = under-none p (groups_events bytes (groups rows)) (rows-hold bytes (NestsUnder bytes) (nests-by_groups bytes) options p lines rows are)

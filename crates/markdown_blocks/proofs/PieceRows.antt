@@ -1,4 +1,6 @@
 -- The pieces of every text stand over their bytes, before its text is read and behind.
+use Rattle.md_engine.specs.declared.tokenizer.open_leaf.OpenLeaf.TheVariants as open_leaf
+use Rattle.md_engine.specs.declared.tokenizer.open_leaf.OpenLeaf.{OpenLeaf}
 use Rattle.std.proofs.Common.{◌≡◌, ℕ, Bool, true, false, cond, List, [], ◌∷◌, ◌++◌, slice_range, refl, ap, sym, subst, arith}
 use Rattle.std.specs.Prelude.{Option, Some, None}
 use Rattle.md_engine.specs.declared.configuration.ParseOptions.{ParseOptions}
@@ -18,7 +20,7 @@ use Rattle.markdown_blocks.specs.Registry.{container_name}
 use Rattle.markdown_blocks.specs.Change.{ends_of}
 use Rattle.markdown_blocks.specs.Document.{body_point, mark_end, mark_events}
 use Rattle.markdown_blocks.specs.Fronted.{contained, rest_from, rest_line}
-use Rattle.markdown_blocks.specs.Rows.{final_row, first_row, group_done, group_kind, BlankRow, Group, Lines, Row, RowKind, Single, TextRow, ending_events, group_events, groups, groups_events, is_text, tail_events, LeafRow, ending_of}
+use Rattle.markdown_blocks.specs.Rows.{leaf_behind, final_row, first_row, group_done, group_kind, BlankRow, Group, Lines, Row, RowKind, Single, TextRow, ending_events, group_events, groups, groups_events, is_text, tail_events, LeafRow, ending_of}
 use Rattle.markdown_blocks.specs.Unread.{group_unread, listed_group, listed_groups}
 use Rattle.markdown_blocks.proofs.EachRow.{EachGroup, EachRow, OfGroup, groups-each, last-each}
 use Rattle.markdown_blocks.proofs.FrontStands.{fronts-stood}
@@ -77,17 +79,17 @@ line-stands : (options : ParseOptions) (bytes line : List ℕ) (row : Row) (afte
 line-stands options bytes line row after is same ended = record { tail = tail-stood bytes row after same is.end_whole ended }
 
 -- each line of a text is such
-rows-stand : (options : ParseOptions) (bytes : List ℕ) (open_before : List Container) (going : Bool) (p : Point) (lines : List (List ℕ)) (rows : List Row) →
-    AreRows options bytes open_before going p lines rows → EachRow (LineStands bytes) rows
-rows-stand options bytes open_before going p (line ∷ []) (row ∷ []) are =
-    let is : IsLine options bytes open_before going p line row = are.0 in
-    (line-stands options bytes (rest_line (contained options open_before going (rest_from p line)).rest) row None is.is are.2 tt, tt)
-rows-stand options bytes open_before going p (line ∷ next ∷ lines) (row ∷ below ∷ rows) are =
-    let is : IsLine options bytes open_before going p line row = are.0 in (
-      line-stands options bytes (rest_line (contained options open_before going (rest_from p line)).rest) row (Some are.2) is.is are.3 are.4,
-      rows-stand options bytes (behind_line options open_before going p line) (is_text row.kind) are.2 (next ∷ lines) (below ∷ rows) are.5,
+rows-stand : (options : ParseOptions) (bytes : List ℕ) (open_before : List Container) (still : OpenLeaf) (p : Point) (lines : List (List ℕ)) (rows : List Row) →
+    AreRows options bytes open_before still p lines rows → EachRow (LineStands bytes) rows
+rows-stand options bytes open_before still p (line ∷ []) (row ∷ []) are =
+    let is : IsLine options bytes open_before still p line row = are.0 in
+    (line-stands options bytes (rest_line (contained options open_before still (rest_from p line)).rest) row None is.is are.2 tt, tt)
+rows-stand options bytes open_before still p (line ∷ next ∷ lines) (row ∷ below ∷ rows) are =
+    let is : IsLine options bytes open_before still p line row = are.0 in (
+      line-stands options bytes (rest_line (contained options open_before still (rest_from p line)).rest) row (Some are.2) is.is are.3 are.4,
+      rows-stand options bytes (behind_line options open_before still p line) (leaf_behind row.kind) are.2 (next ∷ lines) (below ∷ rows) are.5,
     )
-rows-stand options bytes open_before going p lines rows are = absurd are
+rows-stand options bytes open_before still p lines rows are = absurd are
 
 -- Groups.
 
@@ -144,16 +146,16 @@ mark-stood bytes = go (has_mark bytes) refl
 
 -- The pieces of a text stand, before its texts are read,
 pub blocks-pieces : (options : ParseOptions) (bytes : List ℕ) (lines : List (List ℕ)) (rows : List Row) →
-    AreRows options bytes [] false (body_point bytes) lines rows →
+    AreRows options bytes [] open_leaf.None (body_point bytes) lines rows →
     pieces_stand bytes (pieces (mark_events bytes ++ listed_groups bytes (groups rows))) ≡ true
 blocks-pieces options bytes lines rows are =
     (stood-append bytes (mark_events bytes) (listed_groups bytes (groups rows)) (mark-stood bytes)
-    (rows-hold bytes (UnreadStood bytes) (unread-by_groups bytes) options (body_point bytes) lines rows are (groups-each (LineStands bytes) rows (rows-stand options bytes [] false (body_point bytes) lines rows are)))).stand
+    (rows-hold bytes (UnreadStood bytes) (unread-by_groups bytes) options (body_point bytes) lines rows are (groups-each (LineStands bytes) rows (rows-stand options bytes [] open_leaf.None (body_point bytes) lines rows are)))).stand
 
 -- and once they are.
 pub events-pieces : (options : ParseOptions) (bytes : List ℕ) (lines : List (List ℕ)) (rows : List Row) →
-    AreRows options bytes [] false (body_point bytes) lines rows →
+    AreRows options bytes [] open_leaf.None (body_point bytes) lines rows →
     pieces_stand bytes (pieces (mark_events bytes ++ groups_events bytes (groups rows))) ≡ true
 events-pieces options bytes lines rows are =
     (stood-append bytes (mark_events bytes) (groups_events bytes (groups rows)) (mark-stood bytes)
-    (rows-hold bytes (GroupsStood bytes) (stood-by_groups bytes) options (body_point bytes) lines rows are (groups-each (LineStands bytes) rows (rows-stand options bytes [] false (body_point bytes) lines rows are)))).stand
+    (rows-hold bytes (GroupsStood bytes) (stood-by_groups bytes) options (body_point bytes) lines rows are (groups-each (LineStands bytes) rows (rows-stand options bytes [] open_leaf.None (body_point bytes) lines rows are)))).stand

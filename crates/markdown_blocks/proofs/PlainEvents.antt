@@ -1,4 +1,6 @@
 -- The events of a text are those that an outline can be made of.
+use Rattle.md_engine.specs.declared.tokenizer.open_leaf.OpenLeaf.TheVariants as open_leaf
+use Rattle.md_engine.specs.declared.tokenizer.open_leaf.OpenLeaf.{OpenLeaf}
 use Rattle.md_outline.specs.Roles.{is_plain, is_told}
 use Rattle.md_outline.specs.HeadingDepths.{are_shallow}
 use Rattle.std.proofs.Common.{◌≡◌, ℕ, Bool, true, false, ◌||◌, not, List, [], ◌∷◌, ◌++◌, map, refl, sym, subst}
@@ -18,7 +20,7 @@ use Rattle.md_outline.specs.Between.{is_between}
 use Rattle.md_outline.specs.Outlined.{IsOutlined, tells_between}
 use Rattle.markdown_blocks.specs.Change.{Change, ends_of}
 use Rattle.markdown_blocks.specs.Fronted.{contained, rest_from, rest_line}
-use Rattle.markdown_blocks.specs.Rows.{final_row, first_row, group_done, group_kind, BlankRow, Group, Lines, Row, RowKind, Single, TextRow, ending_events, group_events, groups, groups_events, is_text, tail_events, LeafRow, ending_of}
+use Rattle.markdown_blocks.specs.Rows.{leaf_behind, final_row, first_row, group_done, group_kind, BlankRow, Group, Lines, Row, RowKind, Single, TextRow, ending_events, group_events, groups, groups_events, is_text, tail_events, LeafRow, ending_of}
 use Rattle.markdown_blocks.specs.Registry.{container_name, shape_of}
 use Rattle.markdown_blocks.proofs.ContainedLemmas.{contained-shapes}
 use Rattle.markdown_blocks.proofs.EachRow.{EachGroup, EachRow, OfGroup, groups-each, last-each}
@@ -116,40 +118,40 @@ plain-by_groups bytes = record {
 -- The rows of a text are such rows.
 
 -- of the containers that a line finds open, an outline shows those that end before it, and those that are open behind it
-line-shown : (options : ParseOptions) (bytes : List ℕ) (open_before : List Container) (going : Bool) (p : Point) (line : List ℕ) (row : Row) →
-    IsLine options bytes open_before going p line row → AreShown open_before →
-    AreShown row.change.closes × AreShown (behind_line options open_before going p line)
-line-shown options bytes open_before going p line row at h =
-    let c : Change = (contained options open_before going (rest_from p line)).change in
-    let parts : AreShown c.stays × AreShown c.closes = shown-parts c.stays c.closes (subst AllShown (sym (contained-shapes options open_before going (rest_from p line))) h) in
+line-shown : (options : ParseOptions) (bytes : List ℕ) (open_before : List Container) (still : OpenLeaf) (p : Point) (line : List ℕ) (row : Row) →
+    IsLine options bytes open_before still p line row → AreShown open_before →
+    AreShown row.change.closes × AreShown (behind_line options open_before still p line)
+line-shown options bytes open_before still p line row at h =
+    let c : Change = (contained options open_before still (rest_from p line)).change in
+    let parts : AreShown c.stays × AreShown c.closes = shown-parts c.stays c.closes (subst AllShown (sym (contained-shapes options open_before still (rest_from p line))) h) in
     let opens : AreShown c.opens = subst (λ (x : Change). AreShown x.opens) at.change (fronts-shown bytes row.change.opens p row.first row.front at.front) in
     (subst (λ (x : Change). AreShown x.closes) (sym at.change) parts.1, shown-append c.stays c.opens parts.0 opens)
 
 -- the first line
-first-line : (options : ParseOptions) (bytes : List ℕ) (open_before : List Container) (going : Bool) (p : Point) (line : List ℕ) (lines : List (List ℕ)) (row : Row) (rows : List Row) →
-    AreRows options bytes open_before going p (line ∷ lines) (row ∷ rows) →
-    IsLine options bytes open_before going p line row
-first-line options bytes open_before going p line [] row [] h = h.0
-first-line options bytes open_before going p line (next ∷ lines) row (below ∷ rows) h = h.0
-first-line options bytes open_before going p line lines row rows h = absurd h
+first-line : (options : ParseOptions) (bytes : List ℕ) (open_before : List Container) (still : OpenLeaf) (p : Point) (line : List ℕ) (lines : List (List ℕ)) (row : Row) (rows : List Row) →
+    AreRows options bytes open_before still p (line ∷ lines) (row ∷ rows) →
+    IsLine options bytes open_before still p line row
+first-line options bytes open_before still p line [] row [] h = h.0
+first-line options bytes open_before still p line (next ∷ lines) row (below ∷ rows) h = h.0
+first-line options bytes open_before still p line lines row rows h = absurd h
 
-line-plain : (options : ParseOptions) (bytes : List ℕ) (open_before : List Container) (going : Bool) (p : Point) (line : List ℕ) (row : Row) →
-    IsLine options bytes open_before going p line row → AreShown row.leaves → IsPlainRow bytes row
-line-plain options bytes open_before going p line row at leaves =
-    let rest : List ℕ = rest_line (contained options open_before going (rest_from p line)).rest in
+line-plain : (options : ParseOptions) (bytes : List ℕ) (open_before : List Container) (still : OpenLeaf) (p : Point) (line : List ℕ) (row : Row) →
+    IsLine options bytes open_before still p line row → AreShown row.leaves → IsPlainRow bytes row
+line-plain options bytes open_before still p line row at leaves =
+    let rest : List ℕ = rest_line (contained options open_before still (rest_from p line)).rest in
     record { leaves = leaves; first = rest-clear options bytes rest row at.is }
 
-plain-rows : (options : ParseOptions) (bytes : List ℕ) (open_before : List Container) (going : Bool) (p : Point) (lines : List (List ℕ)) (rows : List Row) →
-    AreRows options bytes open_before going p lines rows → AreShown open_before → EachRow (IsPlainRow bytes) rows
-plain-rows options bytes open_before going p (line ∷ []) (row ∷ []) h shown =
-    let here = line-shown options bytes open_before going p line row h.0 shown in
-    (line-plain options bytes open_before going p line row h.0 (subst AreShown (sym h.1) here.1), tt)
-plain-rows options bytes open_before going p (line ∷ next ∷ lines) (row ∷ below ∷ rows) h shown =
-    let behind : List Container = behind_line options open_before going p line in
-    let here = line-shown options bytes open_before going p line row h.0 shown in
-    let there = line-shown options bytes behind (is_text row.kind) h.2 next below (first-line options bytes behind (is_text row.kind) h.2 next lines below rows h.5) here.1 in
-    (line-plain options bytes open_before going p line row h.0 (subst AreShown (sym h.1) there.0), plain-rows options bytes behind (is_text row.kind) h.2 (next ∷ lines) (below ∷ rows) h.5 here.1)
-plain-rows options bytes open_before going p lines rows h shown = absurd h
+plain-rows : (options : ParseOptions) (bytes : List ℕ) (open_before : List Container) (still : OpenLeaf) (p : Point) (lines : List (List ℕ)) (rows : List Row) →
+    AreRows options bytes open_before still p lines rows → AreShown open_before → EachRow (IsPlainRow bytes) rows
+plain-rows options bytes open_before still p (line ∷ []) (row ∷ []) h shown =
+    let here = line-shown options bytes open_before still p line row h.0 shown in
+    (line-plain options bytes open_before still p line row h.0 (subst AreShown (sym h.1) here.1), tt)
+plain-rows options bytes open_before still p (line ∷ next ∷ lines) (row ∷ below ∷ rows) h shown =
+    let behind : List Container = behind_line options open_before still p line in
+    let here = line-shown options bytes open_before still p line row h.0 shown in
+    let there = line-shown options bytes behind (leaf_behind row.kind) h.2 next below (first-line options bytes behind (leaf_behind row.kind) h.2 next lines below rows h.5) here.1 in
+    (line-plain options bytes open_before still p line row h.0 (subst AreShown (sym h.1) there.0), plain-rows options bytes behind (leaf_behind row.kind) h.2 (next ∷ lines) (below ∷ rows) h.5 here.1)
+plain-rows options bytes open_before still p lines rows h shown = absurd h
 
 -- a text that begins and ends clear, and between characters, does so also behind a tab that is cut
 tells-clear : (bytes : List ℕ) (told : Bool) (p : Point) → (not told || clear bytes p) ≡ true →
@@ -168,13 +170,13 @@ all-tell bytes (e ∷ events) h k =
 
 -- the events of a text are outlined, if they nest and stand between its characters, and none is too deep
 pub groups-outlined : (options : ParseOptions) (bytes : List ℕ) (p : Point) (lines : List (List ℕ)) (rows : List Row) →
-    AreRows options bytes [] false p lines rows → IsUtf8 bytes →
+    AreRows options bytes [] open_leaf.None p lines rows → IsUtf8 bytes →
     Balanced (groups_events bytes (groups rows)) →
     list_all (λ (e : Event). is_between bytes e.point.index) (groups_events bytes (groups rows)) ≡ true →
     are_shallow (spelled (groups_events bytes (groups rows)) bytes) ≡ true →
     IsOutlined (groups_events bytes (groups rows)) bytes
 groups-outlined options bytes p lines rows are utf8 balanced between depths =
-    let plain : ArePlain bytes (groups_events bytes (groups rows)) = rows-hold bytes (PlainGroups bytes) (plain-by_groups bytes) options p lines rows are (groups-each (IsPlainRow bytes) rows (plain-rows options bytes [] false p lines rows are tt)) in
+    let plain : ArePlain bytes (groups_events bytes (groups rows)) = rows-hold bytes (PlainGroups bytes) (plain-by_groups bytes) options p lines rows are (groups-each (IsPlainRow bytes) rows (plain-rows options bytes [] open_leaf.None p lines rows are tt)) in
     record {
       balanced = balanced;
       names = plain.names;

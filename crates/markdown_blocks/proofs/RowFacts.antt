@@ -1,4 +1,5 @@
 -- What the lines of a text are, as flow reads them: facts that the lemmas on the tree rest on.
+use Rattle.md_engine.specs.declared.tokenizer.open_leaf.OpenLeaf.{OpenLeaf}
 use Rattle.std.proofs.Common.{◌≡◌, ℕ, ◌+◌, ◌≤◌, Bool, List, [], ◌∷◌, ◌++◌, length, slice_range, ap, ◌∙◌, arith}
 use Rattle.std.specs.Prelude.{Some, None}
 use Rattle.md_engine.specs.declared.configuration.ParseOptions.{ParseOptions}
@@ -13,7 +14,7 @@ use Rattle.markdown_blocks.specs.Change.{open_behind}
 use Rattle.markdown_blocks.proofs.LeafFacts.{LineAt}
 use Rattle.md_seam.specs.Standard.Rest.{Rest}
 use Rattle.markdown_blocks.specs.Fronted.{contained, rest_from, rest_line}
-use Rattle.markdown_blocks.specs.Rows.{BlankRow, LeafRow, Row, TextRow, blank_line, is_text, line_kind}
+use Rattle.markdown_blocks.specs.Rows.{leaf_behind, BlankRow, LeafRow, Row, TextRow, blank_line, is_text, line_kind}
 use Rattle.markdown_blocks.proofs.FrontFacts.{LinePrefix}
 use Rattle.markdown_blocks.proofs.PieceFacts.{CutsFirst}
 
@@ -52,27 +53,27 @@ line-at options bytes line row is = record {
 
 -- a line from a point on, where these containers are open, and a text or none: what it does to the containers, and its rest as
 -- a row
-pub record IsLine (options : ParseOptions) (bytes : List ℕ) (open_before : List Container) (going : Bool) (p : Point) (line : List ℕ) (row : Row) : Type 0 where
-  pub is : IsRow options bytes (rest_line (contained options open_before going (rest_from p line)).rest) row
-  pub rest_is : is.rest ≡ (contained options open_before going (rest_from p line)).rest
+pub record IsLine (options : ParseOptions) (bytes : List ℕ) (open_before : List Container) (still : OpenLeaf) (p : Point) (line : List ℕ) (row : Row) : Type 0 where
+  pub is : IsRow options bytes (rest_line (contained options open_before still (rest_from p line)).rest) row
+  pub rest_is : is.rest ≡ (contained options open_before still (rest_from p line)).rest
   pub front : LinePrefix bytes row.change.opens p row.first row.front
-  pub change : row.change ≡ (contained options open_before going (rest_from p line)).change
+  pub change : row.change ≡ (contained options open_before still (rest_from p line)).change
   -- where the line begins no tab is cut
   pub whole : p.vs ≡ 0
   pub column : 1 ≤ p.column
 
 -- which containers are open behind a line
-abbrev pub behind_line : ParseOptions → List Container → Bool → Point → List ℕ → List Container
-behind_line options open_before going p line = open_behind (contained options open_before going (rest_from p line)).change
+abbrev pub behind_line : ParseOptions → List Container → OpenLeaf → Point → List ℕ → List Container
+behind_line options open_before still p line = open_behind (contained options open_before still (rest_from p line)).change
 
--- These lines, from this point to the end of the text, where these containers are open, and a text or none.
-abbrev pub AreRows : ParseOptions → List ℕ → List Container → Bool → Point → List (List ℕ) → List Row → Type 0
-AreRows options bytes open_before going p (line ∷ []) (row ∷ []) =
-    (is : IsLine options bytes open_before going p line row) × (leaves : row.leaves ≡ behind_line options open_before going p line) × (last : row.after ≡ None) × (row.end.index ≡ length bytes)
-AreRows options bytes open_before going p (line ∷ next ∷ lines) (row ∷ below ∷ rows) =
-    (is : IsLine options bytes open_before going p line row) × (leaves : row.leaves ≡ below.change.closes) × (q : Point) × (after : row.after ≡ Some q) × (ending : IsEnding bytes row.end q)
-    × AreRows options bytes (behind_line options open_before going p line) (is_text row.kind) q (next ∷ lines) (below ∷ rows)
-AreRows options bytes open_before going p _ _ = ⊥
+-- These lines, from this point to the end of the text, where these containers and this leaf are open.
+abbrev pub AreRows : ParseOptions → List ℕ → List Container → OpenLeaf → Point → List (List ℕ) → List Row → Type 0
+AreRows options bytes open_before still p (line ∷ []) (row ∷ []) =
+    (is : IsLine options bytes open_before still p line row) × (leaves : row.leaves ≡ behind_line options open_before still p line) × (last : row.after ≡ None) × (row.end.index ≡ length bytes)
+AreRows options bytes open_before still p (line ∷ next ∷ lines) (row ∷ below ∷ rows) =
+    (is : IsLine options bytes open_before still p line row) × (leaves : row.leaves ≡ below.change.closes) × (q : Point) × (after : row.after ≡ Some q) × (ending : IsEnding bytes row.end q)
+    × AreRows options bytes (behind_line options open_before still p line) (leaf_behind row.kind) q (next ∷ lines) (below ∷ rows)
+AreRows options bytes open_before still p _ _ = ⊥
 
 -- the text of a line with its ending
 pub line-text : (options : ParseOptions) (bytes line : List ℕ) (row : Row) (q : Point) → IsRow options bytes line row → (ending : IsEnding bytes row.end q) → slice_range bytes row.first.index q.index ≡ line ++ ending_bytes ending.ending

@@ -1,4 +1,6 @@
 -- The lines that flow reads are those of the text.
+use Rattle.md_engine.specs.declared.tokenizer.open_leaf.OpenLeaf.TheVariants as open_leaf
+use Rattle.md_engine.specs.declared.tokenizer.open_leaf.OpenLeaf.{OpenLeaf}
 use Rattle.std.proofs.Common.{◌≡◌, ℕ, zero, suc, ◌+◌, ◌^◌, ◌<◌, ◌≤◌, Bool, true, false, List, [], ◌∷◌, ◌++◌, length, drop, refl, sym, ap, ◌∙◌, subst, arith, append-nil, append_assoc, inl, inr, ◌⊎◌}
 use Rattle.std.specs.Prelude.{◌==◌, Some}
 use Rattle.std.proofs.lemmas.Bool.{eqb-true, or_from}
@@ -23,7 +25,7 @@ use Rattle.markdown_blocks.specs.Change.{open_behind}
 use Rattle.markdown_blocks.specs.FlowReads.{text_cells, text_rows, text_setting}
 use Rattle.markdown_blocks.specs.Fronted.{Contained, contained, rest_from, rest_line}
 use Rattle.markdown_blocks.specs.Parsed.{IsBuilt}
-use Rattle.markdown_blocks.specs.Rows.{Held, Row, RowKind, after_ending, closes_before, held_at, inside_of, is_text, line_kind, onto_rows, row_kind, row_of, rows_at, rows_by}
+use Rattle.markdown_blocks.specs.Rows.{leaf_behind, Held, Row, RowKind, after_ending, closes_before, held_at, inside_of, is_text, line_kind, onto_rows, row_kind, row_of, rows_at, rows_by}
 use Rattle.markdown_blocks.proofs.FrontRows.{HasHeld, held-is}
 use Rattle.markdown_blocks.proofs.RestFacts.{rest-line_end, rest-no_ending}
 use Rattle.markdown_blocks.proofs.RestRows.{rest-cut, rest-ending, rest-past, rest-whole}
@@ -118,28 +120,28 @@ pub record HasLines (x : Setting) (p : Point) : Type 0 where
 -- A line, and what is left behind it.
 
 -- the rows of a text whose first line has these containers
-rows-last : (options : ParseOptions) (h : Held) (further : List Container → Bool → List Cell → Point → List Row) → from_ending h.cells ≡ [] → rows_by options h further ≡ row_of options h [] ∷ []
-rows-last options h further e = ap (λ (l : List Cell). onto_rows options h (elim l [ [] ↦ [] | c ∷ cs ↦ further (open_behind h.change) (is_text (row_kind options h.cells)) cs c.after ])) e
+rows-last : (options : ParseOptions) (h : Held) (further : List Container → OpenLeaf → List Cell → Point → List Row) → from_ending h.cells ≡ [] → rows_by options h further ≡ row_of options h [] ∷ []
+rows-last options h further e = ap (λ (l : List Cell). onto_rows options h (elim l [ [] ↦ [] | c ∷ cs ↦ further (open_behind h.change) (leaf_behind (row_kind options h.cells)) cs c.after ])) e
 
-rows-next : (options : ParseOptions) (h : Held) (further : List Container → Bool → List Cell → Point → List Row) (c : Cell) (cs : List Cell) → from_ending h.cells ≡ c ∷ cs → rows_by options h further ≡ onto_rows options h (further (open_behind h.change) (is_text (row_kind options h.cells)) cs c.after)
-rows-next options h further c cs e = ap (λ (l : List Cell). onto_rows options h (elim l [ [] ↦ [] | c ∷ cs ↦ further (open_behind h.change) (is_text (row_kind options h.cells)) cs c.after ])) e
+rows-next : (options : ParseOptions) (h : Held) (further : List Container → OpenLeaf → List Cell → Point → List Row) (c : Cell) (cs : List Cell) → from_ending h.cells ≡ c ∷ cs → rows_by options h further ≡ onto_rows options h (further (open_behind h.change) (leaf_behind (row_kind options h.cells)) cs c.after)
+rows-next options h further c cs e = ap (λ (l : List Cell). onto_rows options h (elim l [ [] ↦ [] | c ∷ cs ↦ further (open_behind h.change) (leaf_behind (row_kind options h.cells)) cs c.after ])) e
 
 -- a line with its containers
-record HasRow (options : ParseOptions) (bytes : List ℕ) (open_before : List Container) (going : Bool) (p : Point) (line : List ℕ) (stop : List Cell) (h : Held) : Type 0 where
-  is : (below : List Row) → IsLine options bytes open_before going p line (row_of options h below)
-  open_is : open_behind h.change ≡ behind_line options open_before going p line
+record HasRow (options : ParseOptions) (bytes : List ℕ) (open_before : List Container) (still : OpenLeaf) (p : Point) (line : List ℕ) (stop : List Cell) (h : Held) : Type 0 where
+  is : (below : List Row) → IsLine options bytes open_before still p line (row_of options h below)
+  open_is : open_behind h.change ≡ behind_line options open_before still p line
   read : AreRead (open_behind h.change)
   end : line_end h.cells h.point ≡ past_text line p
   stops : from_ending h.cells ≡ stop
 
-has-row : (options : ParseOptions) (bytes behind : List ℕ) (said : Line) (open_before : List Container) (going : Bool) (line : List ℕ) (p : Point) (stop : List Cell) → IsBuilt options → AreRead open_before → length (spread said line p ++ stop) < 2 ^ 63 →
-    NoEnding line → Stops stop → p.vs ≡ 0 → 1 ≤ p.column → drop p.index bytes ≡ line ++ behind → HasRow options bytes open_before going p line stop (held_at options open_before going (spread said line p ++ stop) p)
-has-row options bytes behind said open_before going line p stop built read short none k whole one text =
+has-row : (options : ParseOptions) (bytes behind : List ℕ) (said : Line) (open_before : List Container) (still : OpenLeaf) (line : List ℕ) (p : Point) (stop : List Cell) → IsBuilt options → AreRead open_before → length (spread said line p ++ stop) < 2 ^ 63 →
+    NoEnding line → Stops stop → p.vs ≡ 0 → 1 ≤ p.column → drop p.index bytes ≡ line ++ behind → HasRow options bytes open_before still p line stop (held_at options open_before still (spread said line p ++ stop) p)
+has-row options bytes behind said open_before still line p stop built read short none k whole one text =
     let r : Rest = rest_from p line in
-    let h : Held = held_at options open_before going (spread said line p ++ stop) p in
-    let c : Contained = contained options open_before going r in
+    let h : Held = held_at options open_before still (spread said line p ++ stop) p in
+    let c : Contained = contained options open_before still r in
     let at : RestAt bytes behind r p = record { column = omega arith; cut = whole; text_is = text } in
-    let held : HasHeld said bytes behind p (past_text line p) stop (spread said line p ++ stop) h c = held-is options said bytes behind open_before going r stop p built read at none k short in
+    let held : HasHeld said bytes behind p (past_text line p) stop (spread said line p ++ stop) h c = held-is options said bytes behind open_before still r stop p built read at none k short in
     let le = held.shorter in
     let few : length h.cells < 2 ^ 63 = omega (arith, le, short) in
     let row : (below : List Row) → IsRowOf options bytes c.rest (row_of options h below) = λ below. held-row options bytes behind said c.rest stop h below held.fed few held.stands held.no_ending k in
@@ -153,64 +155,64 @@ has-row options bytes behind said open_before going line p stop built read short
     }
 
 -- one line more
-rows-onto : (options : ParseOptions) (bytes line : List ℕ) (open_before : List Container) (going : Bool) (row : Row) (p q : Point) (lines : List (List ℕ)) (rows : List Row) → IsLine options bytes open_before going p line row → row.leaves ≡ closes_before (behind_line options open_before going p line) rows →
-    row.after ≡ Some q → IsEnding bytes row.end q → AreRows options bytes (behind_line options open_before going p line) (is_text row.kind) q lines rows → AreRows options bytes open_before going p (line ∷ lines) (row ∷ rows)
-rows-onto options bytes line open_before going row p q [] [] is leaves after ending h = absurd h
-rows-onto options bytes line open_before going row p q [] (below ∷ rows) is leaves after ending h = absurd h
-rows-onto options bytes line open_before going row p q (next ∷ []) [] is leaves after ending h = absurd h
-rows-onto options bytes line open_before going row p q (next ∷ further ∷ lines) [] is leaves after ending h = absurd h
-rows-onto options bytes line open_before going row p q (next ∷ lines) (below ∷ rows) is leaves after ending h = (is, leaves, q, after, ending, h)
+rows-onto : (options : ParseOptions) (bytes line : List ℕ) (open_before : List Container) (still : OpenLeaf) (row : Row) (p q : Point) (lines : List (List ℕ)) (rows : List Row) → IsLine options bytes open_before still p line row → row.leaves ≡ closes_before (behind_line options open_before still p line) rows →
+    row.after ≡ Some q → IsEnding bytes row.end q → AreRows options bytes (behind_line options open_before still p line) (leaf_behind row.kind) q lines rows → AreRows options bytes open_before still p (line ∷ lines) (row ∷ rows)
+rows-onto options bytes line open_before still row p q [] [] is leaves after ending h = absurd h
+rows-onto options bytes line open_before still row p q [] (below ∷ rows) is leaves after ending h = absurd h
+rows-onto options bytes line open_before still row p q (next ∷ []) [] is leaves after ending h = absurd h
+rows-onto options bytes line open_before still row p q (next ∷ further ∷ lines) [] is leaves after ending h = absurd h
+rows-onto options bytes line open_before still row p q (next ∷ lines) (below ∷ rows) is leaves after ending h = (is, leaves, q, after, ending, h)
 
 -- the last line
-last-rows : (options : ParseOptions) (n : ℕ) (bytes : List ℕ) (said : Line) (open_before : List Container) (going : Bool) (line : List ℕ) (p : Point) (cells : List Cell) → IsBuilt options → AreRead open_before → length cells < 2 ^ 63 →
+last-rows : (options : ParseOptions) (n : ℕ) (bytes : List ℕ) (said : Line) (open_before : List Container) (still : OpenLeaf) (line : List ℕ) (p : Point) (cells : List Cell) → IsBuilt options → AreRead open_before → length cells < 2 ^ 63 →
     NoEnding line → p.index ≤ length bytes → p.vs ≡ 0 → 1 ≤ p.column → drop p.index bytes ≡ line → cells ≡ spread said line p ++ [] →
-    AreRows options bytes open_before going p (split_lines (drop p.index bytes)) (rows_at options (suc n) open_before going cells p)
-last-rows options n bytes said open_before going line p cells built read short none index vs one text fed =
+    AreRows options bytes open_before still p (split_lines (drop p.index bytes)) (rows_at options (suc n) open_before still cells p)
+last-rows options n bytes said open_before still line p cells built read short none index vs one text fed =
     let whole = spread said line p ++ [] in
     let joined : drop p.index bytes ≡ line ++ [] = text ∙ sym (append-nil line) in
     let small : length whole < 2 ^ 63 = let same = ap length fed in omega arith in
-    let h : Held = held_at options open_before going whole p in
-    let has : HasRow options bytes open_before going p line [] h = has-row options bytes [] said open_before going line p [] built read small none tt vs one joined in
+    let h : Held = held_at options open_before still whole p in
+    let has : HasRow options bytes open_before still p line [] h = has-row options bytes [] said open_before still line p [] built read small none tt vs one joined in
     let size = front-within bytes p.index line [] joined index in
     let end = ap (λ (q : Point). q.index) has.end in
     let past = past-index line p in
     let all : (line_end h.cells h.point).index ≡ length bytes = omega (arith, end, past, size) in
-    let rows : AreRows options bytes open_before going p (line ∷ []) (row_of options h [] ∷ []) = (has.is [], has.open_is, ap after_ending has.stops, all) in
+    let rows : AreRows options bytes open_before still p (line ∷ []) (row_of options h [] ∷ []) = (has.is [], has.open_is, ap after_ending has.stops, all) in
     let split : split_lines (drop p.index bytes) ≡ line ∷ [] = ap split_lines text ∙ split-line line none in
-    subst (λ (cs : List Cell). AreRows options bytes open_before going p (split_lines (drop p.index bytes)) (rows_at options (suc n) open_before going cs p)) (sym fed)
-    (subst (λ (l : List Row). AreRows options bytes open_before going p (split_lines (drop p.index bytes)) l) (sym (rows-last options h (rows_at options n) has.stops))
-    (subst (λ (l : List (List ℕ)). AreRows options bytes open_before going p l (row_of options h [] ∷ [])) (sym split) rows))
+    subst (λ (cs : List Cell). AreRows options bytes open_before still p (split_lines (drop p.index bytes)) (rows_at options (suc n) open_before still cs p)) (sym fed)
+    (subst (λ (l : List Row). AreRows options bytes open_before still p (split_lines (drop p.index bytes)) l) (sym (rows-last options h (rows_at options n) has.stops))
+    (subst (λ (l : List (List ℕ)). AreRows options bytes open_before still p l (row_of options h [] ∷ [])) (sym split) rows))
 
 -- a line with its ending, before others
-next-rows : (options : ParseOptions) (n : ℕ) (bytes : List ℕ) (said : Line) (open_before : List Container) (going : Bool) (line : List ℕ) (ending : Ending) (rest : List ℕ) (p q : Point) (cells more : List Cell) → IsBuilt options → AreRead open_before → length cells < 2 ^ 63 →
+next-rows : (options : ParseOptions) (n : ℕ) (bytes : List ℕ) (said : Line) (open_before : List Container) (still : OpenLeaf) (line : List ℕ) (ending : Ending) (rest : List ℕ) (p q : Point) (cells more : List Cell) → IsBuilt options → AreRead open_before → length cells < 2 ^ 63 →
     NoEnding line → EndsBefore ending rest → p.vs ≡ 0 → 1 ≤ p.column → drop p.index bytes ≡ line ++ ending_bytes ending ++ rest → drop q.index bytes ≡ rest → IsEnding bytes (past_text line p) q →
-    cells ≡ spread said line p ++ cell 10 q said ∷ more → ((cs : List Container) (going : Bool) → AreRead cs → AreRows options bytes cs going q (split_lines (drop q.index bytes)) (rows_at options n cs going more q)) →
-    AreRows options bytes open_before going p (split_lines (drop p.index bytes)) (rows_at options (suc n) open_before going cells p)
-next-rows options n bytes said open_before going line ending rest p q cells more built read short none before vs one text left is_ending fed further =
+    cells ≡ spread said line p ++ cell 10 q said ∷ more → ((cs : List Container) (still : OpenLeaf) → AreRead cs → AreRows options bytes cs still q (split_lines (drop q.index bytes)) (rows_at options n cs still more q)) →
+    AreRows options bytes open_before still p (split_lines (drop p.index bytes)) (rows_at options (suc n) open_before still cells p)
+next-rows options n bytes said open_before still line ending rest p q cells more built read short none before vs one text left is_ending fed further =
     let stop = cell 10 q said ∷ more in
     let whole = spread said line p ++ stop in
     let small : length whole < 2 ^ 63 = let same = ap length fed in omega arith in
-    let h : Held = held_at options open_before going whole p in
-    let has : HasRow options bytes open_before going p line stop h = has-row options bytes (ending_bytes ending ++ rest) said open_before going line p stop built read small none refl vs one (text ∙ append_assoc line (ending_bytes ending) rest) in
-    let below : List Row = rows_at options n (open_behind h.change) (is_text (row_kind options h.cells)) more q in
+    let h : Held = held_at options open_before still whole p in
+    let has : HasRow options bytes open_before still p line stop h = has-row options bytes (ending_bytes ending ++ rest) said open_before still line p stop built read small none refl vs one (text ∙ append_assoc line (ending_bytes ending) rest) in
+    let below : List Row = rows_at options n (open_behind h.change) (leaf_behind (row_kind options h.cells)) more q in
     let row : Row = row_of options h below in
     let lines : List (List ℕ) = split_lines (drop q.index bytes) in
     let ends : IsEnding bytes (line_end h.cells h.point) q = subst (λ (r : Point). IsEnding bytes r q) (sym has.end) is_ending in
-    let those : AreRows options bytes (behind_line options open_before going p line) (is_text row.kind) q lines below =
-    subst (λ (cs : List Container). AreRows options bytes cs (is_text row.kind) q lines below) has.open_is (further (open_behind h.change) (is_text row.kind) has.read) in
-    let rows : AreRows options bytes open_before going p (line ∷ lines) (row ∷ below) =
-    rows-onto options bytes line open_before going row p q lines below (has.is below) (ap (λ (cs : List Container). closes_before cs below) has.open_is) (ap after_ending has.stops) ends those in
+    let those : AreRows options bytes (behind_line options open_before still p line) (leaf_behind row.kind) q lines below =
+    subst (λ (cs : List Container). AreRows options bytes cs (leaf_behind row.kind) q lines below) has.open_is (further (open_behind h.change) (leaf_behind row.kind) has.read) in
+    let rows : AreRows options bytes open_before still p (line ∷ lines) (row ∷ below) =
+    rows-onto options bytes line open_before still row p q lines below (has.is below) (ap (λ (cs : List Container). closes_before cs below) has.open_is) (ap after_ending has.stops) ends those in
     let split : split_lines (drop p.index bytes) ≡ line ∷ lines =
     ap split_lines text ∙ split-next line ending rest none before ∙ ap (λ (l : List ℕ). line ∷ split_lines l) (sym left) in
-    subst (λ (cs : List Cell). AreRows options bytes open_before going p (split_lines (drop p.index bytes)) (rows_at options (suc n) open_before going cs p)) (sym fed)
-    (subst (λ (l : List Row). AreRows options bytes open_before going p (split_lines (drop p.index bytes)) l) (sym (rows-next options h (rows_at options n) (cell 10 q said) more has.stops))
-    (subst (λ (l : List (List ℕ)). AreRows options bytes open_before going p l (row ∷ below)) (sym split) rows))
+    subst (λ (cs : List Cell). AreRows options bytes open_before still p (split_lines (drop p.index bytes)) (rows_at options (suc n) open_before still cs p)) (sym fed)
+    (subst (λ (l : List Row). AreRows options bytes open_before still p (split_lines (drop p.index bytes)) l) (sym (rows-next options h (rows_at options n) (cell 10 q said) more has.stops))
+    (subst (λ (l : List (List ℕ)). AreRows options bytes open_before still p l (row ∷ below)) (sym split) rows))
 
 -- The rows from the start of a line on are the lines that are left of the text.
-pub rows-are : (options : ParseOptions) (n : ℕ) (x : Setting) (open_before : List Container) (going : Bool) (p : Point) → IsBuilt options → AreRead open_before → HasLines x p → length (text_feed x p) < n →
-    AreRows options x.bytes open_before going p (split_lines (drop p.index x.bytes)) (rows_at options n open_before going (text_feed x p) p)
-rows-are options zero x open_before going p built read h short = absurd (omega arith)
-rows-are options (suc n) x open_before going p built read h short = go (first_line (drop p.index x.bytes)) (λ (q : Point) (k : HasLines x q) (fewer : length (text_feed x q) < n) (cs : List Container) (g : Bool) (those : AreRead cs). rows-are options n x cs g q built those k fewer)
+pub rows-are : (options : ParseOptions) (n : ℕ) (x : Setting) (open_before : List Container) (still : OpenLeaf) (p : Point) → IsBuilt options → AreRead open_before → HasLines x p → length (text_feed x p) < n →
+    AreRows options x.bytes open_before still p (split_lines (drop p.index x.bytes)) (rows_at options n open_before still (text_feed x p) p)
+rows-are options zero x open_before still p built read h short = absurd (omega arith)
+rows-are options (suc n) x open_before still p built read h short = go (first_line (drop p.index x.bytes)) (λ (q : Point) (k : HasLines x q) (fewer : length (text_feed x q) < n) (cs : List Container) (g : OpenLeaf) (those : AreRead cs). rows-are options n x cs g q built those k fewer)
   where
     small : x.limit < 2 ^ 61
     small = let limit = h.limit in let size = h.small in omega arith
@@ -219,8 +221,8 @@ rows-are options (suc n) x open_before going p built read h short = go (first_li
     few = (text-follows x x.limit true small (omega arith) (λ e. refl)).short p
 
     go : NoEnding (drop p.index x.bytes) ⊎ HasNext (drop p.index x.bytes) →
-        ((q : Point) → HasLines x q → length (text_feed x q) < n → (cs : List Container) (g : Bool) → AreRead cs → AreRows options x.bytes cs g q (split_lines (drop q.index x.bytes)) (rows_at options n cs g (text_feed x q) q)) →
-        AreRows options x.bytes open_before going p (split_lines (drop p.index x.bytes)) (rows_at options (suc n) open_before going (text_feed x p) p)
+        ((q : Point) → HasLines x q → length (text_feed x q) < n → (cs : List Container) (g : OpenLeaf) → AreRead cs → AreRows options x.bytes cs g q (split_lines (drop q.index x.bytes)) (rows_at options n cs g (text_feed x q) q)) →
+        AreRows options x.bytes open_before still p (split_lines (drop p.index x.bytes)) (rows_at options (suc n) open_before still (text_feed x p) p)
     go (inl none) more =
         let line = drop p.index x.bytes in
         let joined : drop p.index x.bytes ≡ line ++ [] = sym (append-nil line) in
@@ -228,7 +230,7 @@ rows-are options (suc n) x open_before going p built read h short = go (first_li
         let limit = h.limit in
         let index = past-index line p in
         let has : HasLine x line [] p = record { small = small; text = joined; no_ending = none; within = omega arith; whole = h.whole; column = h.column } in
-        last-rows options n x.bytes x.line open_before going line p (text_feed x p) built read few none h.index h.whole h.column refl
+        last-rows options n x.bytes x.line open_before still line p (text_feed x p) built read few none h.index h.whole h.column refl
         (line-feed x line [] p has ∙ ap (λ (l : List Cell). spread x.line line p ++ l) (feed-none x (past_text line p) small (omega arith)))
     go (inr h') more =
         let line = h'.line in
@@ -247,11 +249,11 @@ rows-are options (suc n) x open_before going p built read h short = go (first_li
         let fed : text_feed x p ≡ spread x.line line p ++ cell 10 q x.line ∷ text_feed x q = line-feed x line (ending_bytes h'.ending ++ h'.rest) p has ∙ ap (λ (l : List Cell). spread x.line line p ++ l) (ending-feed x h'.ending h'.rest end stop) in
         let long = ap length fed ∙ length-append (spread x.line line p) (cell 10 q x.line ∷ text_feed x q) in
         let lines : HasLines x q = record { small = h.small; limit = h.limit; skips = h.skips; index = omega arith; whole = refl; column = omega arith } in
-        next-rows options n x.bytes x.line open_before going line h'.ending h'.rest p q (text_feed x p) (text_feed x q) built read few h'.no_ending h'.before h.whole h.column h'.joined left
+        next-rows options n x.bytes x.line open_before still line h'.ending h'.rest p q (text_feed x p) (text_feed x q) built read few h'.no_ending h'.before h.whole h.column h'.joined left
         (is-ending x.bytes h'.ending h'.rest end behind h'.before) fed (more q lines (omega arith))
 
 -- So are those that a new tokenizer reads to the end of a text.
 pub fresh-rows : (options : ParseOptions) (bytes : List ℕ) (p : Point) → IsBuilt options → length bytes < 2 ^ 61 → p.index ≤ length bytes → p.vs ≡ 0 → 1 ≤ p.column →
-    AreRows options bytes [] false p (split_lines (drop p.index bytes)) (text_rows options bytes p)
-fresh-rows options bytes p built small index whole column = rows-are options (suc (length (text_cells bytes options p))) (text_setting bytes options p) [] false p built tt
+    AreRows options bytes [] open_leaf.None p (split_lines (drop p.index bytes)) (text_rows options bytes p)
+fresh-rows options bytes p built small index whole column = rows-are options (suc (length (text_cells bytes options p))) (text_setting bytes options p) [] open_leaf.None p built tt
     (record { small = small; limit = refl; skips = refl; index = index; whole = whole; column = column }) (omega arith)

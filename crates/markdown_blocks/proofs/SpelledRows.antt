@@ -1,5 +1,7 @@
 -- What the events of a text are read as, where only leaves that are built may be on: what its lines do to the containers and the
 -- text that are open.
+use Rattle.md_engine.specs.declared.tokenizer.open_leaf.OpenLeaf.TheVariants as open_leaf
+use Rattle.md_engine.specs.declared.tokenizer.open_leaf.OpenLeaf.{OpenLeaf}
 use Rattle.std.proofs.Common.{◌≡◌, ◌≢◌, ℕ, zero, suc, ◌+◌, ◌-◌, Bool, true, false, cond, ◌&&◌, List, [], ◌∷◌, ◌++◌, length, map, take, refl, ap, ap₂, sym, ◌∙◌, subst, append_assoc, take_all, inl, inr, ◌⊎◌, arith}
 use Rattle.std.specs.Prelude.{Option, Some, None}
 use Rattle.md_engine.specs.declared.configuration.ParseOptions.{ParseOptions}
@@ -20,11 +22,11 @@ use Rattle.markdown_blocks.specs.Change.{Change, ends_of, is_none}
 use Rattle.markdown_blocks.specs.Fed.{last_leaves, close_containers, rests_from}
 use Rattle.markdown_blocks.specs.Fronted.{Contained, contained, rest_from, rest_line}
 use Rattle.markdown_blocks.specs.Parsed.{IsBuilt}
-use Rattle.markdown_blocks.specs.Rows.{BlankRow, Group, LeafRow, Lines, Row, RowKind, Single, TextRow, ending_events, ending_of, goes_on, groups, groups_events, is_lazy, is_text, last_row, leaf_done, line_kind, onto_groups, onto_lines, read_lines, tail_events}
-use Rattle.markdown_blocks.specs.Stands.{IsPlain, around_of, containers_of, final, final_on, is_going, outer_on, reading, reading_on}
+use Rattle.markdown_blocks.specs.Rows.{leaf_behind, BlankRow, Group, LeafRow, Lines, Row, RowKind, Single, TextRow, ending_events, ending_of, goes_on, groups, groups_events, is_lazy, is_text, last_row, leaf_done, line_kind, onto_groups, onto_lines, read_lines, tail_events}
+use Rattle.markdown_blocks.specs.Stands.{IsPlain, around_of, containers_of, final, final_on, still_of, outer_on, reading, reading_on}
 use Rattle.markdown_blocks.proofs.ContainedLemmas.{contained-shapes, lazy-opens}
 use Rattle.markdown_blocks.proofs.FrontFacts.{Behind, Begins, LinePrefix, Goes}
-use Rattle.markdown_blocks.proofs.LineSteps.{behind_path, contained-lazy, contained_at, containers-step, fresh-found, going-step, goes_lazy, kept_to, lazy-text, longer, new_line, new_path, plain-step, renewed, spot_by, step-contained}
+use Rattle.markdown_blocks.proofs.LineSteps.{behind_path, contained-lazy, contained_at, containers-step, fresh-found, still-step, goes_lazy, kept_to, lazy-text, longer, new_line, new_path, plain-step, renewed, spot_by, step-contained}
 use Rattle.markdown_blocks.specs.Leaf.Paragraph.{held_of}
 use Rattle.markdown_blocks.proofs.Registry.{text-laws}
 use Rattle.markdown_blocks.proofs.RowFacts as f
@@ -361,17 +363,17 @@ other-kind (LeafRow l) other = refl
 other-kind TextRow other = absurd (other refl)
 
 -- what a line is, by what is left of it behind its containers
-line-is : (options : ParseOptions) (bytes : List ℕ) (cs : List Container) (going : Bool) (p : Point) (line : List ℕ) (row : Row) →
-    f.IsLine options bytes cs going p line row → row.kind ≡ line_kind options (contained options cs going (rest_from p line)).rest
-line-is options bytes cs going p line row is = is.is.kind ∙ ap (λ (r : Rest). line_kind options r) is.rest_is
+line-is : (options : ParseOptions) (bytes : List ℕ) (cs : List Container) (still : OpenLeaf) (p : Point) (line : List ℕ) (row : Row) →
+    f.IsLine options bytes cs still p line row → row.kind ≡ line_kind options (contained options cs still (rest_from p line)).rest
+line-is options bytes cs still p line row is = is.is.kind ∙ ap (λ (r : Rest). line_kind options r) is.rest_is
 
--- and whether text is open behind it
-pub going-line : (options : ParseOptions) (bytes : List ℕ) (a : Path) (p : Point) (line : List ℕ) (row : Row) → IsBuilt options →
-    IsPlain a → f.IsLine options bytes (containers_of a) (is_going a) p line row →
-    is_going (step options a (rest_from p line)) ≡ is_text row.kind
-going-line options bytes a p line row built plain is =
-    going-step options a (rest_from p line) built plain
-    ∙ ap is_text (sym (line-is options bytes (containers_of a) (is_going a) p line row is))
+-- and the leaf that is open behind it
+pub still-line : (options : ParseOptions) (bytes : List ℕ) (a : Path) (p : Point) (line : List ℕ) (row : Row) → IsBuilt options →
+    IsPlain a → f.IsLine options bytes (containers_of a) (still_of a) p line row →
+    still_of (step options a (rest_from p line)) ≡ leaf_behind row.kind
+still-line options bytes a p line row built plain is =
+    still-step options a (rest_from p line) built plain
+    ∙ ap leaf_behind (sym (line-is options bytes (containers_of a) (still_of a) p line row is))
 
 -- the ending of a line opens no line of a leaf
 ending-role : (kind : RowKind) → Between (role (ending_of kind))
@@ -392,24 +394,24 @@ no-joins options bytes p row gs last none (inr joins) = let text = joins.text in
 
 -- One line, and what follows.
 row-means : (options : ParseOptions) (bytes : List ℕ) (p : Path) (a : Point) (line : List ℕ) (row : Row) (gs : List Group) (last : Reading) → IsBuilt options → IsPlain p →
-    f.IsLine options bytes (containers_of p) (is_going p) a line row → Follows options bytes (step options p (rest_from a line)) row gs last →
-    Means options bytes p (is_lazy (is_going p) row.change.opens row.kind) row (onto_groups row row.kind gs) last
+    f.IsLine options bytes (containers_of p) (still_of p) a line row → Follows options bytes (step options p (rest_from a line)) row gs last →
+    Means options bytes p (is_lazy (still_of p) row.change.opens row.kind) row (onto_groups row row.kind gs) last
 row-means options bytes p a line row gs last built plain is follows = go (goes_lazy options p c) refl
   where
     c : Contained
     c = contained_at options p (rest_from a line)
 
     kind-is : row.kind ≡ line_kind options c.rest
-    kind-is = line-is options bytes (containers_of p) (is_going p) a line row is
+    kind-is = line-is options bytes (containers_of p) (still_of p) a line row is
 
     stepped : (x : Bool) → goes_lazy options p c ≡ x → step options p (rest_from a line) ≡ cond x (longer (renewed c.change.stays p) (kept c.rest ∷ [])) (new_path options p c)
     stepped x e = step-contained options p (rest_from a line) built plain ∙ ap (λ (t : Bool). cond t (longer (renewed c.change.stays p) (kept c.rest ∷ [])) (new_path options p c)) e
 
-    same : is_lazy (is_going p) row.change.opens row.kind ≡ goes_lazy options p c
-    same = ap (λ (x : Change). is_lazy (is_going p) x.opens row.kind) is.change ∙ ap (is_lazy (is_going p) c.change.opens) kind-is
+    same : is_lazy (still_of p) row.change.opens row.kind ≡ goes_lazy options p c
+    same = ap (λ (x : Change). is_lazy (still_of p) x.opens row.kind) is.change ∙ ap (is_lazy (still_of p) c.change.opens) kind-is
 
     shapes : AreShapes c.change.stays c.change.closes p
-    shapes = contained-shapes options (containers_of p) (is_going p) (rest_from a line)
+    shapes = contained-shapes options (containers_of p) (still_of p) (rest_from a line)
 
     o : Path
     o = open_path options p c
@@ -464,9 +466,9 @@ row-means options bytes p a line row gs last built plain is follows = go (goes_l
         ap to e ∙ sym (longer-with o (kept c.rest ∷ []) none) ∙ ap (λ (r : Rest). longer o (kept r ∷ [])) (sym is.rest_is) in
         text-reads (starts-lines options bytes (rest_line c.rest) o row gs last is.is e (subst (λ (x : Path). Follows options bytes x row gs last) on further))
 
-    go : (x : Bool) → goes_lazy options p c ≡ x → Means options bytes p (is_lazy (is_going p) row.change.opens row.kind) row (onto_groups row row.kind gs) last
+    go : (x : Bool) → goes_lazy options p c ≡ x → Means options bytes p (is_lazy (still_of p) row.change.opens row.kind) row (onto_groups row row.kind gs) last
     go true e =
-        let text : is_text row.kind ≡ true = ap is_text kind-is ∙ lazy-text (is_going p) c.change.opens (line_kind options c.rest) e in
+        let text : is_text row.kind ≡ true = ap is_text kind-is ∙ lazy-text (still_of p) c.change.opens (line_kind options c.rest) e in
         let is_row : row.kind ≡ TextRow = text-kind row.kind text in
         subst (λ (x : Bool). Means options bytes p x row (onto_groups row row.kind gs) last) (sym (same ∙ e))
         (subst (λ (k : RowKind). StartsLines options bytes p row (onto_groups row k gs) last) (sym is_row)
@@ -478,8 +480,8 @@ row-means options bytes p a line row gs last built plain is follows = go (goes_l
         (by row.kind refl (subst (λ (x : Path). Follows options bytes x row gs last) (stepped false e ∙ new-path options p c row.kind built (sym kind-is)) follows))
 
 -- where nothing follows
-row-ends : (options : ParseOptions) (bytes : List ℕ) (p : Path) (a : Point) (line : List ℕ) (row : Row) → IsBuilt options → IsPlain p → f.IsLine options bytes (containers_of p) (is_going p) a line row →
-    Means options bytes p (is_lazy (is_going p) row.change.opens row.kind) row (groups (row ∷ [])) (close_containers (length row.leaves) (reading options (step options p (rest_from a line))))
+row-ends : (options : ParseOptions) (bytes : List ℕ) (p : Path) (a : Point) (line : List ℕ) (row : Row) → IsBuilt options → IsPlain p → f.IsLine options bytes (containers_of p) (still_of p) a line row →
+    Means options bytes p (is_lazy (still_of p) row.change.opens row.kind) row (groups (row ∷ [])) (close_containers (length row.leaves) (reading options (step options p (rest_from a line))))
 row-ends options bytes p a line row built plain is =
     row-means options bytes p a line row [] (close_containers (length row.leaves) (reading options (step options p (rest_from a line)))) built plain is (inl (record { apart = λ text. refl; reads = refl }))
 
@@ -490,17 +492,17 @@ pub rests-behind : (p : Point) (lines : List (List ℕ)) → p.column ≡ 1 → 
 rests-behind p [] e = refl
 rests-behind p (line ∷ lines) e = let first : p.column - 1 ≡ 0 = omega arith in ap (λ (k : ℕ). rest_at k line ∷ map (rest_at 0) lines) first
 
-abbrev First : ParseOptions → List ℕ → List Container → Bool → Point → List (List ℕ) → List Row → Type 0
-First options bytes cs going p (line ∷ lines) (row ∷ rows) = f.IsLine options bytes cs going p line row
-First options bytes cs going p _ _ = ⊥
+abbrev First : ParseOptions → List ℕ → List Container → OpenLeaf → Point → List (List ℕ) → List Row → Type 0
+First options bytes cs still p (line ∷ lines) (row ∷ rows) = f.IsLine options bytes cs still p line row
+First options bytes cs still p _ _ = ⊥
 
-first-line : (options : ParseOptions) (bytes : List ℕ) (cs : List Container) (going : Bool) (p : Point) (lines : List (List ℕ)) (rows : List Row) → f.AreRows options bytes cs going p lines rows → First options bytes cs going p lines rows
-first-line options bytes cs going p (line ∷ []) (row ∷ []) are = are.0
-first-line options bytes cs going p (line ∷ next ∷ lines) (row ∷ below ∷ rows) are = are.0
-first-line options bytes cs going p lines rows are = absurd are
+first-line : (options : ParseOptions) (bytes : List ℕ) (cs : List Container) (still : OpenLeaf) (p : Point) (lines : List (List ℕ)) (rows : List Row) → f.AreRows options bytes cs still p lines rows → First options bytes cs still p lines rows
+first-line options bytes cs still p (line ∷ []) (row ∷ []) are = are.0
+first-line options bytes cs still p (line ∷ next ∷ lines) (row ∷ below ∷ rows) are = are.0
+first-line options bytes cs still p lines rows are = absurd are
 
 -- where a line of text follows that goes on no text, a new one begins
-not-joined : (row below : Row) (gs : List Group) → is_lazy true below.change.opens below.kind ≡ false → onto_groups row TextRow (onto_groups below below.kind gs) ≡ Lines row [] ∷ onto_groups below below.kind gs
+not-joined : (row below : Row) (gs : List Group) → is_lazy open_leaf.Text below.change.opens below.kind ≡ false → onto_groups row TextRow (onto_groups below below.kind gs) ≡ Lines row [] ∷ onto_groups below below.kind gs
 not-joined row below gs lazy = go below.kind lazy
   where
     by : (rows : List Row) (more : List Group) → is_none below.change.opens ≡ false → onto_lines row below rows more ≡ Lines row [] ∷ Lines below rows ∷ more
@@ -523,23 +525,23 @@ not-joined row below gs lazy = go below.kind lazy
         join true = by (next ∷ rows) more e
         join false = by [] (Lines next rows ∷ more) e
 
-    go : (kind : RowKind) → is_lazy true below.change.opens kind ≡ false → onto_groups row TextRow (onto_groups below kind gs) ≡ Lines row [] ∷ onto_groups below kind gs
+    go : (kind : RowKind) → is_lazy open_leaf.Text below.change.opens kind ≡ false → onto_groups row TextRow (onto_groups below kind gs) ≡ Lines row [] ∷ onto_groups below kind gs
     go BlankRow e = refl
     go (LeafRow l) e = refl
     go TextRow e = onto gs (opens (is_none below.change.opens) e)
 
 -- what follows a line, by what is read of the lines below
-follows-below : (options : ParseOptions) (bytes : List ℕ) (p : Path) (row below : Row) (gs : List Group) (q : Point) (line : List ℕ) (last : Reading) → IsBuilt options → IsPlain p → is_going p ≡ is_text row.kind →
-    row.leaves ≡ below.change.closes → f.IsEnding bytes row.end q → f.IsLine options bytes (containers_of p) (is_going p) q line below →
-    (x : Bool) → is_lazy (is_going p) below.change.opens below.kind ≡ x → Means options bytes p x below (onto_groups below below.kind gs) last → Follows options bytes p row (onto_groups below below.kind gs) last
-follows-below options bytes p row below gs q line last built plain going leaves ending is true lazy means =
+follows-below : (options : ParseOptions) (bytes : List ℕ) (p : Path) (row below : Row) (gs : List Group) (q : Point) (line : List ℕ) (last : Reading) → IsBuilt options → IsPlain p → still_of p ≡ leaf_behind row.kind →
+    row.leaves ≡ below.change.closes → f.IsEnding bytes row.end q → f.IsLine options bytes (containers_of p) (still_of p) q line below →
+    (x : Bool) → is_lazy (still_of p) below.change.opens below.kind ≡ x → Means options bytes p x below (onto_groups below below.kind gs) last → Follows options bytes p row (onto_groups below below.kind gs) last
+follows-below options bytes p row below gs q line last built plain still leaves ending is true lazy means =
     let c : Contained = contained_at options p (rest_from q line) in
-    let kind_is = line-is options bytes (containers_of p) (is_going p) q line below is in
+    let kind_is = line-is options bytes (containers_of p) (still_of p) q line below is in
     let goes : goes_lazy options p c ≡ true =
-    ap (is_lazy (is_going p) c.change.opens) (sym kind_is) ∙ ap (λ (x : Change). is_lazy (is_going p) x.opens below.kind) (sym is.change) ∙ lazy in
-    let none : below.change.opens ≡ [] = lazy-opens (is_going p) below.change.opens below.kind lazy in
+    ap (is_lazy (still_of p) c.change.opens) (sym kind_is) ∙ ap (λ (x : Change). is_lazy (still_of p) x.opens below.kind) (sym is.change) ∙ lazy in
+    let none : below.change.opens ≡ [] = lazy-opens (still_of p) below.change.opens below.kind lazy in
     inr (record {
-      text = sym going ∙ lazy-going (is_going p) below.change.opens below.kind lazy;
+      text = lazy-row row.kind below.change.opens below.kind (ap (λ (x : OpenLeaf). is_lazy x below.change.opens below.kind) (sym still) ∙ lazy);
       next = below;
       starts = means;
       leaves = leaves ∙ ap (λ (x : Change). x.closes) is.change ∙ contained-lazy options p (rest_from q line) goes;
@@ -549,30 +551,31 @@ follows-below options bytes p row below gs q line last built plain going leaves 
       fronts = subst (λ (cs : List Container). LinePrefix bytes cs q below.first below.front) none is.front;
     })
   where
-    lazy-going : (going : Bool) (opens : List Container) (kind : RowKind) → is_lazy going opens kind ≡ true → going ≡ true
-    lazy-going true opens kind e = refl
-    lazy-going false opens kind e = cc
-follows-below options bytes p row below gs q line last built plain going leaves ending is false lazy means = inl (record {
-  apart = λ text. not-joined row below gs (ap (λ (x : Bool). is_lazy x below.change.opens below.kind) (sym (going ∙ ap is_text text)) ∙ lazy);
+    lazy-row : (k : RowKind) (opens : List Container) (kind : RowKind) → is_lazy (leaf_behind k) opens kind ≡ true → is_text k ≡ true
+    lazy-row BlankRow opens kind e = cc
+    lazy-row (LeafRow l) opens kind e = cc
+    lazy-row TextRow opens kind e = refl
+follows-below options bytes p row below gs q line last built plain still leaves ending is false lazy means = inl (record {
+  apart = λ text. not-joined row below gs (ap (λ (x : OpenLeaf). is_lazy x below.change.opens below.kind) (sym (still ∙ ap leaf_behind text)) ∙ lazy);
   reads = ap (λ (cs : List Container). read bytes (close_containers (length cs) (reading options p)) (groups_events bytes (onto_groups below below.kind gs))) leaves ∙ means;
 })
 
 -- what the first line is read as
 abbrev RowsMean : ParseOptions → List ℕ → Path → Reading → List Row → Type 0
 RowsMean options bytes p last [] = ⊥
-RowsMean options bytes p last (row ∷ rows) = Means options bytes p (is_lazy (is_going p) row.change.opens row.kind) row (groups (row ∷ rows)) last
+RowsMean options bytes p last (row ∷ rows) = Means options bytes p (is_lazy (still_of p) row.change.opens row.kind) row (groups (row ∷ rows)) last
 
 -- the lines behind the first stand behind what it does
 pub rows-below : (options : ParseOptions) (bytes : List ℕ) (a : Path) (p : Point) (line next : List ℕ) (lines : List (List ℕ)) (row below : Row) (rows : List Row) → IsBuilt options → IsPlain a →
-    (are : f.AreRows options bytes (containers_of a) (is_going a) p (line ∷ next ∷ lines) (row ∷ below ∷ rows)) →
-    let b : Path = step options a (rest_from p line) in f.AreRows options bytes (containers_of b) (is_going b) are.2 (next ∷ lines) (below ∷ rows)
+    (are : f.AreRows options bytes (containers_of a) (still_of a) p (line ∷ next ∷ lines) (row ∷ below ∷ rows)) →
+    let b : Path = step options a (rest_from p line) in f.AreRows options bytes (containers_of b) (still_of b) are.2 (next ∷ lines) (below ∷ rows)
 rows-below options bytes a p line next lines row below rows built plain are =
     let r : Rest = rest_from p line in
     let b : Path = step options a r in
-    let containers : containers_of b ≡ f.behind_line options (containers_of a) (is_going a) p line = containers-step options a r built plain in
-    let going : is_going b ≡ is_text row.kind = going-line options bytes a p line row built plain are.0 in
-    subst (λ (cs : List Container). f.AreRows options bytes cs (is_going b) are.2 (next ∷ lines) (below ∷ rows)) (sym containers)
-    (subst (λ (g : Bool). f.AreRows options bytes (f.behind_line options (containers_of a) (is_going a) p line) g are.2 (next ∷ lines) (below ∷ rows)) (sym going) are.5)
+    let containers : containers_of b ≡ f.behind_line options (containers_of a) (still_of a) p line = containers-step options a r built plain in
+    let still : still_of b ≡ leaf_behind row.kind = still-line options bytes a p line row built plain are.0 in
+    subst (λ (cs : List Container). f.AreRows options bytes cs (still_of b) are.2 (next ∷ lines) (below ∷ rows)) (sym containers)
+    (subst (λ (g : OpenLeaf). f.AreRows options bytes (f.behind_line options (containers_of a) (still_of a) p line) g are.2 (next ∷ lines) (below ∷ rows)) (sym still) are.5)
 
 -- what so many lines, and one more, come to, but for the containers that end behind them
 abbrev Came : ParseOptions → List ℕ → Path → ℕ → List Rest → List Row → Type 0
@@ -580,7 +583,7 @@ Came options bytes a n rests rows = RowsMean options bytes a (close_containers (
 
 -- The groups of the lines of a text, up to any of them, are read as what these lines do.
 rows-mean : (options : ParseOptions) (bytes : List ℕ) (a : Path) (p : Point) (n : ℕ) (lines : List (List ℕ)) (rows : List Row) → IsBuilt options → IsPlain a →
-    f.AreRows options bytes (containers_of a) (is_going a) p lines rows → Came options bytes a n (rests_from p lines) rows
+    f.AreRows options bytes (containers_of a) (still_of a) p lines rows → Came options bytes a n (rests_from p lines) rows
 rows-mean options bytes a p zero (line ∷ []) (row ∷ []) built plain are = row-ends options bytes a p line row built plain are.0
 rows-mean options bytes a p (suc n) (line ∷ []) (row ∷ []) built plain are = row-ends options bytes a p line row built plain are.0
 rows-mean options bytes a p zero (line ∷ next ∷ lines) (row ∷ below ∷ rows) built plain are = row-ends options bytes a p line row built plain are.0
@@ -588,21 +591,21 @@ rows-mean options bytes a p (suc n) (line ∷ next ∷ lines) (row ∷ below ∷
     let r : Rest = rest_from p line in
     let b : Path = step options a r in
     let q : Point = are.2 in
-    let going : is_going b ≡ is_text row.kind = going-line options bytes a p line row built plain are.0 in
+    let still : still_of b ≡ leaf_behind row.kind = still-line options bytes a p line row built plain are.0 in
     let plain_b : IsPlain b = plain-step options a r built plain in
     let are_b = rows-below options bytes a p line next lines row below rows built plain are in
     let further : Came options bytes b n (rests_from q (next ∷ lines)) (below ∷ rows) = rows-mean options bytes b q n (next ∷ lines) (below ∷ rows) built plain_b are_b in
     let some : List Row = take n rows in
     let last : Reading = close_containers (length (last_leaves (below ∷ some))) (reading options (steps options b (take (suc n) (map (rest_at 0) (next ∷ lines))))) in
     row-means options bytes a p line row (groups (below ∷ some)) last built plain are.0
-    (follows-below options bytes b row below (groups some) q next last built plain_b going are.1 are.4 (first-line options bytes (containers_of b) (is_going b) q (next ∷ lines) (below ∷ rows) are_b)
-    (is_lazy (is_going b) below.change.opens below.kind) refl
+    (follows-below options bytes b row below (groups some) q next last built plain_b still are.1 are.4 (first-line options bytes (containers_of b) (still_of b) q (next ∷ lines) (below ∷ rows) are_b)
+    (is_lazy (still_of b) below.change.opens below.kind) refl
     (subst (λ (rests : List Rest). Came options bytes b n rests (below ∷ rows)) (rests-behind q (next ∷ lines) are.4.column) further))
 rows-mean options bytes a p n lines rows built plain are = absurd are
 
 -- behind the last line of a text all containers end
 all-leave : (options : ParseOptions) (bytes : List ℕ) (a : Path) (p : Point) (lines : List (List ℕ)) (rows : List Row) → IsBuilt options → IsPlain a →
-    f.AreRows options bytes (containers_of a) (is_going a) p lines rows → last_leaves rows ≡ containers_of (steps options a (rests_from p lines))
+    f.AreRows options bytes (containers_of a) (still_of a) p lines rows → last_leaves rows ≡ containers_of (steps options a (rests_from p lines))
 all-leave options bytes a p (line ∷ []) (row ∷ []) built plain are = are.1 ∙ sym (containers-step options a (rest_from p line) built plain)
 all-leave options bytes a p (line ∷ next ∷ lines) (row ∷ below ∷ rows) built plain are =
     let b : Path = step options a (rest_from p line) in
@@ -611,10 +614,10 @@ all-leave options bytes a p (line ∷ next ∷ lines) (row ∷ below ∷ rows) b
 all-leave options bytes a p lines rows built plain are = absurd are
 
 -- The events of a text, up to any of its lines, are read as what these lines come to, but for the containers that end behind them.
-pub lines-read : (options : ParseOptions) (bytes : List ℕ) (p : Point) (n : ℕ) (lines : List (List ℕ)) (rows : List Row) → IsBuilt options → f.AreRows options bytes [] false p lines rows →
+pub lines-read : (options : ParseOptions) (bytes : List ℕ) (p : Point) (n : ℕ) (lines : List (List ℕ)) (rows : List Row) → IsBuilt options → f.AreRows options bytes [] open_leaf.None p lines rows →
     read bytes unread (groups_events bytes (groups (take n rows))) ≡ close_containers (length (last_leaves (take n rows))) (reading options (steps options (At (spot_of End)) (take n (rests_from p lines))))
 lines-read options bytes p zero lines rows built are = refl
-lines-read options bytes p (suc n) lines rows built are = go lines rows (first-line options bytes [] false p lines rows are) (rows-mean options bytes (At (spot_of End)) p n lines rows built tt are)
+lines-read options bytes p (suc n) lines rows built are = go lines rows (first-line options bytes [] open_leaf.None p lines rows are) (rows-mean options bytes (At (spot_of End)) p n lines rows built tt are)
   where
     -- no container ends in front of the first line
     none : (stays closes : List Container) → map shape_of (stays ++ closes) ≡ [] → closes ≡ []
@@ -622,17 +625,17 @@ lines-read options bytes p (suc n) lines rows built are = go lines rows (first-l
     none [] (c ∷ closes) e = cc
     none (c ∷ stays) closes e = cc
 
-    go : (ls : List (List ℕ)) (rs : List Row) → First options bytes [] false p ls rs → Came options bytes (At (spot_of End)) n (rests_from p lines) rs →
+    go : (ls : List (List ℕ)) (rs : List Row) → First options bytes [] open_leaf.None p ls rs → Came options bytes (At (spot_of End)) n (rests_from p lines) rs →
         read bytes unread (groups_events bytes (groups (take (suc n) rs))) ≡ close_containers (length (last_leaves (take (suc n) rs))) (reading options (steps options (At (spot_of End)) (take (suc n) (rests_from p lines))))
     go (line ∷ ls) (row ∷ rs) is means =
         let c : Contained = contained_at options (At (spot_of End)) (rest_from p line) in
-        let first : row.change.closes ≡ [] = ap (λ (x : Change). x.closes) is.change ∙ none c.change.stays c.change.closes (contained-shapes options [] false (rest_from p line)) in
+        let first : row.change.closes ≡ [] = ap (λ (x : Change). x.closes) is.change ∙ none c.change.stays c.change.closes (contained-shapes options [] open_leaf.None (rest_from p line)) in
         ap (λ (cs : List Container). read bytes (close_containers (length cs) unread) (groups_events bytes (groups (row ∷ take n rs)))) (sym first) ∙ means
     go [] rs is means = absurd is
     go (line ∷ ls) [] is means = absurd is
 
 -- The events of a text are read as what its lines come to, with all of it closed.
-rows-final : (options : ParseOptions) (bytes : List ℕ) (p : Point) (lines : List (List ℕ)) (rows : List Row) → IsBuilt options → f.AreRows options bytes [] false p lines rows →
+rows-final : (options : ParseOptions) (bytes : List ℕ) (p : Point) (lines : List (List ℕ)) (rows : List Row) → IsBuilt options → f.AreRows options bytes [] open_leaf.None p lines rows →
     read bytes unread (groups_events bytes (groups rows)) ≡ final options (steps options (At (spot_of End)) (rests_from p lines))
 rows-final options bytes p lines rows built are =
     let rests : List Rest = rests_from p lines in
@@ -645,7 +648,7 @@ rows-final options bytes p lines rows built are =
     ∙ close_containers-all options [] (steps options start rests)
 
 -- So they spell it.
-pub spelled-rows : (options : ParseOptions) (bytes : List ℕ) (p : Point) (lines : List (List ℕ)) (rows : List Row) → IsBuilt options → f.AreRows options bytes [] false p lines rows →
+pub spelled-rows : (options : ParseOptions) (bytes : List ℕ) (p : Point) (lines : List (List ℕ)) (rows : List Row) → IsBuilt options → f.AreRows options bytes [] open_leaf.None p lines rows →
     spelled (groups_events bytes (groups rows)) bytes ≡ closed options (steps options (At (spot_of End)) (rests_from p lines))
 unfolding spelled
 spelled-rows options bytes p lines rows built are = ap (λ (r : Reading). r.here) (rows-final options bytes p lines rows built are)

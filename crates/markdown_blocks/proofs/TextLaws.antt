@@ -5,7 +5,7 @@ use Rattle.md_content.specs.ContentReads.{content_events}
 use Rattle.md_seam.specs.declared.inline.Chunk.{Chunk}
 use Rattle.md_seam.specs.Standard.State.{Kept, Leaf, NoLeaf, texts, then_leaf}
 use Rattle.md_seam.specs.Standard.Tree.{Blocks}
-use Rattle.markdown_blocks.specs.Stands.{IsPlainLeaf}
+use Rattle.markdown_blocks.specs.OpenLeaf.{IsBuiltLeaf}
 use Rattle.markdown_blocks.specs.TextLeaf.{TextLeaf}
 use Rattle.markdown_blocks.proofs.OutsideFacts.{AreOutside}
 use Rattle.markdown_blocks.proofs.SimpleBlocks.{AreSimple}
@@ -13,7 +13,7 @@ use Rattle.markdown_blocks.proofs.SimpleBlocks.{AreSimple}
 pub record TextLaws (t : TextLeaf) : Type 1 where
   -- What may be open is nothing, or lines of it.
   pub cases : (P : Leaf → Type 0) → P NoLeaf → ((k : Kept) (ks : List Kept) → P (t.held (k ∷ ks))) →
-      (leaf : Leaf) → IsPlainLeaf leaf → P leaf
+      (leaf : Leaf) → IsBuiltLeaf leaf → P leaf
   -- Where definitions are off, it is shut as a block of its lines, which is simple.
   pub shut : (options : ParseOptions) (bs : Blocks) (ks : List Kept) → options.constructs.definition ≡ false →
       then_leaf options bs (t.held ks) ≡ t.behind bs (texts ks)

@@ -1,4 +1,6 @@
 -- The innermost pairs of the events of a text lie side by side, from its first byte to its last, before its texts are read.
+use Rattle.md_engine.specs.declared.tokenizer.open_leaf.OpenLeaf.TheVariants as open_leaf
+use Rattle.md_engine.specs.declared.tokenizer.open_leaf.OpenLeaf.{OpenLeaf}
 use Rattle.std.proofs.Common.{◌≡◌, ◌≢◌, ℕ, Bool, true, false, cond, List, [], ◌∷◌, ◌++◌, length, refl, sym, subst}
 use Rattle.std.specs.Prelude.{Option, Some, None}
 use Rattle.std.proofs.lemmas.Bool.{and_from, eq-eqb}
@@ -19,7 +21,7 @@ use Rattle.markdown_blocks.specs.Registry.{container_name, text_leaf}
 use Rattle.markdown_blocks.specs.Change.{ends_of}
 use Rattle.markdown_blocks.specs.Document.{body_point, mark_end, mark_events}
 use Rattle.markdown_blocks.specs.Fronted.{contained, rest_from, rest_line}
-use Rattle.markdown_blocks.specs.Rows.{LeafRow, ending_of, leaf_unread, BlankRow, Group, Lines, Row, RowKind, Single, TextRow, behind_row, ending_events, goes_on as joins_on, groups, is_text, last_row, onto_groups, tail_events}
+use Rattle.markdown_blocks.specs.Rows.{leaf_behind, LeafRow, ending_of, leaf_unread, BlankRow, Group, Lines, Row, RowKind, Single, TextRow, behind_row, ending_events, goes_on as joins_on, groups, is_text, last_row, onto_groups, tail_events}
 use Rattle.markdown_blocks.specs.Unread.{listed_group, listed_groups, listed_row_by, unread_lines}
 use Rattle.markdown_blocks.proofs.JoinedLemmas.{behind-is, behind-none}
 use Rattle.markdown_blocks.proofs.PiecesLemmas.{Follows, Tiled, follows-append, follows-tiled, tiled-append, tiled-around, tiled-none, tiled-pair}
@@ -94,19 +96,19 @@ onto-laid bytes row p end (Lines next rows ∷ gs) front c more TextRow e = join
     joins false = (front, chunk-tiled row.first row.end, more)
 
 -- The groups of the lines of a text.
-groups-laid : (options : ParseOptions) (bytes : List ℕ) (open_before : List Container) (going : Bool) (p : Point) (lines : List (List ℕ)) (rows : List Row) → AreRows options bytes open_before going p lines rows → Laid bytes p (end_point bytes) (groups rows)
-groups-laid options bytes open_before going p (line ∷ []) (row ∷ []) are =
-    let is : IsLine options bytes open_before going p line row = are.0 in
+groups-laid : (options : ParseOptions) (bytes : List ℕ) (open_before : List Container) (still : OpenLeaf) (p : Point) (lines : List (List ℕ)) (rows : List Row) → AreRows options bytes open_before still p lines rows → Laid bytes p (end_point bytes) (groups rows)
+groups-laid options bytes open_before still p (line ∷ []) (row ∷ []) are =
+    let is : IsLine options bytes open_before still p line row = are.0 in
     let at_end : same_place row.end (end_point bytes) ≡ true = and_from _ _ (eq-eqb row.end.index (length bytes) are.3) (eq-eqb row.end.vs 0 is.is.end_whole) in
     let behind : same_place (behind_row row) (end_point bytes) ≡ true = subst (λ (q : Point). same_place q (end_point bytes) ≡ true) (sym (behind-none row are.2)) at_end in
-    onto-laid bytes row p (end_point bytes) [] (fronts-tiled bytes row.change.opens p row.first row.front is.front) (λ other. (row-facts options bytes (rest_line (contained options open_before going (rest_from p line)).rest) row is.is other).tiled) behind row.kind refl
-groups-laid options bytes open_before going p (line ∷ next ∷ lines) (row ∷ below ∷ rows) are =
-    let is : IsLine options bytes open_before going p line row = are.0 in
+    onto-laid bytes row p (end_point bytes) [] (fronts-tiled bytes row.change.opens p row.first row.front is.front) (λ other. (row-facts options bytes (rest_line (contained options open_before still (rest_from p line)).rest) row is.is other).tiled) behind row.kind refl
+groups-laid options bytes open_before still p (line ∷ next ∷ lines) (row ∷ below ∷ rows) are =
+    let is : IsLine options bytes open_before still p line row = are.0 in
     let end : Point = end_point bytes in
-    onto-laid bytes row p end (groups (below ∷ rows)) (fronts-tiled bytes row.change.opens p row.first row.front is.front) (λ other. (row-facts options bytes (rest_line (contained options open_before going (rest_from p line)).rest) row is.is other).tiled)
+    onto-laid bytes row p end (groups (below ∷ rows)) (fronts-tiled bytes row.change.opens p row.first row.front is.front) (λ other. (row-facts options bytes (rest_line (contained options open_before still (rest_from p line)).rest) row is.is other).tiled)
     (subst (λ (q : Point). Laid bytes q end (groups (below ∷ rows))) (sym (behind-is row are.2 are.3))
-    (groups-laid options bytes (behind_line options open_before going p line) (is_text row.kind) are.2 (next ∷ lines) (below ∷ rows) are.5)) row.kind refl
-groups-laid options bytes open_before going p lines rows are = absurd are
+    (groups-laid options bytes (behind_line options open_before still p line) (leaf_behind row.kind) are.2 (next ∷ lines) (below ∷ rows) are.5)) row.kind refl
+groups-laid options bytes open_before still p lines rows are = absurd are
 
 -- They cover it.
 laid-covers : (bytes : List ℕ) (p end : Point) (gs : List Group) → Laid bytes p end gs → Follows p end (listed_groups bytes gs)
@@ -126,8 +128,8 @@ mark-tiled bytes = go (has_mark bytes)
     go true = tiled-pair n.ByteOrderMark first_point mark_end
     go false = tiled-none first_point first_point refl
 
-pub blocks-cover : (options : ParseOptions) (bytes : List ℕ) (lines : List (List ℕ)) (rows : List Row) → AreRows options bytes [] false (body_point bytes) lines rows →
+pub blocks-cover : (options : ParseOptions) (bytes : List ℕ) (lines : List (List ℕ)) (rows : List Row) → AreRows options bytes [] open_leaf.None (body_point bytes) lines rows →
     Covers first_point (pieces (mark_events bytes ++ listed_groups bytes (groups rows))) (end_point bytes)
 blocks-cover options bytes lines rows are =
     (follows-append first_point (body_point bytes) (end_point bytes) (mark_events bytes) (listed_groups bytes (groups rows)) (follows-tiled first_point (body_point bytes) (mark_events bytes) (mark-tiled bytes))
-    (laid-covers bytes (body_point bytes) (end_point bytes) (groups rows) (groups-laid options bytes [] false (body_point bytes) lines rows are))).covers
+    (laid-covers bytes (body_point bytes) (end_point bytes) (groups rows) (groups-laid options bytes [] open_leaf.None (body_point bytes) lines rows are))).covers

@@ -1,4 +1,6 @@
 -- The tree of a text where only constructs that are built may be on is what the events of its lines are read as.
+use Rattle.md_engine.specs.declared.tokenizer.open_leaf.OpenLeaf.TheVariants as open_leaf
+use Rattle.md_engine.specs.declared.tokenizer.open_leaf.OpenLeaf.{OpenLeaf}
 use Rattle.std.proofs.Common.{◌≡◌, ℕ, zero, suc, ◌-◌, Bool, true, false, cond, not, ◌==◌, ◌&&◌, ◌||◌, List, [], ◌∷◌, ◌++◌, map, length, drop, refl, ap, sym, ◌∙◌, subst, inl, inr, ◌⊎◌}
 use Rattle.std.specs.Prelude.{Option, Some, None}
 use Rattle.std.specs.List.{onto_first}
@@ -26,7 +28,8 @@ use Rattle.markdown_blocks.specs.Fronted.{Contained, Prefixed, contained, no_pre
 use Rattle.markdown_blocks.specs.Parsed.{IsBuilt}
 use Rattle.markdown_blocks.specs.Registry.{leaf, text_leaf}
 use Rattle.markdown_blocks.specs.Rows.{BlankRow, LeafRow, Row, RowKind, TextRow, groups, groups_events, is_lazy, line_kind}
-use Rattle.markdown_blocks.specs.Stands.{IsPlain, IsPlainLeaf, containers_of, is_going}
+use Rattle.markdown_blocks.specs.OpenLeaf.{IsBuiltLeaf, kind_of_leaf}
+use Rattle.markdown_blocks.specs.Stands.{IsPlain, containers_of, still_of}
 use Rattle.markdown_blocks.proofs.ContainedLemmas.{contained-shapes}
 use Rattle.markdown_blocks.proofs.KindLemmas.{kind-starts}
 use Rattle.markdown_blocks.proofs.LineSteps.{behind_path, contained_at, fresh-found, goes_lazy, kept_to, longer, new_line, new_path, plain-step, renewed, spot_by, step-contained, step-new, stepped_on}
@@ -43,7 +46,7 @@ use Rattle.md_outline.specs.HeadingDepths.{are_shallow}
 read-stay : (options : ParseOptions) (p : Path) (r : Rest) → AreRead (containers_of p) → AreRead (contained_at options p r).change.stays
 read-stay options p r h =
     let change = (contained_at options p r).change in
-    read-front change.stays change.closes (shapes-read (change.stays ++ change.closes) (containers_of p) (contained-shapes options (containers_of p) (is_going p) r) h)
+    read-front change.stays change.closes (shapes-read (change.stays ++ change.closes) (containers_of p) (contained-shapes options (containers_of p) (still_of p) r) h)
 
 read-new : (options : ParseOptions) (interrupting : Bool) (n : ℕ) (r : Rest) → IsBuilt options → AreRead (prefixes_new options interrupting n r).containers
 read-new options interrupting zero r built = tt
@@ -57,15 +60,15 @@ read-new options interrupting (suc n) r built = go (λ s. read-new options false
     go below (Some t) read = (read, below t.rest)
 
 -- and those that open on it
-read-open : (options : ParseOptions) (cs : List Container) (going : Bool) (r : Rest) → IsBuilt options → AreRead (contained options cs going r).change.opens
+read-open : (options : ParseOptions) (cs : List Container) (still : OpenLeaf) (r : Rest) → IsBuilt options → AreRead (contained options cs still r).change.opens
 unfolding contained
-read-open options cs going r built = go (is_lazy going new.containers (line_kind options new.rest))
+read-open options cs still r built = go (is_lazy still new.containers (line_kind options new.rest))
   where
     on : Prefixed
     on = prefixes_on options cs r
 
     interrupting : Bool
-    interrupting = interrupts going (others_of cs on.containers)
+    interrupting = interrupts still (others_of cs on.containers)
 
     new : Prefixed
     new = prefixes_new options interrupting (length on.rest.bytes) on.rest
@@ -85,7 +88,7 @@ simple-read : (p : Path) → HoldsSimple p → AreRead (containers_of p)
 simple-read (At s) h = tt
 simple-read (Within before container p) h = (h.1, simple-read p h.2)
 
-simple-shut : (options : ParseOptions) (s : Spot) → IsBuilt options → IsPlainLeaf s.leaf → AreSimple s.here →
+simple-shut : (options : ParseOptions) (s : Spot) → IsBuilt options → IsBuiltLeaf s.leaf → AreSimple s.here →
     AreSimple (shut options s)
 simple-shut options s built plain h = text-laws.cases (λ (leaf : Leaf). AreSimple (then_leaf options s.here leaf)) h text s.leaf plain
   where
@@ -145,7 +148,7 @@ simple-step options p r built plain h = subst HoldsSimple (sym (step-contained o
     stay = read-stay options p r (simple-read p h)
 
     open_new : AreRead c.change.opens
-    open_new = read-open options (containers_of p) (is_going p) r built
+    open_new = read-open options (containers_of p) (still_of p) r built
 
     go : (x : Bool) → HoldsSimple (cond x (longer (renewed c.change.stays p) (kept c.rest ∷ [])) (new_path options p c))
     go true = simple-longer (renewed c.change.stays p) (kept c.rest ∷ []) (simple-renewed c.change.stays p stay h)
@@ -182,15 +185,15 @@ step-empty : (options : ParseOptions) (p : Path) (column : ℕ) → IsBuilt opti
 step-empty options p column built plain read =
     ap (closed options) (step-new options p r built plain)
     ∙ ap (λ (on : Prefixed). closed options (stepped_on options p on)) (on-empty options (containers_of p) column read)
-    ∙ go (is_going p)
+    ∙ go (still_of p)
     ∙ ap (λ (s : Spot). closed options (At s)) (fresh-found options (closed options p) r built)
   where
     r : Rest
     r = rest_at column []
 
-    go : (x : Bool) → closed options (cond (is_lazy x [] BlankRow) (longer (renewed (containers_of p) p) (kept r ∷ [])) (At (fresh_line options (closed options p) r))) ≡ closed options (At (fresh_line options (closed options p) r))
-    go true = refl
-    go false = refl
+    go : (x : OpenLeaf) → closed options (cond (is_lazy x [] BlankRow) (longer (renewed (containers_of p) p) (kept r ∷ [])) (At (fresh_line options (closed options p) r))) ≡ closed options (At (fresh_line options (closed options p) r))
+    go open_leaf.Text = refl
+    go open_leaf.None = refl
 
 steps-append : (options : ParseOptions) (p : Path) (rs ss : List Rest) → steps options p (rs ++ ss) ≡ steps options (steps options p rs) ss
 steps-append options p [] ss = refl
@@ -292,7 +295,7 @@ rests-at p [] = refl
 rests-at p (line ∷ lines) = refl
 
 -- The events of the lines of a text are read as its tree.
-pub tree-rows : (options : ParseOptions) → IsBuilt options → (bytes : List ℕ) (rows : List Row) → f.AreRows options bytes [] false (body_point bytes) (split_lines (drop (body_point bytes).index bytes)) rows →
+pub tree-rows : (options : ParseOptions) → IsBuilt options → (bytes : List ℕ) (rows : List Row) → f.AreRows options bytes [] open_leaf.None (body_point bytes) (split_lines (drop (body_point bytes).index bytes)) rows →
     spelled (groups_events bytes (groups rows)) bytes ≡ tree options bytes
 tree-rows options built bytes rows are =
     let p : Point = body_point bytes in

@@ -1,4 +1,6 @@
 -- What a line does to the containers that are open before it.
+use Rattle.markdown_blocks.specs.OpenLeaf.{is_interrupted}
+use Rattle.md_engine.specs.declared.tokenizer.open_leaf.OpenLeaf.{OpenLeaf}
 use Rattle.std.specs.Prelude.{Bool, true, false, ◌&&◌, List, [], ◌∷◌, ◌++◌, length, drop}
 use Rattle.md_engine.specs.declared.event.Event.{Event}
 use Rattle.md_engine.specs.declared.event.Point.{Point}
@@ -32,9 +34,9 @@ abbrev pub is_none : List Container → Bool
 is_none [] = true
 is_none (c ∷ cs) = false
 
--- whether a container that opens would interrupt text: one is open, and all containers went on
-abbrev pub interrupts : Bool → List Container → Bool
-interrupts going others = going && is_none others
+-- whether a container that opens would interrupt the open leaf: all containers went on
+abbrev pub interrupts : OpenLeaf → List Container → Bool
+interrupts still others = is_interrupted still && is_none others
 
 -- the ends of containers at a point, the innermost first
 abbrev pub ends_of : List Container → Point → List Event

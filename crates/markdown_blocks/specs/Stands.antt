@@ -4,6 +4,8 @@
 -- as if it ended there. What is still open, and may go on, is told by the flags. What the tokenizer holds of a container is said in `Registry`. Items are
 -- meant as they stand before their resolver puts lists around them. A leaf of several lines (fenced code, HTML, a table) will add
 -- what its scratch holds.
+use Rattle.markdown_blocks.specs.OpenLeaf.{IsBuiltLeaf, MatchesLeaf, kind_of_leaf}
+use Rattle.md_engine.specs.declared.tokenizer.open_leaf.OpenLeaf.{OpenLeaf}
 use Rattle.std.specs.Prelude.{◌≡◌, Bool, List, [], ◌∷◌, None}
 use Rattle.md_engine.specs.declared.configuration.ParseOptions.{ParseOptions}
 use Rattle.md_engine.specs.declared.tokenizer.container.Container.{Container as Held}
@@ -53,20 +55,16 @@ abbrev pub containers_of : Path → List Container
 containers_of (At s) = []
 containers_of (Within before container p) = container ∷ containers_of p
 
--- whether text is open
-abbrev pub is_going : Path → Bool
-is_going p = is_open_text (spot p).leaf
+-- the kind of the leaf that is still open
+abbrev pub still_of : Path → OpenLeaf
+still_of p = kind_of_leaf (spot p).leaf
 
 -- Between two lines, this was read, and these flags tell what is open.
 pub record StandsFor (options : ParseOptions) (g : Flags) (r : Reading) (p : Path) : Type 0 where
   pub containers : AreOpen g.containers (containers_of p)
-  pub going : g.interrupt ≡ is_going p
+  pub leaf : MatchesLeaf g.leaf (spot p).leaf
   pub reading : r ≡ reading options p
 
--- What may be open in what is built: nothing or a text, in containers.
-abbrev pub IsPlainLeaf : Leaf → Type 0
-IsPlainLeaf NoLeaf = Unit {0}
-IsPlainLeaf leaf = IsOpenText leaf
-
+-- What may be open in what is built, in containers.
 abbrev pub IsPlain : Path → Type 0
-IsPlain p = IsPlainLeaf (spot p).leaf
+IsPlain p = IsBuiltLeaf (spot p).leaf

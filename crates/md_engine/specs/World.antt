@@ -6,6 +6,8 @@ use Rattle.md_engine.specs.declared.event.Point.{Point}
 use Rattle.md_engine.specs.declared.event.Event.{Event}
 use Rattle.md_engine.specs.declared.resolve.name.Name.{Name as ResolveName}
 use Rattle.md_engine.specs.declared.tokenizer.container.Container.{Container}
+use Rattle.md_engine.specs.declared.tokenizer.open_leaf.OpenLeaf.{OpenLeaf}
+use Rattle.md_engine.specs.declared.tokenizer.open_leaf.OpenLeaf.TheVariants as open_leaf
 use Rattle.md_engine.specs.declared.tokenizer.Frame.{Frame}
 use Rattle.md_engine.specs.declared.tokenizer.Line.{Line}
 use Rattle.md_engine.specs.declared.tokenizer.Scratch.{Scratch}
@@ -27,14 +29,12 @@ pub record Setting : Type 0 where
 
 -- what a construct tells the containers around it, and what is known of these
 pub record Flags : Type 0 where
-  -- whether a paragraph is open, which the next line would interrupt
-  pub interrupt : Bool
-  -- whether no container can open in the block that is open
-  pub concrete : Bool
+  -- the leaf that is open behind what was read
+  pub leaf : OpenLeaf
   -- whether nothing but whitespace stands on the line that was read
   pub blank : Bool
-  -- whether a paragraph was open before the line that is read
-  pub text_open : Bool
+  -- the leaf that was open before the line that is read
+  pub leaf_before : OpenLeaf
   -- the open containers, the outermost first
   pub containers : List Container
   -- how many of them went on, or opened, on this line
@@ -58,10 +58,9 @@ setting_of t = record { bytes = t.bytes.now; options = t.options.now; limit = t.
 
 abbrev pub flags_of : Tokenizer → Flags
 flags_of t = record {
-  interrupt = t.flags.interrupt;
-  concrete = t.flags.concrete;
+  leaf = t.flags.leaf;
   blank = t.flags.blank;
-  text_open = t.flags.text_open;
+  leaf_before = t.flags.leaf_before;
   containers = t.containers.items;
   continued = t.flags.continued;
   line_end = t.flags.line_end;
@@ -103,7 +102,7 @@ fresh bytes options p = record {
   events = [];
   frames = [];
   scratch = REST;
-  flags = record { interrupt = false; concrete = false; blank = false; text_open = false; containers = []; continued = 0; line_end = 0 };
+  flags = record { leaf = open_leaf.None; blank = false; leaf_before = open_leaf.None; containers = []; continued = 0; line_end = 0 };
   resolvers = [];
 }
 

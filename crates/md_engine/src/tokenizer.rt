@@ -9,6 +9,7 @@ ghost use Rattle.md_engine.specs.Sound.{IsSound};
 ghost use Rattle.md_engine.specs.Ends.{ends_at, point_of, put};
 
 pub mod container;
+pub mod open_leaf;
 
 use crate::configuration::ParseOptions;
 use crate::event::{Event, Kind, Link, Name, Point};
@@ -17,6 +18,7 @@ use crate::resolve::Name as ResolveName;
 use crate::state::State;
 use crate::tokenizer::container::name_of;
 pub use crate::tokenizer::container::{Container, ContainerKind};
+pub use crate::tokenizer::open_leaf::OpenLeaf;
 use std::alloc::Global;
 use std::mem;
 
@@ -85,14 +87,12 @@ impl Scratch {
 /// What a construct tells the containers around it, and what the document knows of these.
 #[derive(Clone, Copy, Debug, PartialEq, Eq)]
 pub struct Flags {
-    /// Whether a paragraph is open, which the next line would interrupt.
-    pub interrupt: bool,
-    /// Whether no container can open in the block that is open.
-    pub concrete: bool,
+    /// The leaf that is open behind what was read: whether a container would interrupt it, or cannot open in it, is read off it.
+    pub leaf: OpenLeaf,
     /// Whether nothing but whitespace stands on the line that was read.
     pub blank: bool,
-    /// Whether a paragraph was open before the line that is read.
-    pub text_open: bool,
+    /// The leaf that was open before the line that is read.
+    pub leaf_before: OpenLeaf,
     /// How many containers went on, or opened, on this line.
     pub continued: usize,
     /// The index of the first event behind the line that was read last: of its ending, if it has one.
@@ -252,10 +252,9 @@ impl<'a> Tokenizer<'a> {
             frames: Vec::new(alloc),
             scratch: Scratch::REST,
             flags: Flags {
-                interrupt: false,
-                concrete: false,
+                leaf: OpenLeaf::None,
                 blank: false,
-                text_open: false,
+                leaf_before: OpenLeaf::None,
                 continued: 0,
                 line_end: 0,
             },

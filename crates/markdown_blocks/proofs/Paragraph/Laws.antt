@@ -15,14 +15,14 @@ use Rattle.md_seam.specs.Events.Nested.{enter_link, exit}
 use Rattle.md_seam.specs.Standard.State.{Kept, Leaf, NoLeaf, OpenParagraph, shut_paragraph, texts, then_leaf, then_paragraph}
 use Rattle.md_seam.specs.Standard.Tree.{Blocks, Paragraph}
 use Rattle.markdown_blocks.specs.Leaf.Paragraph.{paragraph_leaf}
-use Rattle.markdown_blocks.specs.Stands.{IsPlainLeaf}
+use Rattle.markdown_blocks.specs.OpenLeaf.{IsBuiltLeaf}
 use Rattle.markdown_blocks.proofs.EachEvent.{settled-each}
 use Rattle.markdown_blocks.proofs.OutsideFacts.{AreOutside, IsOutside, outside-append}
 use Rattle.markdown_blocks.proofs.SimpleBlocks.{AreSimple, simple-then}
 use Rattle.markdown_blocks.proofs.TextLaws.{TextLaws}
 
 open-cases : (P : Leaf → Type 0) → P NoLeaf → ((k : Kept) (ks : List Kept) → P (OpenParagraph (k ∷ ks))) →
-    (leaf : Leaf) → IsPlainLeaf leaf → P leaf
+    (leaf : Leaf) → IsBuiltLeaf leaf → P leaf
 open-cases P none text NoLeaf plain = none
 open-cases P none text (OpenParagraph (k ∷ ks)) plain = text k ks
 open-cases P none text leaf plain = absurd plain

@@ -17,6 +17,7 @@ ghost use Rattle.md_engine.specs.declared.state.State.{State};
 ghost use Rattle.md_engine.specs.declared.state.document.State.{State as DocumentState};
 ghost use Rattle.markdown_blocks.specs.Flow.{containers_after_transition, existing_after_transition, existing_before_transition, flow_end_transition, new_after_transition, new_before_transition};
 ghost use Rattle.markdown_blocks.specs.LineFlags.{ending_name, next_container, stays};
+ghost use Rattle.markdown_blocks.specs.OpenLeaf.{takes_lazy};
 ghost use Rattle.markdown_blocks.specs.Document.{before_frontmatter_transition, document_own_transition, document_table_scheme, document_transition, start_transition};
 ghost use Rattle.md_seam.specs.Transition.{IsAt, NeedsNothing};
 
@@ -32,7 +33,7 @@ use md_engine::state::flow::State as FlowState;
 use md_engine::state::{Name as StateName, State};
 use md_engine::subtokenize::Subresult;
 use md_engine::table::Table;
-use md_engine::tokenizer::{Container, Flags, Tokenizer};
+use md_engine::tokenizer::{Container, Flags, OpenLeaf, Tokenizer};
 use md_leaves::partial_bom;
 
 /// At the start of the text: before a byte order mark, if there is one.
@@ -155,7 +156,7 @@ pub fn container_new_after(tokenizer: &mut Tokenizer) -> State
         kind: registry::new_kind()
     }));
     tokenizer.flags.continued = tokenizer.containers.len();
-    tokenizer.flags.interrupt = false;
+    tokenizer.flags.leaf = OpenLeaf::None;
     State::Retry(StateName::Document(DocumentState::ContainerNewBefore))
 }
 
@@ -170,15 +171,25 @@ pub fn containers_after(tokenizer: &mut Tokenizer) -> State
     ensures to { result ≡ (containers_after_transition (world tokenizer.old)).to }
     ensures world { world tokenizer.new ≡ (containers_after_transition (world tokenizer.old)).world }
 {
-    tokenizer.flags.text_open = tokenizer.flags.interrupt;
+    tokenizer.flags.leaf_before = tokenizer.flags.leaf;
     State::Retry(StateName::Flow(FlowState::Start))
 }
 
-/// How many containers are still open behind a line: all of them if it goes on the open paragraph, else those that went on.
+/// Whether a line that starts no other leaf goes on this one, although not all containers went on (CommonMark 5.1, "laziness").
+fn takes_lazy(leaf: OpenLeaf) -> bool
+    ensures { result ≡ takes_lazy leaf }
+{
+    match leaf {
+        OpenLeaf::None => false,
+        OpenLeaf::Text => true,
+    }
+}
+
+/// How many containers are still open behind a line: all of them if it goes on the open text, else those that went on.
 fn stays(tokenizer: &Tokenizer) -> usize
     ensures { result ≡ stays (world tokenizer.now).flags }
 {
-    if tokenizer.flags.text_open && tokenizer.flags.interrupt {
+    if takes_lazy(tokenizer.flags.leaf_before) && takes_lazy(tokenizer.flags.leaf) {
         tokenizer.containers.len()
     } else {
         tokenizer.flags.continued
@@ -268,6 +279,7 @@ fn call_state(tokenizer: &mut Tokenizer, name: StateName) -> State
 pub struct DocumentTable;
 
 impl Table for DocumentTable {
+    ghost use Rattle.markdown_blocks.specs.OpenLeaf.{takes_lazy};
     ghost use Rattle.markdown_blocks.specs.Document.{DocumentStep};
     ghost use Rattle.markdown_blocks.specs.Resolved.{resolved_as};
 
