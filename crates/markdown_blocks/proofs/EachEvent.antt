@@ -17,6 +17,11 @@ pub each-append : (P : Event → Type 0) (a b : List Event) → Each P a → Eac
 each-append P [] b o k = k
 each-append P (e ∷ es) b o k = (o.0, each-append P es b o.1 k)
 
+-- of each what follows from it
+pub each-as : (P Q : Event → Type 0) → ((e : Event) → P e → Q e) → (es : List Event) → Each P es → Each Q es
+each-as P Q so [] o = tt
+each-as P Q so (e ∷ es) o = (so e o.0, each-as P Q so es o.1)
+
 -- of both, if of both together
 pub each-front : (P : Event → Type 0) (a b : List Event) → Each P (a ++ b) → Each P a
 each-front P [] b o = tt

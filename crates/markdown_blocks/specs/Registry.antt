@@ -13,8 +13,8 @@ use Rattle.md_engine.specs.declared.state.flow.State.{State as FlowState}
 use Rattle.md_engine.specs.declared.state.flow.State.TheVariants as flow
 use Rattle.md_engine.specs.declared.state.State.TheVariants.{Nok}
 use Rattle.md_engine.specs.declared.tokenizer.container.Container.{Container as Held}
-use Rattle.md_engine.specs.declared.tokenizer.container.ContainerKind.{ContainerKind}
-use Rattle.md_engine.specs.declared.tokenizer.container.ContainerKind.TheVariants as kind
+use Rattle.md_engine.specs.declared.tokenizer.container.name.ContainerKind.{ContainerKind}
+use Rattle.md_engine.specs.declared.tokenizer.container.name.ContainerKind.TheVariants as kind
 use Rattle.md_engine.specs.Meaning.{Behaviour, Cell, Here, Outcome, Refuses}
 use Rattle.md_engine.specs.Scheme.{Rank, Scheme, nowhere, ranked}
 use Rattle.md_engine.specs.World.{World}

@@ -1,8 +1,8 @@
 -- The laws of block quotes, as containers.
 use Rattle.std.proofs.Common.{◌≡◌, Bool, true, false, cond, refl, sym, ap, ◌∙◌, List, [], ◌++◌}
 use Rattle.std.specs.Prelude.{None, Some, Option}
-use Rattle.md_engine.specs.declared.tokenizer.container.ContainerKind.{ContainerKind}
-use Rattle.md_engine.specs.declared.tokenizer.container.ContainerKind.TheVariants as kind
+use Rattle.md_engine.specs.declared.tokenizer.container.name.ContainerKind.{ContainerKind}
+use Rattle.md_engine.specs.declared.tokenizer.container.name.ContainerKind.TheVariants as kind
 use Rattle.md_containers.specs.QuoteRule.{takes_prefix}
 use Rattle.md_containers.proofs.QuoteShorter.{prefix-shortens, quote-shortens}
 use Rattle.md_seam.specs.Standard.Containers.{continues}

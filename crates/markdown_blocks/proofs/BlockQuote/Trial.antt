@@ -3,7 +3,7 @@ use Rattle.std.proofs.Common.{◌≡◌, Bool, true, false, cond, ◌&&◌, List
 use Rattle.std.proofs.lemmas.Bool.{and_parts}
 use Rattle.md_engine.specs.declared.configuration.ParseOptions.{ParseOptions}
 use Rattle.md_engine.specs.declared.event.Point.{Point}
-use Rattle.md_engine.specs.declared.tokenizer.container.ContainerKind.TheVariants as kind
+use Rattle.md_engine.specs.declared.tokenizer.container.name.ContainerKind.TheVariants as kind
 use Rattle.md_engine.specs.Meaning.{Accepts, Cell, Here, Refuses}
 use Rattle.md_containers.specs.QuoteRule.{prefix_at, quote_at, takes_prefix}
 use Rattle.md_seam.specs.Spaces.{IsRest}
@@ -47,4 +47,4 @@ quote-passed options interrupting cells p t e =
     let is = taken-if (options.constructs.block_quote && takes_prefix options cells) (quote_new options cells p) t e in
     let takes = (and_parts options.constructs.block_quote (takes_prefix options cells) is.0).1 in
     subst (IsPassed kind.BlockQuote cells) is.1
-    (record { one = refl; shorter = prefix-shorter options cells takes; front = (refl, refl, quote-front options cells p) })
+    (record { one = refl; shorter = prefix-shorter options cells takes; front = ((refl, refl), quote-front options cells p) })

@@ -25,13 +25,14 @@ use Rattle.md_seam.specs.Standard.Rest.{Rest, is_white, trim_start}
 use Rattle.md_seam.specs.Substituted.{Readings}
 use Rattle.md_seam.proofs.InlineLemmas.{plain-fills, same-refl}
 use Rattle.md_seam.proofs.NestedLemmas.{at_or_before-refl}
+use Rattle.markdown_blocks.proofs.EachEvent.{each-append}
 use Rattle.markdown_blocks.specs.Leaf.HeadingAtx.{read_text, read_title}
 use Rattle.markdown_blocks.specs.Unread.{linked}
 use Rattle.markdown_blocks.proofs.FillFacts.{Fill, fill-append, fill-part, fill-same, linked-filled}
 use Rattle.markdown_blocks.proofs.HeadingAtx.Places.{text-order, text_begin, text_end, title-lines}
 use Rattle.markdown_blocks.proofs.LeafFacts.{LineAt, ReadsText}
 use Rattle.markdown_blocks.proofs.LineTexts.{past-whole}
-use Rattle.markdown_blocks.proofs.PartFacts.{NoLinks, NoParts, no_parts-append}
+use Rattle.markdown_blocks.proofs.PartFacts.{NoLinks, NoParts, IsNoPart}
 use Rattle.markdown_blocks.proofs.PartsStand.{Stands, inside-linked, stands-append, stands-outside, stands-part}
 use Rattle.markdown_blocks.proofs.SpanLemmas.{either}
 use Rattle.markdown_blocks.proofs.SubstitutedLemmas.{Becomes, becomes-append, becomes-same, no_links-unwanted, part-becomes}
@@ -113,8 +114,8 @@ runs-no_parts run [] p = closes-no_parts run p
 runs-no_parts run (b ∷ xs) p =
     let rest : List Event = line_runs (heading.begun b) xs (past_byte b p) in
     either NoParts (heading.goes_on run b) (line_runs run xs (past_byte b p)) ((heading.closes run p ++ heading.opens (heading.begun b) p) ++ rest) (runs-no_parts run xs (past_byte b p))
-    (no_parts-append (heading.closes run p ++ heading.opens (heading.begun b) p) rest
-    (no_parts-append (heading.closes run p) (heading.opens (heading.begun b) p) (closes-no_parts run p) (opens-no_parts (heading.begun b) p)) (runs-no_parts (heading.begun b) xs (past_byte b p)))
+    (each-append IsNoPart (heading.closes run p ++ heading.opens (heading.begun b) p) rest
+    (each-append IsNoPart (heading.closes run p) (heading.opens (heading.begun b) p) (closes-no_parts run p) (opens-no_parts (heading.begun b) p)) (runs-no_parts (heading.begun b) xs (past_byte b p)))
 
 -- The text is a chunk of one line.
 
