@@ -1,5 +1,5 @@
 -- Behind the states of flow each resolver is a step that changes nothing where no line is its own: then it does not matter whether it ran.
-use Rattle.std.proofs.Common.{◌≡◌, ◌≢◌, ℕ, zero, suc, Bool, true, false, cond, ◌&&◌, ◌==◌, List, [], ◌∷◌, ◌++◌, length, refl, ap, sym, ◌∙◌, subst, append-nil}
+use Rattle.std.proofs.Common.{◌≡◌, ◌≢◌, ℕ, zero, suc, Bool, true, false, cond, List, [], ◌∷◌, ◌++◌, length, refl, ap, sym, ◌∙◌, subst, append-nil}
 use Rattle.std.specs.Prelude.{Option, Some, None}
 use Rattle.std.proofs.lemmas.Bool.{or_parts}
 use Rattle.md_engine.specs.declared.configuration.ParseOptions.{ParseOptions}
@@ -9,15 +9,10 @@ use Rattle.md_engine.specs.declared.event.Event.{Event}
 use Rattle.md_engine.specs.declared.event.Name.TheVariants as n
 use Rattle.md_engine.specs.declared.event.Point.{Point}
 use Rattle.md_engine.specs.Meaning.{Cell}
-use Rattle.md_engine.specs.TextFeed.{text_feed}
-use Rattle.md_engine.specs.World.{World}
-use Rattle.md_content.specs.ContentReads.{content_events, content_readings, is_data_end, paragraph_over, part_world, settled, wants_content}
-use Rattle.md_content.specs.Joined.{goes_on, is_content, joined}
-use Rattle.md_content.specs.Paragraph.{text_link}
-use Rattle.md_content.specs.ParagraphRule.{line_events}
-use Rattle.md_seam.specs.declared.inline.Chunk.{Chunk}
-use Rattle.md_seam.specs.Ahead.{begins_white, from_ending, line_end, point_after}
-use Rattle.md_seam.specs.Events.Nested.{enter_link, exit, pair, is_exit}
+use Rattle.md_content.specs.ContentReads.{content_readings, wants_content}
+use Rattle.md_content.specs.Joined.{joined}
+use Rattle.md_seam.specs.Ahead.{begins_white, from_ending, line_end}
+use Rattle.md_seam.specs.Events.Nested.{pair}
 use Rattle.md_seam.specs.Standard.State.{Container}
 use Rattle.md_seam.specs.Substituted.{Readings, Substituted}
 use Rattle.markdown_blocks.proofs.ContainerNames.{is_front}

@@ -16,7 +16,7 @@ use Rattle.md_seam.specs.Events.Spelled.{role, IsQuiet, Role}
 use Rattle.md_seam.specs.Events.Tiles.{chunks, inside_part, is_part, part_end, part_kind}
 use Rattle.md_seam.proofs.SpelledLemmas.{Quiet, Roles}
 use Rattle.markdown_blocks.specs.Unread.{linked}
-use Rattle.markdown_blocks.proofs.EachEvent.{Each, each-append}
+use Rattle.markdown_blocks.proofs.EachEvent.{Each}
 
 -- events without links
 abbrev pub IsUnlinked : Event → Type 0

@@ -1,5 +1,5 @@
 -- Events with names of prefixes, or of prefixes and containers.
-use Rattle.std.proofs.Common.{◌≡◌, true, List, [], ◌∷◌, ◌++◌, refl, Bool, false}
+use Rattle.std.proofs.Common.{◌≡◌, true, List, [], ◌∷◌, refl, Bool, false}
 use Rattle.std.specs.Prelude.{None}
 use Rattle.md_engine.specs.declared.event.Event.{Event}
 use Rattle.md_engine.specs.declared.event.Name.{Name}
@@ -60,7 +60,8 @@ prefix-role P IsQuiet quiet prefix h = quiet
 prefix-role P spelled.IsPrefix quiet prefix h = prefix
 prefix-role P _ quiet prefix h = cc
 
-pub prefixes-roles : (P : Role → Type 0) (es : List Event) → P IsQuiet → P spelled.IsPrefix → ArePrefixes es → Roles P es
+pub prefixes-roles : (P : Role → Type 0) (es : List Event) → P IsQuiet → P spelled.IsPrefix → ArePrefixes es →
+    Roles P es
 prefixes-roles P [] quiet prefix h = tt
 prefixes-roles P (e ∷ es) quiet prefix h = (prefix-role P (role e.name) quiet prefix (prefix-is e.name h.0.0), prefixes-roles P es quiet prefix h.1)
 
@@ -70,6 +71,7 @@ quiet-role P IsQuiet quiet prefix h = quiet
 quiet-role P spelled.IsPrefix quiet prefix h = prefix
 quiet-role P _ quiet prefix h = absurd h
 
-pub quiets-roles : (P : Role → Type 0) (es : List Event) → P IsQuiet → P spelled.IsPrefix → Roles QuietOrPrefix es → Roles P es
+pub quiets-roles : (P : Role → Type 0) (es : List Event) → P IsQuiet → P spelled.IsPrefix → Roles QuietOrPrefix es →
+    Roles P es
 quiets-roles P [] quiet prefix h = tt
 quiets-roles P (e ∷ es) quiet prefix h = (quiet-role P (role e.name) quiet prefix h.0, quiets-roles P es quiet prefix h.1)

@@ -1,4 +1,5 @@
--- The laws of the constructs that are built, and what the table has of them: the one place of the frame's proofs that names them.
+-- The laws of the constructs that are built, and what the table has of them: the one place of the frame's proofs that
+-- names them.
 use Rattle.std.proofs.Common.{◌≡◌, Bool, true, false, cond, List, ◌∷◌, ◌++◌, refl, ◌∙◌, ap, ap₂, arith}
 use Rattle.std.specs.Option.{option_or}
 use Rattle.std.specs.Prelude.{Option, Some, None}
@@ -188,24 +189,31 @@ container-states kind.BlockQuote = record {
   goes_on_is = λ options next cells h. refl;
 }
   where
-    quote_at : (state : QuoteState) → ((x : Spot) (K : After) → IsRest x.scratch → EndsLater IsRest IsRest x K → quote_scheme.ready (n.BlockQuote state) x K) →
+    quote_at : (state : QuoteState) →
+        ((x : Spot) (K : After) → IsRest x.scratch → EndsLater IsRest IsRest x K → quote_scheme.ready (n.BlockQuote state) x K) →
         ContainerFits flow_table_scheme (n.BlockQuote state)
-    quote_at state ready = record { own = quote_scheme; starts = fits flow_owner (n.BlockQuote state); level = omega arith; ready = ready }
+    quote_at state ready =
+        record { own = quote_scheme; starts = fits flow_owner (n.BlockQuote state); level = omega arith; ready = ready }
 
 -- Of the containers of the line definition it alone opens, where the others are off.
 
-item-off : (options : ParseOptions) (interrupting : Bool) (r : Rest) → options.constructs.list_item ≡ false → opens_item options interrupting r ≡ None
+item-off : (options : ParseOptions) (interrupting : Bool) (r : Rest) → options.constructs.list_item ≡ false →
+    opens_item options interrupting r ≡ None
 unfolding opens_item
 item-off options interrupting r off = rw off refl
 
-footnote-off : (options : ParseOptions) (r : Rest) → options.constructs.gfm_footnote_definition ≡ false → opens_footnote options r ≡ None
+footnote-off : (options : ParseOptions) (r : Rest) → options.constructs.gfm_footnote_definition ≡ false →
+    opens_footnote options r ≡ None
 unfolding opens_footnote
 footnote-off options r off = rw off refl
 
-pub opens-found : (options : ParseOptions) (interrupting : Bool) (r : Rest) → IsBuilt options → opens options interrupting r ≡ (container_rules new_kind).found options interrupting r
+pub opens-found : (options : ParseOptions) (interrupting : Bool) (r : Rest) → IsBuilt options →
+    opens options interrupting r ≡ (container_rules new_kind).found options interrupting r
 opens-found options interrupting r built =
-    ap (λ (o : Option Taken). option_or (opens_quote options r) (option_or o (opens_footnote options r))) (item-off options interrupting r built.list_item)
-    ∙ ap (λ (o : Option Taken). option_or (opens_quote options r) o) (footnote-off options r built.gfm_footnote_definition)
+    ap (λ (o : Option Taken). option_or (opens_quote options r) (option_or o (opens_footnote options r)))
+    (item-off options interrupting r built.list_item)
+    ∙ ap (λ (o : Option Taken). option_or (opens_quote options r) o)
+    (footnote-off options r built.gfm_footnote_definition)
     ∙ go (opens_quote options r)
   where
     go : (o : Option Taken) → option_or o None ≡ o
@@ -230,8 +238,8 @@ pub white_has : (options : ParseOptions) (next : Rule) → HasWhite (flow_behave
 white_has options next = record { each = λ _ _ _. refl }
 
 -- each state keeps what its table needs,
-pub construct-does : (is_name : ResolveName → ResolveName → Bool) (name : StateName) (w : World) → w.current ≡ looks w →
-    (construct_owner name).ready name (spot w) (after_all flow_table_scheme w.frames) →
+pub construct-does : (is_name : ResolveName → ResolveName → Bool) (name : StateName) (w : World) →
+    w.current ≡ looks w → (construct_owner name).ready name (spot w) (after_all flow_table_scheme w.frames) →
     Does flow_table_scheme name w (construct_transition is_name name w)
 construct-does is_name (n.BlockQuote state) w c at = quote_does flow_table_scheme state w quote_fits c at
 construct-does is_name (n.HeadingAtx state) w c at =
@@ -240,8 +248,8 @@ construct-does is_name (n.ThematicBreak state) w c at = break_does flow_table_sc
 construct-does is_name name w c at = absurd at
 
 -- takes one step of what it means,
-pub construct-steps : (is_name : ResolveName → ResolveName → Bool) (feed : Feed) (next : Rule) (name : StateName) (w : World) → Sees feed w →
-    (construct_owner name).ready name (spot w) (after_all flow_table_scheme w.frames) →
+pub construct-steps : (is_name : ResolveName → ResolveName → Bool) (feed : Feed) (next : Rule) (name : StateName) (w : World) →
+    Sees feed w → (construct_owner name).ready name (spot w) (after_all flow_table_scheme w.frames) →
     Steps (flow_behaves_by w.setting.options next) feed (Next name) w (construct_transition is_name name w).to (construct_transition is_name name w).world
 construct-steps is_name feed next (n.BlockQuote state) w s at =
     quote_steps _ feed state w (record { white = white_has w.setting.options next; each = λ _ _ _. refl }) s
@@ -252,7 +260,8 @@ construct-steps is_name feed next (n.ThematicBreak state) w s at =
 construct-steps is_name feed next name w s at = absurd at
 
 -- and keeps what is known of resolvers
-pub construct-registers : (name : StateName) (w : World) → Registers w → Registers (construct_transition same_name name w).world
+pub construct-registers : (name : StateName) (w : World) → Registers w →
+    Registers (construct_transition same_name name w).world
 construct-registers (n.BlockQuote state) w h = quote-registers state w h
 construct-registers (n.HeadingAtx state) w h = heading-registers state w h
 construct-registers (n.ThematicBreak state) w h = break-registers state w h

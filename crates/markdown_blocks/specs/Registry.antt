@@ -186,7 +186,8 @@ goes_by options c cells p (Some k) = (container_rules k).goes options c cells p
 abbrev pub goes_at : ParseOptions → Container → List Cell → Point → Option Passed
 goes_at options c cells p = goes_by options c cells p (kind_of (shape_of c))
 
--- States: which construct has each, what each does, and what is left at it; `is_name` finds a resolver among those that are registered.
+-- States: which construct has each, what each does, and what is left at it; `is_name` finds a resolver among those that
+-- are registered.
 
 abbrev pub construct_owner : StateName → Scheme
 construct_owner (s.BlockQuote state) = quote_scheme

@@ -1,5 +1,5 @@
 -- What is tried for a block quote: its prefix is taken where its cells say so, and takes a cell at least.
-use Rattle.std.proofs.Common.{◌≡◌, Bool, true, false, cond, ◌&&◌, List, length, Some, None, refl, ◌∙◌, subst}
+use Rattle.std.proofs.Common.{◌≡◌, Bool, true, false, cond, ◌&&◌, List, Some, None, refl, ◌∙◌, subst}
 use Rattle.std.proofs.lemmas.Bool.{and_parts}
 use Rattle.md_engine.specs.declared.configuration.ParseOptions.{ParseOptions}
 use Rattle.md_engine.specs.declared.event.Point.{Point}
@@ -14,7 +14,8 @@ use Rattle.markdown_blocks.proofs.ContainerLaws.{IsPassed}
 use Rattle.md_containers.proofs.QuoteCells.{prefix-is, prefix-shorter, quote-is}
 
 -- what stands here, if it does, is taken, and else refused
-tried-if : (x : Bool) (u : Passed) (h : Here) → cond x (Accepts (passed_here u h) u.cells) (Refuses h.scratch h.flags) ≡ passed_by (cond x (Some u) None) h
+tried-if : (x : Bool) (u : Passed) (h : Here) →
+    cond x (Accepts (passed_here u h) u.cells) (Refuses h.scratch h.flags) ≡ passed_by (cond x (Some u) None) h
 tried-if true u h = refl
 tried-if false u h = refl
 

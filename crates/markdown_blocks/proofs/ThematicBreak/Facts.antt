@@ -22,7 +22,7 @@ use Rattle.md_seam.proofs.EndingsLemmas as ending
 use Rattle.md_seam.proofs.EndingsLemmas.{AreOthers, behind_leaf, in_leaf, leaf-leads, others-lead}
 use Rattle.md_seam.proofs.GrammarLemmas.{IsWord, leads-around}
 use Rattle.md_seam.proofs.SpelledLemmas.{Quiet, Roles}
-use Rattle.markdown_blocks.proofs.EachEvent.{Each, each-append}
+use Rattle.markdown_blocks.proofs.EachEvent.{each-append}
 use Rattle.markdown_blocks.specs.Fronted.{rest_line}
 use Rattle.markdown_blocks.specs.Leaf.ThematicBreak.{break_leaf, break_line, first_byte}
 use Rattle.markdown_blocks.specs.MarkRuns.{Apart, Marks, Run, White, mark_runs}
