@@ -1,6 +1,6 @@
 -- The laws of the constructs that are built, and what the table has of them: the one place of the frame's proofs that
 -- names them.
-use Rattle.std.proofs.Common.{◌≡◌, Bool, true, false, cond, List, ◌∷◌, ◌++◌, refl, ◌∙◌, ap, ap₂, arith}
+use Rattle.std.proofs.Common.{◌≡◌, ◌<◌, Bool, true, false, cond, List, [], ◌∷◌, ◌++◌, refl, ◌∙◌, ap, ap₂, arith}
 use Rattle.std.specs.Option.{option_or}
 use Rattle.std.specs.Prelude.{Option, Some, None}
 use Rattle.md_engine.specs.declared.configuration.ParseOptions.{ParseOptions}
@@ -26,29 +26,27 @@ use Rattle.md_engine.proofs.StepOf.{Sees}
 use Rattle.md_containers.specs.Quote.{quote_scheme}
 use Rattle.md_containers.proofs.QuoteGoods.{QuoteFits, quote_does}
 use Rattle.md_containers.proofs.QuoteSteps.{quote_steps}
-use Rattle.md_leaves.specs.Break.{break_scheme}
-use Rattle.md_leaves.specs.Heading.{heading_scheme}
 use Rattle.md_leaves.proofs.BreakGoods.{BreakFits, break_does}
 use Rattle.md_leaves.proofs.BreakSteps.{break_steps}
 use Rattle.md_leaves.proofs.HeadingGoods.{HeadingFits, heading_does}
 use Rattle.md_leaves.proofs.HeadingSteps.{heading_steps}
 use Rattle.md_seam.specs.Ahead.{HasWhite}
-use Rattle.md_seam.specs.Spaces.{IsRest}
+use Rattle.md_seam.specs.Spaces.{IsRest, rest_ready}
 use Rattle.md_seam.specs.Standard.Containers.{Taken, opens, opens_footnote, opens_item, opens_quote}
 use Rattle.md_seam.specs.Standard.Leaves.{Came, Finished, break_at, heading_at}
 use Rattle.md_seam.specs.Standard.Rest.{Rest}
 use Rattle.md_seam.proofs.SpacesGoods.{Does, WhiteFits}
-use Rattle.markdown_blocks.specs.FlowRule.{Rule, leaves_behave, leaves_of}
+use Rattle.markdown_blocks.specs.FlowRule.{Rule}
 use Rattle.markdown_blocks.specs.Leaf.HeadingAtx.{heading_leaf}
 use Rattle.markdown_blocks.specs.Leaf.ThematicBreak.{break_leaf}
 use Rattle.markdown_blocks.specs.Parsed.{IsBuilt}
-use Rattle.markdown_blocks.specs.Registry.{HeadingAtx, LeafName, ThematicBreak, behind, construct_owner, construct_transition, container_rules, first_of, is_own, leaf, new_kind, next_of, resolved, text_leaf, trials, tried_at}
+use Rattle.markdown_blocks.specs.Registry.{HeadingAtx, LeafName, ThematicBreak, behind, construct_owner, construct_transition, container_rules, first_of, is_own, leaf, new_kind, resolved, text_leaf, trials, tried_at}
 use Rattle.markdown_blocks.specs.States.{flow_behaves_by, flow_owner, flow_table_scheme}
 use Rattle.markdown_blocks.proofs.BlockQuote.Laws.{quote-laws}
 use Rattle.markdown_blocks.proofs.BlockQuote.Registers.{quote-registers}
 use Rattle.markdown_blocks.proofs.ContainerLaws.{ContainerLaws}
 use Rattle.markdown_blocks.proofs.ContainerNames.{is_front}
-use Rattle.markdown_blocks.proofs.Goods.{ContainerFits, LeafFits}
+use Rattle.markdown_blocks.proofs.Goods.{ContainerFits}
 use Rattle.markdown_blocks.proofs.HeadingAtx.Found.{heading-found, heading-simple}
 use Rattle.markdown_blocks.proofs.HeadingAtx.Laws.{heading-laws}
 use Rattle.markdown_blocks.proofs.HeadingAtx.Outside.{front-heading, heading-passes}
@@ -103,54 +101,32 @@ leaf-simple ThematicBreak options r h = break-simple
 
 -- In the table of flow.
 
--- each is tried at the state in front of it
+-- each is tried at the state in front of it alone
 pub tried-before : (state : FlowState) (l : LeafName) → tried_at state ≡ Some l → (leaf l).before ≡ state
 tried-before flow.BeforeHeadingAtx HeadingAtx e = refl
 tried-before flow.BeforeThematicBreak ThematicBreak e = refl
 tried-before _ _ e = cc
 
--- and has its place in the table
-pub leaf-fits : (l : LeafName) → LeafFits flow_table_scheme l
-leaf-fits HeadingAtx = record {
-  own = heading_scheme;
-  starts = fits flow_owner (leaf HeadingAtx).start;
-  level = omega arith;
-  ready = λ x K is. is;
-  front = fits flow_owner (n.Flow (leaf HeadingAtx).before);
-  next = fits flow_owner (n.Flow (next_of HeadingAtx));
-  falls = omega arith;
-  next_low = omega arith;
-  behind_low = omega arith;
-}
-leaf-fits ThematicBreak = record {
-  own = break_scheme;
-  starts = fits flow_owner (leaf ThematicBreak).start;
-  level = omega arith;
-  ready = λ x K is. is;
-  front = fits flow_owner (n.Flow (leaf ThematicBreak).before);
-  next = fits flow_owner (n.Flow (next_of ThematicBreak));
-  falls = omega arith;
-  next_low = omega arith;
-  behind_low = omega arith;
-}
+-- those behind a leaf are tried behind the first of them, but for it
+abbrev pub NextIs : List LeafName → Type 0
+NextIs [] = Unit {0}
+NextIs (m ∷ ms) = behind m ≡ ms
 
--- what is left at these states: at its first state what its trial leaves,
-pub leaf-starts : (options : ParseOptions) (next : Rule) (l : LeafName) (cells : List Cell) (h : Here) →
-    flow_behaves_by options next (leaf l).start cells h ≡ (leaf l).trial options cells h
-leaf-starts options next HeadingAtx cells h = refl
-leaf-starts options next ThematicBreak cells h = refl
+-- what the table has of a leaf: where it is tried, and what is tried next; that its first state is ready at rest, of a
+-- lower level than flow; and that its trial is left there
+pub record LeafStates (l : LeafName) : Type 1 where
+  pub tried : tried_at (leaf l).before ≡ Some l
+  pub next : NextIs (behind l)
+  pub level : (flow_owner (leaf l).start).level (leaf l).start < 3
+  pub ready : (x : Spot) (K : After) → rest_ready x K → (flow_owner (leaf l).start).ready (leaf l).start x K
+  pub starts : (options : ParseOptions) (next : Rule) (cells : List Cell) (h : Here) →
+      flow_behaves_by options next (leaf l).start cells h ≡ (leaf l).trial options cells h
 
--- in front of it what it leaves, and those that are tried behind it,
-pub left-before : (options : ParseOptions) (next : Rule) (l : LeafName) (cells : List Cell) (h : Here) →
-    leaves_behave options next (leaf l).before cells h ≡ leaves_of options next (l ∷ behind l) cells h
-left-before options next HeadingAtx cells h = refl
-left-before options next ThematicBreak cells h = refl
-
--- and in front of the next what these leave
-pub left-next : (options : ParseOptions) (next : Rule) (l : LeafName) (cells : List Cell) (h : Here) →
-    leaves_behave options next (next_of l) cells h ≡ leaves_of options next (behind l) cells h
-left-next options next HeadingAtx cells h = refl
-left-next options next ThematicBreak cells h = refl
+pub leaf-states : (l : LeafName) → LeafStates l
+leaf-states HeadingAtx =
+    record { tried = refl; next = refl; level = omega arith; ready = λ x K is. is; starts = λ options next cells h. refl }
+leaf-states ThematicBreak =
+    record { tried = refl; next = tt; level = omega arith; ready = λ x K is. is; starts = λ options next cells h. refl }
 
 -- Lines of text.
 
