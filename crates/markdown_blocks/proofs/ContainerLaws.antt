@@ -4,7 +4,7 @@ use Rattle.std.specs.Prelude.{None, Some}
 use Rattle.md_engine.specs.declared.configuration.ParseOptions.{ParseOptions}
 use Rattle.md_engine.specs.declared.event.Point.{Point}
 use Rattle.md_engine.specs.declared.tokenizer.container.Container.{Container as Held}
-use Rattle.md_engine.specs.declared.tokenizer.container.ContainerKind.{ContainerKind}
+use Rattle.md_engine.specs.declared.tokenizer.container.name.ContainerKind.{ContainerKind}
 use Rattle.md_engine.specs.declared.tokenizer.Line.{Line}
 use Rattle.md_engine.specs.Meaning.{Cell, Here}
 use Rattle.md_containers.proofs.Shorter.{Shortens}
@@ -24,29 +24,49 @@ use Rattle.markdown_blocks.proofs.PassedFacts.{Agree, HasFurther, HasOpening}
 use Rattle.markdown_blocks.proofs.PrefixNames.{AreFront}
 use Rattle.markdown_blocks.proofs.SimpleBlocks.{AreSimple, IsSimple}
 
--- one that goes on or opens is of its kind, takes a cell at least, and adds events with names of prefixes and of containers
+-- one that goes on or opens is of its kind, takes a cell at least, and adds events with names of prefixes and of
+-- containers
 pub record IsPassed (k : ContainerKind) (cells : List Cell) (t : Passed) : Type 0 where
   pub one : IsOf k t.container
   pub shorter : length t.cells < length cells
   pub front : AreFront t.events
 
+-- what holds of the rest of a line and its cells, behind which others stand: of any rest at any point
+abbrev pub ByRest : ((line : Line) (text past : List ℕ) (r : Rest) (stop : List Cell) (p : Point) → Type 0) → Type 0
+ByRest P = (line : Line) (text past : List ℕ) (r : Rest) (stop : List Cell) (p : Point) →
+    RestAt text past r p → NoEnding r.bytes → Stops stop → length (rest_cells line r p ++ stop) < 2 ^ 63 → P line text past r stop p
+
 pub record ContainerLaws (k : ContainerKind) (rules : ContainerRules) : Type 1 where
   -- What is left at its states is what it takes by the cells of a line, and is shorter.
-  pub begins_is : (options : ParseOptions) (interrupting : Bool) (cells : List Cell) (h : Here) → IsRest h.scratch → rules.begins options cells h ≡ passed_by (rules.opens options interrupting cells h.point) h
-  pub continues_is : (options : ParseOptions) (held : Held) (c : Container) (cells : List Cell) (h : Here) → IsRest h.scratch → IsOf k c → rules.holds held c → rules.continues options cells h ≡ passed_by (rules.goes options c cells h.point) h
-  pub begins_shorter : (options : ParseOptions) (cells : List Cell) (h : Here) → Shortens (length cells) (rules.begins options cells h)
-  pub continues_shorter : (options : ParseOptions) (cells : List Cell) (h : Here) → Shortens (length cells) (rules.continues options cells h)
-  pub opened : (options : ParseOptions) (interrupting : Bool) (cells : List Cell) (p : Point) (t : Passed) → rules.opens options interrupting cells p ≡ Some t → IsPassed k cells t
-  pub went : (options : ParseOptions) (c : Container) (cells : List Cell) (p : Point) (t : Passed) → IsOf k c → rules.goes options c cells p ≡ Some t → IsPassed k cells t
+  pub begins_is : (options : ParseOptions) (interrupting : Bool) (cells : List Cell) (h : Here) → IsRest h.scratch →
+      rules.begins options cells h ≡ passed_by (rules.opens options interrupting cells h.point) h
+  pub continues_is : (options : ParseOptions) (held : Held) (c : Container) (cells : List Cell) (h : Here) →
+      IsRest h.scratch → IsOf k c → rules.holds held c →
+      rules.continues options cells h ≡ passed_by (rules.goes options c cells h.point) h
+  pub begins_shorter : (options : ParseOptions) (cells : List Cell) (h : Here) →
+      Shortens (length cells) (rules.begins options cells h)
+  pub continues_shorter : (options : ParseOptions) (cells : List Cell) (h : Here) →
+      Shortens (length cells) (rules.continues options cells h)
+  pub opened : (options : ParseOptions) (interrupting : Bool) (cells : List Cell) (p : Point) (t : Passed) →
+      rules.opens options interrupting cells p ≡ Some t → IsPassed k cells t
+  pub went : (options : ParseOptions) (c : Container) (cells : List Cell) (p : Point) (t : Passed) → IsOf k c →
+      rules.goes options c cells p ≡ Some t → IsPassed k cells t
   -- The tokenizer holds what it opens as, and goes on to.
-  pub held_new : (options : ParseOptions) (interrupting : Bool) (cells : List Cell) (p : Point) (t : Passed) → rules.opens options interrupting cells p ≡ Some t → rules.holds (record { kind = k }) t.container
-  pub held_on : (options : ParseOptions) (held : Held) (c : Container) (cells : List Cell) (p : Point) (t : Passed) → rules.holds held c → rules.goes options c cells p ≡ Some t → rules.holds held t.container
+  pub held_new : (options : ParseOptions) (interrupting : Bool) (cells : List Cell) (p : Point) (t : Passed) →
+      rules.opens options interrupting cells p ≡ Some t → rules.holds (record { kind = k }) t.container
+  pub held_on : (options : ParseOptions) (held : Held) (c : Container) (cells : List Cell) (p : Point) (t : Passed) →
+      rules.holds held c → rules.goes options c cells p ≡ Some t → rules.holds held t.container
   -- It opens and goes on where the line definition says, and leaves what it says.
-  pub opens_agrees : (options : ParseOptions) (interrupting : Bool) (line : Line) (text past : List ℕ) (r : Rest) (stop : List Cell) (p : Point) → RestAt text past r p → NoEnding r.bytes → Stops stop → length (rest_cells line r p ++ stop) < 2 ^ 63 →
-      Agree (HasOpening line text past p (past_rest r p) stop (rest_cells line r p ++ stop)) (rules.opens options interrupting (rest_cells line r p ++ stop) p) (rules.found options interrupting r)
-  pub goes_agrees : (options : ParseOptions) (line : Line) (text past : List ℕ) (c : Container) (r : Rest) (stop : List Cell) (p : Point) → IsOf k c → RestAt text past r p → NoEnding r.bytes → Stops stop → length (rest_cells line r p ++ stop) < 2 ^ 63 →
-      Agree (HasFurther line text past p (past_rest r p) stop (rest_cells line r p ++ stop)) (rules.goes options c (rest_cells line r p ++ stop) p) (continues options c r)
-  -- By the line definition what opens is of its kind; it does not go on over an empty line; and with simple blocks in it, its block is simple.
-  pub found_one : (options : ParseOptions) (interrupting : Bool) (r : Rest) (t : Taken) → rules.found options interrupting r ≡ Some t → IsOf k t.container
-  pub empty_ends : (options : ParseOptions) (c : Container) (column : ℕ) → IsOf k c → continues options c (rest_at column []) ≡ None
+  pub opens_agrees : (options : ParseOptions) (interrupting : Bool) → ByRest (λ line text past r stop p.
+      let cells = rest_cells line r p ++ stop in
+      Agree (HasOpening line text past p (past_rest r p) stop cells) (rules.opens options interrupting cells p) (rules.found options interrupting r))
+  pub goes_agrees : (options : ParseOptions) (c : Container) → IsOf k c → ByRest (λ line text past r stop p.
+      let cells = rest_cells line r p ++ stop in
+      Agree (HasFurther line text past p (past_rest r p) stop cells) (rules.goes options c cells p) (continues options c r))
+  -- By the line definition what opens is of its kind; it does not go on over an empty line; and with simple blocks in
+  -- it, its block is simple.
+  pub found_one : (options : ParseOptions) (interrupting : Bool) (r : Rest) (t : Taken) →
+      rules.found options interrupting r ≡ Some t → IsOf k t.container
+  pub empty_ends : (options : ParseOptions) (c : Container) (column : ℕ) → IsOf k c →
+      continues options c (rest_at column []) ≡ None
   pub simple : (c : Container) (bs : Blocks) → IsOf k c → AreSimple bs → IsSimple (container_block c bs)

@@ -1,14 +1,14 @@
--- The containers of the line definition, built or not: what is known of the names of their events, and of what these tell. It is the one
--- place of the frame's proofs that goes through them.
-use Rattle.std.proofs.Common.{◌≡◌, Bool, true, false, cond, List, [], ◌∷◌, ◌++◌, refl, ap, ◌∙◌, map, sym, ℕ}
+-- The containers of the line definition, built or not: what is known of the names of their events, and of what these
+-- tell. It is the one place of the frame's proofs that goes through them.
+use Rattle.std.proofs.Common.{◌≡◌, Bool, true, false, cond, List, [], ◌∷◌, ◌++◌, refl, ap, map, sym, ℕ}
 use Rattle.std.specs.Prelude.{None, Some}
 use Rattle.md_engine.specs.declared.configuration.ParseOptions.{ParseOptions}
 use Rattle.md_engine.specs.declared.event.Event.{Event}
 use Rattle.md_engine.specs.declared.event.Name.{Name}
 use Rattle.md_engine.specs.declared.event.Name.TheVariants as n
 use Rattle.md_engine.specs.declared.event.Point.{Point}
-use Rattle.md_engine.specs.declared.tokenizer.container.ContainerKind.{ContainerKind}
-use Rattle.md_engine.specs.declared.tokenizer.container.ContainerKind.TheVariants as kind
+use Rattle.md_engine.specs.declared.tokenizer.container.name.ContainerKind.{ContainerKind}
+use Rattle.md_engine.specs.declared.tokenizer.container.name.ContainerKind.TheVariants as kind
 use Rattle.md_engine.specs.ContainerName.{name_of}
 use Rattle.md_content.specs.Joined.{content_behind}
 use Rattle.md_outline.specs.Roles.{is_plain}
@@ -54,7 +54,8 @@ pub record ContainerFacts (c : Container) : Type 0 where
   pub untold : is_plain (Holds (shape_of c)) ≡ true → Untold (role (container_name c))
   -- each is read as its block, and ends alike
   pub block : (bs : Blocks) → block_around (shape_of c) bs ≡ container_block c bs
-  pub read_end : (bytes : List ℕ) (p : Point) (r : Reading) → read bytes r (exit (container_name c) p ∷ []) ≡ left r.outer r
+  pub read_end : (bytes : List ℕ) (p : Point) (r : Reading) →
+      read bytes r (exit (container_name c) p ∷ []) ≡ left r.outer r
   -- the tokenizer ends it by the same name, if it is built
   pub held : (k : ContainerKind) → IsOf k c → name_of k ≡ container_name c
 
@@ -100,7 +101,8 @@ container-facts (InFootnote label) = record {
 }
 
 -- lines of content do not go on over its end
-pub end-stops : (c : Container) (p : Point) (ys : List Event) → content_behind (exit (container_name c) p ∷ ys) ≡ false
+pub end-stops : (c : Container) (p : Point) (ys : List Event) →
+    content_behind (exit (container_name c) p ∷ ys) ≡ false
 end-stops c p ys = ap (λ (x : Bool). cond x (content_behind ys) false) (container-facts c).no_prefix
 
 -- Names of open containers.
@@ -127,7 +129,8 @@ when-shape true u t e = let same : u ≡ t = cc in sym (ap (λ (x : Taken). shap
 when-shape false u t e = cc
 
 -- so a container that goes on has the shape that it had
-pub continues-shape : (options : ParseOptions) (c : Container) (r : Rest) (t : Taken) → continues options c r ≡ Some t → shape_of t.container ≡ shape_of c
+pub continues-shape : (options : ParseOptions) (c : Container) (r : Rest) (t : Taken) →
+    continues options c r ≡ Some t → shape_of t.container ≡ shape_of c
 unfolding quote_taken item_continues footnote_continues
 continues-shape options InQuote r t e = when-shape _ _ t e
 continues-shape options (InItem digits marker width starts_blank) r t e = when-shape _ _ t e

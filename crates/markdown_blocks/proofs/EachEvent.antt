@@ -17,6 +17,11 @@ pub each-append : (P : Event → Type 0) (a b : List Event) → Each P a → Eac
 each-append P [] b o k = k
 each-append P (e ∷ es) b o k = (o.0, each-append P es b o.1 k)
 
+-- of each what follows from it
+pub each-as : (P Q : Event → Type 0) → ((e : Event) → P e → Q e) → (es : List Event) → Each P es → Each Q es
+each-as P Q so [] o = tt
+each-as P Q so (e ∷ es) o = (so e o.0, each-as P Q so es o.1)
+
 -- of both, if of both together
 pub each-front : (P : Event → Type 0) (a b : List Event) → Each P (a ++ b) → Each P a
 each-front P [] b o = tt
@@ -42,22 +47,26 @@ each-drop P (suc k) (e ∷ es) o = each-drop P k es o.1
 -- What holds of each wherever it stands goes on to hold.
 
 -- once lines are joined
-pub joined-each : (P : Event → Type 0) → ((e : Event) (q : Point) → P e → P (record e { point = q })) → (es : List Event) → Each P es → Each P (joined es)
+pub joined-each : (P : Event → Type 0) → ((e : Event) (q : Point) → P e → P (record e { point = q })) →
+    (es : List Event) → Each P es → Each P (joined es)
 joined-each P moves [] h = tt
 joined-each P moves (e ∷ []) h = h
 joined-each P moves (e ∷ f ∷ []) h = h
 joined-each P moves (e ∷ f ∷ g ∷ es) h = go (is_exit e.kind && is_content e.name && goes_on (f ∷ g ∷ es)) (joined-each P moves es h.1.1.1) (joined-each P moves (f ∷ g ∷ es) h.1)
   where
-    go : (x : Bool) → Each P (joined es) → Each P (joined (f ∷ g ∷ es)) → Each P (cond x (record e { point = g.point } ∷ joined es) (e ∷ joined (f ∷ g ∷ es)))
+    go : (x : Bool) → Each P (joined es) → Each P (joined (f ∷ g ∷ es)) →
+        Each P (cond x (record e { point = g.point } ∷ joined es) (e ∷ joined (f ∷ g ∷ es)))
     go true k l = (moves e g.point h.0, k)
     go false k l = (h.0, l)
 
 -- once lines end where their chunks do
-pub settled-each : (P : Event → Type 0) → ((e : Event) (q : Point) → P e → P (record e { point = q })) → (chunks : List Chunk) (es : List Event) → Each P es → Each P (settled chunks es)
+pub settled-each : (P : Event → Type 0) → ((e : Event) (q : Point) → P e → P (record e { point = q })) →
+    (chunks : List Chunk) (es : List Event) → Each P es → Each P (settled chunks es)
 settled-each P moves chunks [] h = tt
 settled-each P moves [] (e ∷ es) h = h
 settled-each P moves (chunk ∷ chunks) (e ∷ es) h = go (is_data_end e) (settled-each P moves chunks es h.1) (settled-each P moves (chunk ∷ chunks) es h.1)
   where
-    go : (x : Bool) → Each P (settled chunks es) → Each P (settled (chunk ∷ chunks) es) → Each P (cond x (record e { point = chunk.after } ∷ settled chunks es) (e ∷ settled (chunk ∷ chunks) es))
+    go : (x : Bool) → Each P (settled chunks es) → Each P (settled (chunk ∷ chunks) es) →
+        Each P (cond x (record e { point = chunk.after } ∷ settled chunks es) (e ∷ settled (chunk ∷ chunks) es))
     go true k l = (moves e chunk.after h.0, k)
     go false k l = (h.0, l)

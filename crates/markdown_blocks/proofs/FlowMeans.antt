@@ -42,7 +42,8 @@ use Rattle.markdown_blocks.specs.States.{FlowStep, flow_behaves, flow_behaves_by
 use Rattle.markdown_blocks.specs.Registry.{behind, continues_at, front_of, leaf, LeafName, new_container_at, new_kind, next_of, trials, tried_at}
 use Rattle.markdown_blocks.proofs.FlowLemmas.{flow_by_line, line_by_container, new_by_container}
 use Rattle.markdown_blocks.proofs.States.{flow_does}
-use Rattle.markdown_blocks.proofs.Registry.{construct-steps, container-states, leaf-starts, left-before, left-next, tried-before, white_has}
+use Rattle.markdown_blocks.proofs.Trials.{left-before, left-next}
+use Rattle.markdown_blocks.proofs.Registry.{construct-steps, container-states, leaf-states, tried-before, white_has}
 
 -- an attempt that was begun here
 abbrev frame_here : State → State → World → Frame
@@ -201,7 +202,7 @@ flow_has : (options : ParseOptions) (next : Rule) → HasFlow (flow_behaves_by o
 flow_has options next = record {
   blank = record { white = white_has options next; each = λ _ _ _. refl };
   chunk = record { each = λ _ _ _. refl };
-  starts = leaf-starts options next;
+  starts = λ l. (leaf-states l).starts options next;
   opens = (container-states new_kind).begins_is options next;
   goes_on = λ k. (container-states k).goes_on_is options next;
   containers = λ _ _ _. refl;

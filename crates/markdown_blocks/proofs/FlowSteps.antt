@@ -10,21 +10,17 @@ use Rattle.md_engine.specs.declared.event.Event.{Event}
 use Rattle.md_engine.specs.declared.event.Name.TheVariants as n
 use Rattle.md_engine.specs.declared.event.Point.{Point}
 use Rattle.md_engine.specs.Meaning.{Cell}
-use Rattle.md_engine.specs.TextFeed.{text_feed}
-use Rattle.md_engine.specs.World.{World}
-use Rattle.md_content.specs.ContentReads.{content_events, content_readings, is_data_end, paragraph_over, part_world, settled, wants_content}
-use Rattle.md_content.specs.Joined.{goes_on, is_content, joined}
-use Rattle.md_content.specs.Paragraph.{text_link}
-use Rattle.md_content.specs.ParagraphRule.{line_events}
-use Rattle.md_seam.specs.declared.inline.Chunk.{Chunk}
-use Rattle.md_seam.specs.Ahead.{begins_white, from_ending, line_end, point_after}
-use Rattle.md_seam.specs.Events.Nested.{enter_link, exit, pair, is_exit}
+use Rattle.md_content.specs.ContentReads.{content_readings, wants_content}
+use Rattle.md_content.specs.Joined.{joined}
+use Rattle.md_seam.specs.Ahead.{begins_white, from_ending, line_end}
+use Rattle.md_seam.specs.Events.Nested.{pair}
 use Rattle.md_seam.specs.Standard.State.{Container}
 use Rattle.md_seam.specs.Substituted.{Readings, Substituted}
+use Rattle.markdown_blocks.proofs.ContainerNames.{is_front}
 use Rattle.markdown_blocks.specs.Change.{interrupts, open_behind, others_of}
 use Rattle.markdown_blocks.specs.FlowReads.{has_text}
 use Rattle.markdown_blocks.specs.Rows.{leaf_behind, BlankRow, Front, Held, Row, RowKind, TextRow, ending_of, held_at, in_front, inside_of, is_text, leaf_events, new_front, no_front, row_events, row_kind, rows_at, rows_by, rows_events, tail_events, went_front, LeafRow}
-use Rattle.markdown_blocks.proofs.EachEvent.{Each, each-behind, each-front, joined-each}
+use Rattle.markdown_blocks.proofs.EachEvent.{Each, each-behind, each-front, joined-each, each-append}
 use Rattle.markdown_blocks.proofs.EachRow.{EachRow}
 use Rattle.markdown_blocks.specs.Registry.{is_own, goes_at, opens_at}
 use Rattle.markdown_blocks.proofs.OutsideFacts.{AreOutside, outside-append, IsNoEnd, IsOutside, NoEnds}
@@ -33,7 +29,7 @@ use Rattle.markdown_blocks.proofs.Registry.{laws, text-laws}
 use Rattle.markdown_blocks.proofs.JoinedLemmas.{EachNoContent, events-no_content, front-no_content, joined-passes}
 use Rattle.markdown_blocks.proofs.SubstitutedLemmas.{keeps, keeps-each}
 use Rattle.markdown_blocks.proofs.ContentFacts.{NoContent, no_content-append, no_content-unwanted, nothing}
-use Rattle.markdown_blocks.proofs.PrefixNames.{AreFront, front-append}
+use Rattle.markdown_blocks.proofs.PrefixNames.{AreFront, IsNamed}
 use Rattle.markdown_blocks.specs.Passed.{Passed}
 use Rattle.markdown_blocks.proofs.RegistryContainers.{goes-front, opens-front}
 
@@ -46,7 +42,7 @@ events_of f = f.events
 -- one more in front of others
 more-front : (f : Passed → Front) (none : Front) → ((t : Passed) → AreFront (f t).events) → AreFront none.events → (o : Option Passed) → ((t : Passed) → o ≡ Some t → AreFront t.events) → AreFront (events_of (elim o [ None ↦ none | Some t ↦ in_front t (f t) ]))
 more-front f none below h None k = h
-more-front f none below h (Some t) k = front-append t.events (f t).events (k t refl) (below t)
+more-front f none below h (Some t) k = each-append (IsNamed is_front) t.events (f t).events (k t refl) (below t)
 
 -- all that go on
 went-are : (options : ParseOptions) (cs : List Container) (cells : List Cell) (p : Point) → AreFront (went_front options cs cells p).events
@@ -67,7 +63,7 @@ unfolding held_at
 held-are options cs still cells p =
     let went : Front = went_front options cs cells p in
     let new : Front = new_front options (interrupts still (others_of cs went.containers)) (length went.cells) went.cells went.point in
-    front-append went.events new.events (went-are options cs cells p)
+    each-append (IsNamed is_front) went.events new.events (went-are options cs cells p)
     (new-are options (interrupts still (others_of cs went.containers)) (length went.cells) went.cells went.point)
 
 -- Lines.

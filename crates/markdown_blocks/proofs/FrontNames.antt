@@ -8,12 +8,14 @@ use Rattle.md_engine.specs.declared.event.Point.{Point}
 use Rattle.md_content.specs.Joined.{content_behind, is_content}
 use Rattle.md_seam.specs.Events.Nested.{exit, is_enter}
 use Rattle.md_seam.specs.Standard.State.{Container}
+use Rattle.md_seam.specs.Events.Prefix.{is_prefix}
+use Rattle.markdown_blocks.proofs.EachEvent.{each-append}
 use Rattle.markdown_blocks.specs.Change.{ends_of, is_none}
 use Rattle.markdown_blocks.specs.Rows.{Row}
 use Rattle.markdown_blocks.proofs.FrontFacts.{LinePrefix}
 use Rattle.markdown_blocks.proofs.FrontFacts.LinePrefix.{Begins, Behind, Goes}
 use Rattle.markdown_blocks.proofs.ContainerNames.{container-facts, is_front}
-use Rattle.markdown_blocks.proofs.PrefixNames.{names-no_parts, names-unlinked, AreFront, ArePrefixes, front-append, prefixes-append, prefixes-front}
+use Rattle.markdown_blocks.proofs.PrefixNames.{names-no_parts, names-unlinked, AreFront, ArePrefixes, prefixes-front, IsNamed}
 use Rattle.markdown_blocks.proofs.PartFacts.{NoLinks, NoParts}
 use Rattle.markdown_blocks.specs.Registry.{container_name}
 
@@ -26,18 +28,18 @@ HasFront bytes row = (p : Point) × LinePrefix bytes row.change.opens p row.firs
 -- where no container begins there are prefixes alone
 pub fronts-prefixes : (bytes : List ℕ) (opens : List Container) (p q : Point) (es : List Event) → opens ≡ [] → LinePrefix bytes opens p q es → ArePrefixes es
 fronts-prefixes bytes opens p q es none (Behind r) = tt
-fronts-prefixes bytes opens p q es none (Goes same first mid last xs ys is more) = prefixes-append xs ys is.names (fronts-prefixes bytes same mid last ys none more)
+fronts-prefixes bytes opens p q es none (Goes same first mid last xs ys is more) = each-append (IsNamed is_prefix) xs ys is.names (fronts-prefixes bytes same mid last ys none more)
 fronts-prefixes bytes opens p q es none (Begins c below first mid last xs ys is more) = cc
 
 pub fronts-are : (bytes : List ℕ) (opens : List Container) (p q : Point) (es : List Event) → LinePrefix bytes opens p q es → AreFront es
 fronts-are bytes opens p q es (Behind r) = tt
-fronts-are bytes opens p q es (Goes same first mid last xs ys is more) = front-append xs ys (prefixes-front xs is.names) (fronts-are bytes same mid last ys more)
-fronts-are bytes opens p q es (Begins c below first mid last xs ys is more) = ((container-facts c).front, refl, front-append xs ys is.names (fronts-are bytes below mid last ys more))
+fronts-are bytes opens p q es (Goes same first mid last xs ys is more) = each-append (IsNamed is_front) xs ys (prefixes-front xs is.names) (fronts-are bytes same mid last ys more)
+fronts-are bytes opens p q es (Begins c below first mid last xs ys is more) = (((container-facts c).front, refl), each-append (IsNamed is_front) xs ys is.names (fronts-are bytes below mid last ys more))
 
 -- so are the ends of containers
 pub ends-are : (cs : List Container) (p : Point) → AreFront (ends_of cs p)
 ends-are [] p = tt
-ends-are (c ∷ cs) p = front-append (ends_of cs p) (exit (container_name c) p ∷ []) (ends-are cs p) ((container-facts c).front, refl, tt)
+ends-are (c ∷ cs) p = each-append (IsNamed is_front) (ends_of cs p) (exit (container_name c) p ∷ []) (ends-are cs p) (((container-facts c).front, refl), tt)
 
 -- the first of some ends is that of a container
 pub ends-first : (P : List Event → Type 0) (c : Container) (cs : List Container) (p : Point) (es : List Event) → ((d : Container) (fs : List Event) → P (exit (container_name d) p ∷ fs)) → P (ends_of (c ∷ cs) p ++ es)
@@ -55,7 +57,7 @@ front-content _ h = refl
 -- a line of content goes on over prefixes
 pub prefixes-content : (xs ys : List Event) → ArePrefixes xs → content_behind (xs ++ ys) ≡ content_behind ys
 prefixes-content [] ys h = refl
-prefixes-content (e ∷ xs) ys h = ap (λ (x : Bool). cond x (content_behind (xs ++ ys)) (is_enter e.kind && is_content e.name)) h.0 ∙ prefixes-content xs ys h.2
+prefixes-content (e ∷ xs) ys h = ap (λ (x : Bool). cond x (content_behind (xs ++ ys)) (is_enter e.kind && is_content e.name)) h.0.0 ∙ prefixes-content xs ys h.1
 
 pub fronts-stop : (bytes : List ℕ) (opens : List Container) (p q : Point) (es : List Event) → (ys : List Event) → is_none opens ≡ false → LinePrefix bytes opens p q es → content_behind (es ++ ys) ≡ false
 fronts-stop bytes opens p q es ys some (Behind r) = cc

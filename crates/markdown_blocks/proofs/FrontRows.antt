@@ -73,7 +73,7 @@ went-more line text past p end stop cells a t f q one is = record {
 went-is : (options : ParseOptions) (line : Line) (text past : List ℕ) (cs : List Container) (r : Rest) (stop : List Cell) (p : Point) → AreRead cs → RestAt text past r p → NoEnding r.bytes → Stops stop → length (rest_cells line r p ++ stop) < 2 ^ 63 →
     HasWent line text past p (past_rest r p) stop (rest_cells line r p ++ stop) (went_front options cs (rest_cells line r p ++ stop) p) (prefixes_on options cs r)
 went-is options line text past [] r stop p read is h k short = went-none line text past r stop p is h
-went-is options line text past (c ∷ cs) r stop p read is h k short = go (goes_at options c cells p) (continues options c r) (goes-agrees options line text past c r stop p read.0 is h k short)
+went-is options line text past (c ∷ cs) r stop p read is h k short = go (goes_at options c cells p) (continues options c r) (goes-agrees options c read.0 line text past r stop p is h k short)
     (λ (s : Rest) (u : Point) (at : RestAt text past s u) (none : NoEnding s.bytes) (few : length (rest_cells line s u ++ stop) < 2 ^ 63). went-is options line text past cs s stop u read.1 at none k few)
   where
     cells : List Cell
@@ -124,7 +124,7 @@ new-is : (options : ParseOptions) (interrupting : Bool) (line : Line) (text past
     HasNew line text past p (past_rest r p) stop (rest_cells line r p ++ stop) (new_front options interrupting room (rest_cells line r p ++ stop) p) (prefixes_new options interrupting size r)
 new-is options interrupting line text past zero zero r stop p built is h k short some few = new-none line text past r stop p is h
 new-is options interrupting line text past zero (suc size) r stop p built is h k short some few =
-    go (opens_at options interrupting cells p) (opens options interrupting r) (opens-agrees options interrupting line text past r stop p built is h k short)
+    go (opens_at options interrupting cells p) (opens options interrupting r) (opens-agrees options interrupting built line text past r stop p is h k short)
   where
     cells : List Cell
     cells = rest_cells line r p ++ stop
@@ -135,7 +135,7 @@ new-is options interrupting line text past zero (suc size) r stop p built is h k
     go (Some a) None has = absurd has
     go (Some a) (Some t) has = let lt = has.fewer in absurd (omega (arith, lt, some))
 new-is options interrupting line text past (suc room) zero r stop p built is h k short some few =
-    go (opens_at options interrupting cells p) (opens options interrupting r) refl (opens-agrees options interrupting line text past r stop p built is h k short)
+    go (opens_at options interrupting cells p) (opens options interrupting r) refl (opens-agrees options interrupting built line text past r stop p is h k short)
   where
     cells : List Cell
     cells = rest_cells line r p ++ stop
@@ -146,7 +146,7 @@ new-is options interrupting line text past (suc room) zero r stop p built is h k
     go (Some a) None e has = absurd has
     go (Some a) (Some t) e has = let lt = opens-leaves options interrupting r t e in absurd (omega (arith, lt, few))
 new-is options interrupting line text past (suc room) (suc size) r stop p built is h k short some few =
-    go (opens_at options interrupting cells p) (opens options interrupting r) refl (opens-agrees options interrupting line text past r stop p built is h k short)
+    go (opens_at options interrupting cells p) (opens options interrupting r) refl (opens-agrees options interrupting built line text past r stop p is h k short)
     (λ (s : Rest) (u : Point) (at : RestAt text past s u) (none : NoEnding s.bytes) (fits : length (rest_cells line s u ++ stop) < 2 ^ 63) (le : length (rest_cells line s u ++ stop) ≤ room) (ge : length s.bytes ≤ size).
     new-is options false line text past room size s stop u built at none k fits le ge)
   where

@@ -8,7 +8,7 @@ use Rattle.md_engine.specs.declared.state.blank_line.State.TheVariants as blank_
 use Rattle.md_engine.specs.declared.state.content.State.TheVariants as content
 use Rattle.md_engine.specs.declared.state.State.TheVariants.{Nok, Next}
 use Rattle.md_engine.specs.declared.tokenizer.container.Container.{Container}
-use Rattle.md_engine.specs.declared.tokenizer.container.ContainerKind.{ContainerKind}
+use Rattle.md_engine.specs.declared.tokenizer.container.name.ContainerKind.{ContainerKind}
 use Rattle.md_engine.specs.Scheme.{After, EndsLater, Fits, Scheme, Spot, Tries, TriesLater, after_all, seen, spot, spot_at}
 use Rattle.md_engine.specs.World.{World, closed}
 use Rattle.md_engine.proofs.Falls.{later, later_at}

@@ -73,7 +73,7 @@ ending-no_content wants name row h = go row.after
 -- what stands in front of a line
 pub front-no_content : (wants : Content → Bool) (es : List Event) → AreFront es → NoContent wants es
 front-no_content wants [] h = tt
-front-no_content wants (e ∷ es) h = (no_link-unwanted wants e h.1, front-content e.name h.0, front-no_content wants es h.2)
+front-no_content wants (e ∷ es) h = (no_link-unwanted wants e h.0.1, front-content e.name h.0.0, front-no_content wants es h.1)
 
 pub has_front-no_content : (wants : Content → Bool) (bytes : List ℕ) (row : Row) → HasFront bytes row → NoContent wants row.front
 has_front-no_content wants bytes row h = front-no_content wants row.front (fronts-are bytes row.change.opens h.0 row.first row.front h.1)

@@ -41,6 +41,7 @@ pub mod RegistryRead
 pub mod PassedFacts
 pub mod ContainerLaws
 pub mod TextLaws
+pub mod Trials
 pub mod RegistryContainers
 pub mod FrontRows
 pub mod RowLemmas

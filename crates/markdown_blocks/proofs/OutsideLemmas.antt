@@ -8,15 +8,17 @@ use Rattle.md_engine.specs.declared.event.Name.{Name}
 use Rattle.md_engine.specs.declared.event.Name.TheVariants as n
 use Rattle.md_engine.specs.declared.event.Point.{Point}
 use Rattle.md_seam.specs.Events.Nested.{around, exit, pair, is_enter}
+use Rattle.markdown_blocks.proofs.ContainerNames.{is_front}
+use Rattle.markdown_blocks.proofs.EachEvent.{each-as}
 use Rattle.markdown_blocks.specs.Change.{ends_of}
 use Rattle.markdown_blocks.specs.Registry.{is_own, resolved}
 use Rattle.markdown_blocks.specs.Rows.{BlankRow, LeafRow, Row, RowKind, TextRow, ending_events, ending_of, tail_events}
 use Rattle.markdown_blocks.specs.Unread.{linked_lines}
 use Rattle.markdown_blocks.proofs.FrontNames.{HasFront, ends-are, fronts-are}
-use Rattle.markdown_blocks.proofs.OutsideFacts.{AreOutside, outside-append}
+use Rattle.markdown_blocks.proofs.OutsideFacts.{AreOutside, outside-append, IsOutside}
 use Rattle.markdown_blocks.proofs.Registry.{front-own, outside-passes}
 use Rattle.markdown_blocks.proofs.SubstitutedLemmas.{EachPrefixed}
-use Rattle.markdown_blocks.proofs.PrefixNames.{AreFront, prefixes-front}
+use Rattle.markdown_blocks.proofs.PrefixNames.{AreFront, prefixes-front, IsNamed}
 
 -- where nothing is their own, resolvers change nothing
 pub outside-same : (es : List Event) → AreOutside es → resolved es ≡ es
@@ -24,8 +26,7 @@ outside-same es h = ap resolved (sym (append-nil es)) ∙ outside-passes es [] h
 
 -- what stands in front of a line
 pub front-outside : (es : List Event) → AreFront es → AreOutside es
-front-outside [] h = tt
-front-outside (e ∷ es) h = (and_right (is_enter e.kind) (is_own e.name) (front-own e.name h.0), front-outside es h.2)
+front-outside es h = each-as (IsNamed is_front) IsOutside (λ e is. and_right (is_enter e.kind) (is_own e.name) (front-own e.name is.0)) es h
 
 pub has_front-outside : (bytes : List ℕ) (row : Row) → HasFront bytes row → AreOutside row.front
 has_front-outside bytes row h = front-outside row.front (fronts-are bytes row.change.opens h.0 row.first row.front h.1)

@@ -16,26 +16,23 @@ use Rattle.md_seam.specs.Events.Spelled.{role, IsQuiet, Role}
 use Rattle.md_seam.specs.Events.Tiles.{chunks, inside_part, is_part, part_end, part_kind}
 use Rattle.md_seam.proofs.SpelledLemmas.{Quiet, Roles}
 use Rattle.markdown_blocks.specs.Unread.{linked}
+use Rattle.markdown_blocks.proofs.EachEvent.{Each}
 
 -- events without links
-abbrev pub NoLinks : List Event → Type 0
-NoLinks [] = Unit {0}
-NoLinks (e ∷ es) = (e.link ≡ None) × NoLinks es
+abbrev pub IsUnlinked : Event → Type 0
+IsUnlinked e = e.link ≡ None
 
-pub no_links-append : (xs ys : List Event) → NoLinks xs → NoLinks ys → NoLinks (xs ++ ys)
-no_links-append [] ys h k = k
-no_links-append (e ∷ xs) ys h k = (h.0, no_links-append xs ys h.1 k)
+abbrev pub NoLinks : List Event → Type 0
+NoLinks es = Each IsUnlinked es
 
 -- Events outside of text parts.
 
 -- events none of which begins or ends a text part
-abbrev pub NoParts : List Event → Type 0
-NoParts [] = Unit {0}
-NoParts (e ∷ es) = (part_kind e.name ≡ None) × NoParts es
+abbrev pub IsNoPart : Event → Type 0
+IsNoPart e = part_kind e.name ≡ None
 
-pub no_parts-append : (xs ys : List Event) → NoParts xs → NoParts ys → NoParts (xs ++ ys)
-no_parts-append [] ys h k = k
-no_parts-append (e ∷ xs) ys h k = (h.0, no_parts-append xs ys h.1 k)
+abbrev pub NoParts : List Event → Type 0
+NoParts es = Each IsNoPart es
 
 pub kind-no_part : (name : Name) → part_kind name ≡ None → is_part name ≡ false
 kind-no_part name h = ap (λ (x : Option PartKind). elim x [ None ↦ false | Some kind ↦ true ]) h

@@ -16,8 +16,9 @@ use Rattle.md_seam.specs.declared.inline.PartKind.{PartKind}
 use Rattle.md_seam.specs.Events.Inline.{Piece, are_lines, pieces}
 use Rattle.md_seam.specs.Events.Nested.{around, enter, enter_link, exit, is_exit}
 use Rattle.md_seam.specs.Events.Tiles.{begins_at, chunks, chunks_stand, inside_part, is_part, is_white_piece, part_end, part_kind, part_stands, parts_stand, stands_in_part}
+use Rattle.markdown_blocks.proofs.EachEvent.{each-append}
 use Rattle.markdown_blocks.specs.Unread.{linked}
-use Rattle.markdown_blocks.proofs.PartFacts.{NoLinks, NoParts, end-goes, linked-chunks, linked-no_parts, no_parts-append, part-inside, pieces-behind}
+use Rattle.markdown_blocks.proofs.PartFacts.{NoLinks, NoParts, end-goes, linked-chunks, linked-no_parts, part-inside, pieces-behind, IsNoPart}
 use Rattle.markdown_blocks.proofs.PiecesLemmas.{Ends, ends-append, pieces-ended}
 
 pub outside-stands : (bytes : List ℕ) (kind : Kind) (part : Option PartKind) (p : Point) (es : List Event) → part ≡ None → part_stands bytes kind part p es ≡ true
@@ -77,7 +78,7 @@ chunks-append (x ∷ xs) ys = go x.linked (chunks-append xs ys)
 
 pub inside-append : (bytes : List ℕ) (cs ds : List Chunk) (xs ys : List Event) → Inside bytes cs xs → Inside bytes ds ys → Inside bytes (cs ++ ds) (xs ++ ys)
 inside-append bytes cs ds xs ys h k = record {
-  outside = no_parts-append xs ys h.outside k.outside;
+  outside = each-append IsNoPart xs ys h.outside k.outside;
   ends = ends-append Exit xs ys h.ends k.ends;
   white = ap (λ (l : List Piece). list_all (is_white_piece bytes) l) (pieces-ended xs ys h.ends) ∙ white-append bytes (pieces xs) (pieces ys) h.white k.white;
   has = ap (λ (l : List Piece). chunks l) (pieces-ended xs ys h.ends) ∙ chunks-append (pieces xs) (pieces ys) ∙ ap (λ (l : List Chunk). l ++ chunks (pieces ys)) h.has ∙ ap (λ (l : List Chunk). cs ++ l) k.has;

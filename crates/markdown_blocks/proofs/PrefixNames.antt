@@ -1,5 +1,5 @@
 -- Events with names of prefixes, or of prefixes and containers.
-use Rattle.std.proofs.Common.{◌≡◌, true, List, [], ◌∷◌, ◌++◌, refl, Bool, false}
+use Rattle.std.proofs.Common.{◌≡◌, true, List, [], ◌∷◌, refl, Bool, false}
 use Rattle.std.specs.Prelude.{None}
 use Rattle.md_engine.specs.declared.event.Event.{Event}
 use Rattle.md_engine.specs.declared.event.Name.{Name}
@@ -9,36 +9,29 @@ use Rattle.md_seam.specs.Events.Spelled.{IsQuiet, Role, role}
 use Rattle.md_seam.specs.Events.Tiles.{part_kind}
 use Rattle.md_seam.specs.Events.Prefix.{is_prefix}
 use Rattle.md_seam.proofs.SpelledLemmas.{QuietOrPrefix, Roles}
-use Rattle.markdown_blocks.proofs.PartFacts.{NoLinks, NoParts}
+use Rattle.markdown_blocks.proofs.EachEvent.{Each, each-as}
+use Rattle.markdown_blocks.proofs.PartFacts.{NoLinks, NoParts, IsUnlinked, IsNoPart}
 use Rattle.markdown_blocks.proofs.ContainerNames.{is_front, front-name}
 
--- events with names of prefixes, none of which begins a chunk
+-- an event with such a name, which begins no chunk
+abbrev pub IsNamed : (Name → Bool) → Event → Type 0
+IsNamed is_name e = (name : is_name e.name ≡ true) × (e.link ≡ None)
+
+-- with names of prefixes
 abbrev pub ArePrefixes : List Event → Type 0
-ArePrefixes [] = Unit {0}
-ArePrefixes (e ∷ es) = (name : is_prefix e.name ≡ true) × (link : e.link ≡ None) × ArePrefixes es
+ArePrefixes es = Each (IsNamed is_prefix) es
 
-pub prefixes-append : (xs ys : List Event) → ArePrefixes xs → ArePrefixes ys → ArePrefixes (xs ++ ys)
-prefixes-append [] ys h k = k
-prefixes-append (e ∷ xs) ys h k = (h.0, h.1, prefixes-append xs ys h.2 k)
-
--- events with names of prefixes or of containers, none of which begins a chunk
+-- with names of prefixes or of containers
 abbrev pub AreFront : List Event → Type 0
-AreFront [] = Unit {0}
-AreFront (e ∷ es) = (name : is_front e.name ≡ true) × (link : e.link ≡ None) × AreFront es
-
-pub front-append : (xs ys : List Event) → AreFront xs → AreFront ys → AreFront (xs ++ ys)
-front-append [] ys h k = k
-front-append (e ∷ xs) ys h k = (h.0, h.1, front-append xs ys h.2 k)
+AreFront es = Each (IsNamed is_front) es
 
 pub prefixes-front : (es : List Event) → ArePrefixes es → AreFront es
-prefixes-front [] h = tt
-prefixes-front (e ∷ es) h = (front-name e.name h.0, h.1, prefixes-front es h.2)
+prefixes-front es h = each-as (IsNamed is_prefix) (IsNamed is_front) (λ e is. (front-name e.name is.0, is.1)) es h
 
 -- Nothing of them is read later, and none begins or ends a text part.
 
 pub names-unlinked : (es : List Event) → AreFront es → NoLinks es
-names-unlinked [] h = tt
-names-unlinked (e ∷ es) h = (h.1, names-unlinked es h.2)
+names-unlinked es h = each-as (IsNamed is_front) IsUnlinked (λ e is. is.1) es h
 
 -- no name of a prefix or of a container is that of a text part: each name is tested
 no_part-name : (name : Name) → is_front name ≡ true → part_kind name ≡ None
@@ -46,8 +39,7 @@ no_part-name n.Data h = refl
 no_part-name _ h = cc
 
 pub names-no_parts : (es : List Event) → AreFront es → NoParts es
-names-no_parts [] h = tt
-names-no_parts (e ∷ es) h = (no_part-name e.name h.0, names-no_parts es h.2)
+names-no_parts es h = each-as (IsNamed is_front) IsNoPart (λ e is. no_part-name e.name is.0) es h
 
 -- What is read of prefixes is quiet, or a prefix.
 
@@ -68,9 +60,10 @@ prefix-role P IsQuiet quiet prefix h = quiet
 prefix-role P spelled.IsPrefix quiet prefix h = prefix
 prefix-role P _ quiet prefix h = cc
 
-pub prefixes-roles : (P : Role → Type 0) (es : List Event) → P IsQuiet → P spelled.IsPrefix → ArePrefixes es → Roles P es
+pub prefixes-roles : (P : Role → Type 0) (es : List Event) → P IsQuiet → P spelled.IsPrefix → ArePrefixes es →
+    Roles P es
 prefixes-roles P [] quiet prefix h = tt
-prefixes-roles P (e ∷ es) quiet prefix h = (prefix-role P (role e.name) quiet prefix (prefix-is e.name h.0), prefixes-roles P es quiet prefix h.2)
+prefixes-roles P (e ∷ es) quiet prefix h = (prefix-role P (role e.name) quiet prefix (prefix-is e.name h.0.0), prefixes-roles P es quiet prefix h.1)
 
 -- so it is of each role that both have
 quiet-role : (P : Role → Type 0) (x : Role) → P IsQuiet → P spelled.IsPrefix → QuietOrPrefix x → P x
@@ -78,6 +71,7 @@ quiet-role P IsQuiet quiet prefix h = quiet
 quiet-role P spelled.IsPrefix quiet prefix h = prefix
 quiet-role P _ quiet prefix h = absurd h
 
-pub quiets-roles : (P : Role → Type 0) (es : List Event) → P IsQuiet → P spelled.IsPrefix → Roles QuietOrPrefix es → Roles P es
+pub quiets-roles : (P : Role → Type 0) (es : List Event) → P IsQuiet → P spelled.IsPrefix → Roles QuietOrPrefix es →
+    Roles P es
 quiets-roles P [] quiet prefix h = tt
 quiets-roles P (e ∷ es) quiet prefix h = (quiet-role P (role e.name) quiet prefix h.0, quiets-roles P es quiet prefix h.1)

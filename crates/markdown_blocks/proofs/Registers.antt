@@ -6,7 +6,7 @@ use Rattle.md_engine.specs.declared.event.Point.{Point}
 use Rattle.md_engine.specs.declared.resolve.name.Name.{Name as ResolveName}
 use Rattle.md_engine.specs.declared.resolve.name.Name.TheVariants as r
 use Rattle.md_engine.specs.declared.tokenizer.container.Container.{Container}
-use Rattle.md_engine.specs.declared.tokenizer.container.ContainerKind.{ContainerKind}
+use Rattle.md_engine.specs.declared.tokenizer.container.name.ContainerKind.{ContainerKind}
 use Rattle.md_engine.specs.ContainerName.{name_of}
 use Rattle.md_engine.specs.Ends.{ends_at, point_of, put}
 use Rattle.md_engine.specs.Resolvers.{same_name}

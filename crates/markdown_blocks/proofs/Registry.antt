@@ -1,5 +1,6 @@
--- The laws of the constructs that are built, and what the table has of them: the one place of the frame's proofs that names them.
-use Rattle.std.proofs.Common.{◌≡◌, Bool, true, false, cond, List, ◌∷◌, ◌++◌, refl, ◌∙◌, ap, ap₂, arith}
+-- The laws of the constructs that are built, and what the table has of them: the one place of the frame's proofs that
+-- names them.
+use Rattle.std.proofs.Common.{◌≡◌, ◌<◌, Bool, true, false, cond, List, [], ◌∷◌, ◌++◌, refl, ◌∙◌, ap, ap₂, arith}
 use Rattle.std.specs.Option.{option_or}
 use Rattle.std.specs.Prelude.{Option, Some, None}
 use Rattle.md_engine.specs.declared.configuration.ParseOptions.{ParseOptions}
@@ -14,8 +15,8 @@ use Rattle.md_engine.specs.declared.state.block_quote.State.TheVariants as its
 use Rattle.md_engine.specs.declared.state.flow.State.{State as FlowState}
 use Rattle.md_engine.specs.declared.state.flow.State.TheVariants as flow
 use Rattle.md_engine.specs.declared.state.State.TheVariants.{Next}
-use Rattle.md_engine.specs.declared.tokenizer.container.ContainerKind.{ContainerKind}
-use Rattle.md_engine.specs.declared.tokenizer.container.ContainerKind.TheVariants as kind
+use Rattle.md_engine.specs.declared.tokenizer.container.name.ContainerKind.{ContainerKind}
+use Rattle.md_engine.specs.declared.tokenizer.container.name.ContainerKind.TheVariants as kind
 use Rattle.md_engine.specs.Meaning.{Cell, Feed, Here, Steps}
 use Rattle.md_engine.specs.Resolvers.{same_name}
 use Rattle.md_engine.specs.Scheme.{After, EndsLater, Spot, after_all, spot}
@@ -25,29 +26,27 @@ use Rattle.md_engine.proofs.StepOf.{Sees}
 use Rattle.md_containers.specs.Quote.{quote_scheme}
 use Rattle.md_containers.proofs.QuoteGoods.{QuoteFits, quote_does}
 use Rattle.md_containers.proofs.QuoteSteps.{quote_steps}
-use Rattle.md_leaves.specs.Break.{break_scheme}
-use Rattle.md_leaves.specs.Heading.{heading_scheme}
 use Rattle.md_leaves.proofs.BreakGoods.{BreakFits, break_does}
 use Rattle.md_leaves.proofs.BreakSteps.{break_steps}
 use Rattle.md_leaves.proofs.HeadingGoods.{HeadingFits, heading_does}
 use Rattle.md_leaves.proofs.HeadingSteps.{heading_steps}
 use Rattle.md_seam.specs.Ahead.{HasWhite}
-use Rattle.md_seam.specs.Spaces.{IsRest}
+use Rattle.md_seam.specs.Spaces.{IsRest, rest_ready}
 use Rattle.md_seam.specs.Standard.Containers.{Taken, opens, opens_footnote, opens_item, opens_quote}
 use Rattle.md_seam.specs.Standard.Leaves.{Came, Finished, break_at, heading_at}
 use Rattle.md_seam.specs.Standard.Rest.{Rest}
 use Rattle.md_seam.proofs.SpacesGoods.{Does, WhiteFits}
-use Rattle.markdown_blocks.specs.FlowRule.{Rule, leaves_behave, leaves_of}
+use Rattle.markdown_blocks.specs.FlowRule.{Rule}
 use Rattle.markdown_blocks.specs.Leaf.HeadingAtx.{heading_leaf}
 use Rattle.markdown_blocks.specs.Leaf.ThematicBreak.{break_leaf}
 use Rattle.markdown_blocks.specs.Parsed.{IsBuilt}
-use Rattle.markdown_blocks.specs.Registry.{HeadingAtx, LeafName, ThematicBreak, behind, construct_owner, construct_transition, container_rules, first_of, is_own, leaf, new_kind, next_of, resolved, text_leaf, trials, tried_at}
+use Rattle.markdown_blocks.specs.Registry.{HeadingAtx, LeafName, ThematicBreak, behind, construct_owner, construct_transition, container_rules, first_of, is_own, leaf, new_kind, resolved, text_leaf, trials, tried_at}
 use Rattle.markdown_blocks.specs.States.{flow_behaves_by, flow_owner, flow_table_scheme}
 use Rattle.markdown_blocks.proofs.BlockQuote.Laws.{quote-laws}
 use Rattle.markdown_blocks.proofs.BlockQuote.Registers.{quote-registers}
 use Rattle.markdown_blocks.proofs.ContainerLaws.{ContainerLaws}
 use Rattle.markdown_blocks.proofs.ContainerNames.{is_front}
-use Rattle.markdown_blocks.proofs.Goods.{ContainerFits, LeafFits}
+use Rattle.markdown_blocks.proofs.Goods.{ContainerFits}
 use Rattle.markdown_blocks.proofs.HeadingAtx.Found.{heading-found, heading-simple}
 use Rattle.markdown_blocks.proofs.HeadingAtx.Laws.{heading-laws}
 use Rattle.markdown_blocks.proofs.HeadingAtx.Outside.{front-heading, heading-passes}
@@ -102,54 +101,32 @@ leaf-simple ThematicBreak options r h = break-simple
 
 -- In the table of flow.
 
--- each is tried at the state in front of it
+-- each is tried at the state in front of it alone
 pub tried-before : (state : FlowState) (l : LeafName) → tried_at state ≡ Some l → (leaf l).before ≡ state
 tried-before flow.BeforeHeadingAtx HeadingAtx e = refl
 tried-before flow.BeforeThematicBreak ThematicBreak e = refl
 tried-before _ _ e = cc
 
--- and has its place in the table
-pub leaf-fits : (l : LeafName) → LeafFits flow_table_scheme l
-leaf-fits HeadingAtx = record {
-  own = heading_scheme;
-  starts = fits flow_owner (leaf HeadingAtx).start;
-  level = omega arith;
-  ready = λ x K is. is;
-  front = fits flow_owner (n.Flow (leaf HeadingAtx).before);
-  next = fits flow_owner (n.Flow (next_of HeadingAtx));
-  falls = omega arith;
-  next_low = omega arith;
-  behind_low = omega arith;
-}
-leaf-fits ThematicBreak = record {
-  own = break_scheme;
-  starts = fits flow_owner (leaf ThematicBreak).start;
-  level = omega arith;
-  ready = λ x K is. is;
-  front = fits flow_owner (n.Flow (leaf ThematicBreak).before);
-  next = fits flow_owner (n.Flow (next_of ThematicBreak));
-  falls = omega arith;
-  next_low = omega arith;
-  behind_low = omega arith;
-}
+-- those behind a leaf are tried behind the first of them, but for it
+abbrev pub NextIs : List LeafName → Type 0
+NextIs [] = Unit {0}
+NextIs (m ∷ ms) = behind m ≡ ms
 
--- what is left at these states: at its first state what its trial leaves,
-pub leaf-starts : (options : ParseOptions) (next : Rule) (l : LeafName) (cells : List Cell) (h : Here) →
-    flow_behaves_by options next (leaf l).start cells h ≡ (leaf l).trial options cells h
-leaf-starts options next HeadingAtx cells h = refl
-leaf-starts options next ThematicBreak cells h = refl
+-- what the table has of a leaf: where it is tried, and what is tried next; that its first state is ready at rest, of a
+-- lower level than flow; and that its trial is left there
+pub record LeafStates (l : LeafName) : Type 1 where
+  pub tried : tried_at (leaf l).before ≡ Some l
+  pub next : NextIs (behind l)
+  pub level : (flow_owner (leaf l).start).level (leaf l).start < 3
+  pub ready : (x : Spot) (K : After) → rest_ready x K → (flow_owner (leaf l).start).ready (leaf l).start x K
+  pub starts : (options : ParseOptions) (next : Rule) (cells : List Cell) (h : Here) →
+      flow_behaves_by options next (leaf l).start cells h ≡ (leaf l).trial options cells h
 
--- in front of it what it leaves, and those that are tried behind it,
-pub left-before : (options : ParseOptions) (next : Rule) (l : LeafName) (cells : List Cell) (h : Here) →
-    leaves_behave options next (leaf l).before cells h ≡ leaves_of options next (l ∷ behind l) cells h
-left-before options next HeadingAtx cells h = refl
-left-before options next ThematicBreak cells h = refl
-
--- and in front of the next what these leave
-pub left-next : (options : ParseOptions) (next : Rule) (l : LeafName) (cells : List Cell) (h : Here) →
-    leaves_behave options next (next_of l) cells h ≡ leaves_of options next (behind l) cells h
-left-next options next HeadingAtx cells h = refl
-left-next options next ThematicBreak cells h = refl
+pub leaf-states : (l : LeafName) → LeafStates l
+leaf-states HeadingAtx =
+    record { tried = refl; next = refl; level = omega arith; ready = λ x K is. is; starts = λ options next cells h. refl }
+leaf-states ThematicBreak =
+    record { tried = refl; next = tt; level = omega arith; ready = λ x K is. is; starts = λ options next cells h. refl }
 
 -- Lines of text.
 
@@ -188,24 +165,31 @@ container-states kind.BlockQuote = record {
   goes_on_is = λ options next cells h. refl;
 }
   where
-    quote_at : (state : QuoteState) → ((x : Spot) (K : After) → IsRest x.scratch → EndsLater IsRest IsRest x K → quote_scheme.ready (n.BlockQuote state) x K) →
+    quote_at : (state : QuoteState) →
+        ((x : Spot) (K : After) → IsRest x.scratch → EndsLater IsRest IsRest x K → quote_scheme.ready (n.BlockQuote state) x K) →
         ContainerFits flow_table_scheme (n.BlockQuote state)
-    quote_at state ready = record { own = quote_scheme; starts = fits flow_owner (n.BlockQuote state); level = omega arith; ready = ready }
+    quote_at state ready =
+        record { own = quote_scheme; starts = fits flow_owner (n.BlockQuote state); level = omega arith; ready = ready }
 
 -- Of the containers of the line definition it alone opens, where the others are off.
 
-item-off : (options : ParseOptions) (interrupting : Bool) (r : Rest) → options.constructs.list_item ≡ false → opens_item options interrupting r ≡ None
+item-off : (options : ParseOptions) (interrupting : Bool) (r : Rest) → options.constructs.list_item ≡ false →
+    opens_item options interrupting r ≡ None
 unfolding opens_item
 item-off options interrupting r off = rw off refl
 
-footnote-off : (options : ParseOptions) (r : Rest) → options.constructs.gfm_footnote_definition ≡ false → opens_footnote options r ≡ None
+footnote-off : (options : ParseOptions) (r : Rest) → options.constructs.gfm_footnote_definition ≡ false →
+    opens_footnote options r ≡ None
 unfolding opens_footnote
 footnote-off options r off = rw off refl
 
-pub opens-found : (options : ParseOptions) (interrupting : Bool) (r : Rest) → IsBuilt options → opens options interrupting r ≡ (container_rules new_kind).found options interrupting r
+pub opens-found : (options : ParseOptions) (interrupting : Bool) (r : Rest) → IsBuilt options →
+    opens options interrupting r ≡ (container_rules new_kind).found options interrupting r
 opens-found options interrupting r built =
-    ap (λ (o : Option Taken). option_or (opens_quote options r) (option_or o (opens_footnote options r))) (item-off options interrupting r built.list_item)
-    ∙ ap (λ (o : Option Taken). option_or (opens_quote options r) o) (footnote-off options r built.gfm_footnote_definition)
+    ap (λ (o : Option Taken). option_or (opens_quote options r) (option_or o (opens_footnote options r)))
+    (item-off options interrupting r built.list_item)
+    ∙ ap (λ (o : Option Taken). option_or (opens_quote options r) o)
+    (footnote-off options r built.gfm_footnote_definition)
     ∙ go (opens_quote options r)
   where
     go : (o : Option Taken) → option_or o None ≡ o
@@ -230,8 +214,8 @@ pub white_has : (options : ParseOptions) (next : Rule) → HasWhite (flow_behave
 white_has options next = record { each = λ _ _ _. refl }
 
 -- each state keeps what its table needs,
-pub construct-does : (is_name : ResolveName → ResolveName → Bool) (name : StateName) (w : World) → w.current ≡ looks w →
-    (construct_owner name).ready name (spot w) (after_all flow_table_scheme w.frames) →
+pub construct-does : (is_name : ResolveName → ResolveName → Bool) (name : StateName) (w : World) →
+    w.current ≡ looks w → (construct_owner name).ready name (spot w) (after_all flow_table_scheme w.frames) →
     Does flow_table_scheme name w (construct_transition is_name name w)
 construct-does is_name (n.BlockQuote state) w c at = quote_does flow_table_scheme state w quote_fits c at
 construct-does is_name (n.HeadingAtx state) w c at =
@@ -240,8 +224,8 @@ construct-does is_name (n.ThematicBreak state) w c at = break_does flow_table_sc
 construct-does is_name name w c at = absurd at
 
 -- takes one step of what it means,
-pub construct-steps : (is_name : ResolveName → ResolveName → Bool) (feed : Feed) (next : Rule) (name : StateName) (w : World) → Sees feed w →
-    (construct_owner name).ready name (spot w) (after_all flow_table_scheme w.frames) →
+pub construct-steps : (is_name : ResolveName → ResolveName → Bool) (feed : Feed) (next : Rule) (name : StateName) (w : World) →
+    Sees feed w → (construct_owner name).ready name (spot w) (after_all flow_table_scheme w.frames) →
     Steps (flow_behaves_by w.setting.options next) feed (Next name) w (construct_transition is_name name w).to (construct_transition is_name name w).world
 construct-steps is_name feed next (n.BlockQuote state) w s at =
     quote_steps _ feed state w (record { white = white_has w.setting.options next; each = λ _ _ _. refl }) s
@@ -252,7 +236,8 @@ construct-steps is_name feed next (n.ThematicBreak state) w s at =
 construct-steps is_name feed next name w s at = absurd at
 
 -- and keeps what is known of resolvers
-pub construct-registers : (name : StateName) (w : World) → Registers w → Registers (construct_transition same_name name w).world
+pub construct-registers : (name : StateName) (w : World) → Registers w →
+    Registers (construct_transition same_name name w).world
 construct-registers (n.BlockQuote state) w h = quote-registers state w h
 construct-registers (n.HeadingAtx state) w h = heading-registers state w h
 construct-registers (n.ThematicBreak state) w h = break-registers state w h

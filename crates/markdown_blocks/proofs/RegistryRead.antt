@@ -1,7 +1,7 @@
 -- The containers that flow reads: those that are built.
 use Rattle.std.proofs.Common.{◌≡◌, ℕ, zero, suc, List, [], ◌∷◌, ◌++◌, drop, map, sym, subst}
 use Rattle.std.specs.Prelude.{Option, Some, None}
-use Rattle.md_engine.specs.declared.tokenizer.container.ContainerKind.{ContainerKind}
+use Rattle.md_engine.specs.declared.tokenizer.container.name.ContainerKind.{ContainerKind}
 use Rattle.md_seam.specs.Events.Spelled.{Shape}
 use Rattle.md_seam.specs.Standard.Containers.{Taken}
 use Rattle.md_seam.specs.Standard.State.{Container}

@@ -1,5 +1,5 @@
 -- Blocks that make no list, and that an outline can show: what they come to is what stands in the tree of a text.
-use Rattle.std.proofs.Common.{◌≡◌, ℕ, true, List, refl, ap, ◌∙◌}
+use Rattle.std.proofs.Common.{◌≡◌, true, refl, ap, ◌∙◌}
 use Rattle.std.proofs.lemmas.Bool.{and_from}
 use Rattle.md_seam.specs.Standard.Grouped.{grouped, grouped_block, with_front}
 use Rattle.md_seam.specs.Standard.State.{then_block}

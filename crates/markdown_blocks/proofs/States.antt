@@ -23,7 +23,8 @@ use Rattle.markdown_blocks.specs.Registry.{LeafName, front_of, new_kind, trials,
 use Rattle.markdown_blocks.specs.States.{flow_owner, flow_table_scheme, flow_transition, leaf_owner}
 use Rattle.markdown_blocks.proofs.Goods as goods
 use Rattle.markdown_blocks.proofs.Goods.{FlowFits}
-use Rattle.markdown_blocks.proofs.Registry.{construct-does, container-states, leaf-fits, tried-before, white_fits}
+use Rattle.markdown_blocks.proofs.Trials.{leaf-fits}
+use Rattle.markdown_blocks.proofs.Registry.{construct-does, container-states, tried-before, white_fits}
 
 blank_fits : BlankFits flow_table_scheme
 blank_fits = record { white = white_fits; each = λ state. fits flow_owner (n.BlankLine state) }

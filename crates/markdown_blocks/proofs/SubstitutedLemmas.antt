@@ -109,20 +109,20 @@ place wants reads left name link chunk ys out w none s = go (chunks_behind wants
 prefixes-behind : (wants : Content → Bool) (xs ys : List Event) → ArePrefixes xs → chunks_behind wants (xs ++ ys) ≡ chunks_behind wants ys
 prefixes-behind wants [] ys h = refl
 prefixes-behind wants (e ∷ []) [] h = refl
-prefixes-behind wants (e ∷ []) (f ∷ ys) h = behind-one wants e f ys h.0 h.1
+prefixes-behind wants (e ∷ []) (f ∷ ys) h = behind-one wants e f ys h.0.0 h.0.1
   where
     behind-one : (wants : Content → Bool) (e f : Event) (es : List Event) → is_prefix e.name ≡ true → e.link ≡ None → chunks_behind wants (e ∷ f ∷ es) ≡ chunks_behind wants (f ∷ es)
     behind-one wants e f es name link =
         ap (λ (x : Option Content). cond (is_some x) (chunk_of e f ∷ chunks_behind wants es) (cond (is_prefix e.name) (chunks_behind wants (f ∷ es)) [])) (no_link-unwanted wants e link)
         ∙ ap (λ (x : Bool). cond x (chunks_behind wants (f ∷ es)) []) name
 prefixes-behind wants (e ∷ f ∷ xs) ys h =
-    ap (λ (x : Option Content). cond (is_some x) (chunk_of e f ∷ chunks_behind wants (xs ++ ys)) (cond (is_prefix e.name) (chunks_behind wants (f ∷ xs ++ ys)) [])) (no_link-unwanted wants e h.1)
-    ∙ ap (λ (x : Bool). cond x (chunks_behind wants (f ∷ xs ++ ys)) []) h.0
-    ∙ prefixes-behind wants (f ∷ xs) ys h.2
+    ap (λ (x : Option Content). cond (is_some x) (chunk_of e f ∷ chunks_behind wants (xs ++ ys)) (cond (is_prefix e.name) (chunks_behind wants (f ∷ xs ++ ys)) [])) (no_link-unwanted wants e h.0.1)
+    ∙ ap (λ (x : Bool). cond x (chunks_behind wants (f ∷ xs ++ ys)) []) h.0.0
+    ∙ prefixes-behind wants (f ∷ xs) ys h.1
 
 prefixes-unwanted : (wants : Content → Bool) (es : List Event) → ArePrefixes es → Unwanted wants es
 prefixes-unwanted wants [] h = tt
-prefixes-unwanted wants (e ∷ es) h = (no_link-unwanted wants e h.1, prefixes-unwanted wants es h.2)
+prefixes-unwanted wants (e ∷ es) h = (no_link-unwanted wants e h.0.1, prefixes-unwanted wants es h.1)
 
 -- in front of each of these lines stand prefixes
 abbrev pub EachPrefixed : List Row → Type 0

@@ -1,4 +1,5 @@
--- The laws of a leaf of lines of text: what the frame asks of it (`TextLeaf`), beside what is known of its events (`text-facts`).
+-- The laws of a leaf of lines of text: what the frame asks of it (`TextLeaf`), beside what is known of its events
+-- (`text-facts`).
 use Rattle.std.proofs.Common.{◌≡◌, ℕ, false, List, ◌∷◌}
 use Rattle.md_engine.specs.declared.configuration.ParseOptions.{ParseOptions}
 use Rattle.md_content.specs.ContentReads.{content_events}
@@ -19,4 +20,5 @@ pub record TextLaws (t : TextLeaf) : Type 1 where
       then_leaf options bs (t.held ks) ≡ t.behind bs (texts ks)
   pub simple : (bs : Blocks) (lines : List (List ℕ)) → AreSimple bs → AreSimple (t.behind bs lines)
   -- No part begins in what is read of it that a resolver behind that of content rewrites.
-  pub outside : (bytes : List ℕ) (options : ParseOptions) (chunks : List Chunk) → AreOutside (content_events bytes options chunks)
+  pub outside : (bytes : List ℕ) (options : ParseOptions) (chunks : List Chunk) →
+      AreOutside (content_events bytes options chunks)

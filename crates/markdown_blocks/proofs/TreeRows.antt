@@ -16,10 +16,10 @@ use Rattle.md_seam.specs.Standard.Meaning.{tree, with_frontmatter}
 use Rattle.md_seam.specs.Standard.Preamble.{Preamble, first_column, front_of, has_mark, preamble, preamble_by, rest_at, rests_at, without_mark}
 use Rattle.md_seam.specs.Standard.Rest.{Rest}
 use Rattle.md_seam.specs.Events.Spelled.{spelled}
-use Rattle.md_seam.specs.Standard.State.{At, Container, Kept, Leaf, NoLeaf, OpenParagraph, Path, Spot, Within, closed, container_block, kept, shut, texts, then_leaf}
+use Rattle.md_seam.specs.Standard.State.{At, Container, Kept, Leaf, Path, Spot, Within, closed, container_block, kept, shut, texts, then_leaf}
 use Rattle.md_seam.specs.Standard.Step.{fresh_line, spot_of, step, steps}
 use Rattle.md_seam.specs.Standard.Texts.{split_lines}
-use Rattle.md_seam.specs.Standard.Tree.{Blocks, End, Paragraph}
+use Rattle.md_seam.specs.Standard.Tree.{Blocks, End}
 use Rattle.md_seam.proofs.LinesLemmas.{without_ending-onto}
 use Rattle.markdown_blocks.specs.Change.{change_by, interrupts, others_of}
 use Rattle.markdown_blocks.specs.Document.{body_point, mark_end}

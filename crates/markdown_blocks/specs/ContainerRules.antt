@@ -1,7 +1,7 @@
 -- The interface of a container, as a block quote: what the frame knows of it.
 --
--- A value says the same line three times: by what is left at its states, by the cells of the line, and by the rest of the line, as the line
--- definition has it. Its laws (`ContainerLaws`) say that these fit.
+-- A value says the same line three times: by what is left at its states, by the cells of the line, and by the rest of
+-- the line, as the line definition has it. Its laws (`ContainerLaws`) say that these fit.
 use Rattle.std.specs.Prelude.{Bool, List, Option}
 use Rattle.md_engine.specs.declared.configuration.ParseOptions.{ParseOptions}
 use Rattle.md_engine.specs.declared.event.Point.{Point}
@@ -19,10 +19,12 @@ pub record ContainerRules : Type 1 where
   pub begins : ParseOptions → List Cell → Here → Outcome
   pub further : StateName
   pub continues : ParseOptions → List Cell → Here → Outcome
-  -- By the cells of a line: the one that opens, if one does, where it would interrupt text or not; and an open one, if it goes on.
+  -- By the cells of a line: the one that opens, if one does, where it would interrupt text or not; and an open one, if it
+  -- goes on.
   pub opens : ParseOptions → Bool → List Cell → Point → Option Passed
   pub goes : ParseOptions → Container → List Cell → Point → Option Passed
-  -- By the rest of a line: the one that opens. Which open one goes on, the line definition says of all containers at once.
+  -- By the rest of a line: the one that opens. Which open one goes on, the line definition says of all containers at
+  -- once.
   pub found : ParseOptions → Bool → Rest → Option Taken
   -- What the tokenizer holds of an open one, beside its kind: what the events do not tell.
   pub holds : Held → Container → Type 0

@@ -103,7 +103,7 @@ flow_own_transition state w = leaf_transition (tried_at state) w
 abbrev leaves : ℕ
 leaves = 2 * length trials
 
-abbrev leaf_rank : Option LeafName → Rank
+abbrev pub leaf_rank : Option LeafName → Rank
 leaf_rank None = ranked 0 refl
 leaf_rank (Some l) = rank_of l
 
@@ -121,7 +121,7 @@ flow_rank (s.Flow flow.After) = ranked 1 refl
 flow_rank (s.Flow state) = leaf_rank (tried_at state)
 flow_rank _ = ranked 0 refl
 
-abbrev leaf_tries : Option LeafName → Rank
+abbrev pub leaf_tries : Option LeafName → Rank
 leaf_tries None = ranked 2 refl
 leaf_tries (Some l) = tries_of l
 

@@ -6,6 +6,7 @@ use Rattle.md_engine.specs.declared.event.Name.TheVariants.{BlankLineEnding, Lin
 use Rattle.md_engine.specs.declared.tokenizer.container.Container.{Container}
 use Rattle.md_engine.specs.declared.tokenizer.container.ContainerKind.{ContainerKind}
 use Rattle.md_engine.specs.declared.tokenizer.open_leaf.OpenLeaf.TheVariants as open_leaf
+use Rattle.md_engine.specs.declared.tokenizer.container.name.ContainerKind.{ContainerKind}
 use Rattle.md_engine.specs.World.{Flags}
 
 -- the outermost container that was not asked yet whether it goes on

@@ -13,8 +13,8 @@ use Rattle.md_engine.specs.declared.state.flow.State.{State as FlowState}
 use Rattle.md_engine.specs.declared.state.flow.State.TheVariants as flow
 use Rattle.md_engine.specs.declared.state.State.TheVariants.{Nok}
 use Rattle.md_engine.specs.declared.tokenizer.container.Container.{Container as Held}
-use Rattle.md_engine.specs.declared.tokenizer.container.ContainerKind.{ContainerKind}
-use Rattle.md_engine.specs.declared.tokenizer.container.ContainerKind.TheVariants as kind
+use Rattle.md_engine.specs.declared.tokenizer.container.name.ContainerKind.{ContainerKind}
+use Rattle.md_engine.specs.declared.tokenizer.container.name.ContainerKind.TheVariants as kind
 use Rattle.md_engine.specs.Meaning.{Behaviour, Cell, Here, Outcome, Refuses}
 use Rattle.md_engine.specs.Scheme.{Rank, Scheme, nowhere, ranked}
 use Rattle.md_engine.specs.World.{World}
@@ -186,7 +186,8 @@ goes_by options c cells p (Some k) = (container_rules k).goes options c cells p
 abbrev pub goes_at : ParseOptions → Container → List Cell → Point → Option Passed
 goes_at options c cells p = goes_by options c cells p (kind_of (shape_of c))
 
--- States: which construct has each, what each does, and what is left at it; `is_name` finds a resolver among those that are registered.
+-- States: which construct has each, what each does, and what is left at it; `is_name` finds a resolver among those that
+-- are registered.
 
 abbrev pub construct_owner : StateName → Scheme
 construct_owner (s.BlockQuote state) = quote_scheme

@@ -16,7 +16,7 @@ use crate::event::{Event, Kind, Link, Name, Point};
 use crate::message::Message;
 use crate::resolve::Name as ResolveName;
 use crate::state::State;
-use crate::tokenizer::container::name_of;
+use crate::tokenizer::container::name::name_of;
 pub use crate::tokenizer::container::{Container, ContainerKind};
 pub use crate::tokenizer::open_leaf::OpenLeaf;
 use std::alloc::Global;

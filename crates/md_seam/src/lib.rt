@@ -3,9 +3,9 @@
 #![tactic(auto)]
 
 pub mod inline;
+pub mod names;
 pub mod outline;
 pub mod plain;
-pub mod prefix;
 pub mod slice;
 pub mod space_or_tab;
 pub mod subtokenize;

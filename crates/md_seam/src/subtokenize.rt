@@ -10,7 +10,7 @@ ghost use Rattle.md_seam.specs.Parts.{AreChunks, ArePlaced};
 ghost use Rattle.md_seam.specs.Substituted.{Begun, Readings, Substituted, belongs, chunk_of, chunks_from, share, wanted};
 
 use crate::inline::Chunk;
-pub use crate::prefix::is_prefix;
+pub use crate::names::is_prefix;
 use md_engine::event::{Content, Event, Kind, Name};
 use md_engine::message::Message;
 use std::alloc::Global;

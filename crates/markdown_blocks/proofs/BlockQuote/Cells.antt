@@ -8,31 +8,33 @@ use Rattle.md_seam.specs.Ahead.{begins_white, white_end, white_rest}
 use Rattle.md_seam.specs.Events.Nested.{exit, pair}
 use Rattle.md_seam.specs.Standard.Rest.{is_white}
 use Rattle.md_seam.specs.Spaces.{small_indent}
-use Rattle.markdown_blocks.proofs.PrefixNames.{AreFront, front-append}
+use Rattle.markdown_blocks.proofs.ContainerNames.{is_front}
+use Rattle.markdown_blocks.proofs.EachEvent.{each-append}
+use Rattle.markdown_blocks.proofs.PrefixNames.{AreFront, IsNamed}
 use Rattle.md_engine.specs.declared.event.Name.TheVariants as n
 
 -- whitespace that may stand there
 white-front : (x : Bool) (p q : Point) → AreFront (cond x (pair n.SpaceOrTab p q) [])
-white-front true p q = (refl, refl, (refl, refl, tt))
+white-front true p q = ((refl, refl), ((refl, refl), tt))
 white-front false p q = tt
 
 -- behind the marker of a quote
 behind-front : (cells : List Cell) (p : Point) → AreFront (behind_events cells p)
-behind-front [] p = (refl, refl, tt)
+behind-front [] p = ((refl, refl), tt)
 behind-front (c ∷ cs) p = go (is_white c.byte)
   where
     go : (x : Bool) → AreFront (cond x (pair n.SpaceOrTab p c.after ++ exit n.BlockQuotePrefix c.after ∷ []) (exit n.BlockQuotePrefix p ∷ []))
-    go true = (refl, refl, (refl, refl, (refl, refl, tt)))
-    go false = (refl, refl, tt)
+    go true = ((refl, refl), ((refl, refl), ((refl, refl), tt)))
+    go false = ((refl, refl), tt)
 
 -- from the marker on
 marker-front : (cells : List Cell) (p : Point) → AreFront (marker_events cells p)
 marker-front [] p = tt
-marker-front (c ∷ cs) p = (refl, refl, (refl, refl, (refl, refl, behind-front cs c.after)))
+marker-front (c ∷ cs) p = ((refl, refl), ((refl, refl), ((refl, refl), behind-front cs c.after)))
 
 -- the prefix of a quote
 pub quote-front : (options : ParseOptions) (cells : List Cell) (p : Point) → AreFront (prefix_events options cells p)
 quote-front options cells p =
     let q : Point = white_end (small_indent options) cells p in
     let rest : List Cell = white_rest (small_indent options) cells in
-    front-append (indent_events options cells p) (marker_events rest q) (white-front (begins_white cells) p q) (marker-front rest q)
+    each-append (IsNamed is_front) (indent_events options cells p) (marker_events rest q) (white-front (begins_white cells) p q) (marker-front rest q)

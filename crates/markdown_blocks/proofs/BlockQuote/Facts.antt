@@ -1,10 +1,12 @@
 -- What is known of the prefix of a block quote.
 use Rattle.std.proofs.Common.{◌-◌, ℕ, ◌≡◌, true, refl, sym, subst, arith, suc, Bool, false, cond, List, [], ◌∷◌, ◌++◌, ◌∙◌, append_assoc, ◌≤◌, ◌≢◌}
 use Rattle.std.specs.Prelude.{slice_index, IsTrue}
+use Rattle.md_seam.specs.Events.Prefix.{is_prefix}
+use Rattle.markdown_blocks.proofs.EachEvent.{each-append}
 use Rattle.markdown_blocks.proofs.BetweenFacts.{AreBetween, between-append, between-before, between-behind, between-more, between-unless, is_low, white-between}
 use Rattle.std.proofs.lemmas.Option.{get_or_from_slice_get}
 use Rattle.markdown_blocks.proofs.PrefixFacts.{Continues, Opens, PrefixFacts, begins}
-use Rattle.markdown_blocks.proofs.PrefixNames.{ArePrefixes, prefixes-append, prefixes-front, prefixes-roles}
+use Rattle.markdown_blocks.proofs.PrefixNames.{ArePrefixes, prefixes-front, prefixes-roles, IsNamed}
 use Rattle.std.proofs.lemmas.Bool.Decides.{nat_tests}
 use Rattle.md_engine.specs.declared.event.Event.{Event}
 use Rattle.md_engine.specs.declared.event.Name.TheVariants as n
@@ -66,7 +68,7 @@ pair-prefixes p q = go (same_place p q)
   where
     go : (x : Bool) → ArePrefixes (cond x [] (pair n.SpaceOrTab p q))
     go true = tt
-    go false = (refl, refl, (refl, refl, tt))
+    go false = ((refl, refl), ((refl, refl), tt))
 
 pub prefix-are : (bytes : List ℕ) (p q : Point) (es : List Event) → IsPrefix bytes p q es → ArePrefixes es
 prefix-are bytes p q es is =
@@ -74,8 +76,8 @@ prefix-are bytes p q es is =
     let white = pair_unless_empty n.SpaceOrTab is.behind q in
     let marker = enter n.BlockQuotePrefix is.marker ∷ enter n.BlockQuoteMarker is.marker ∷ exit n.BlockQuoteMarker is.behind ∷ white in
     subst ArePrefixes (sym is.events)
-    (prefixes-append (indent ++ marker) (exit n.BlockQuotePrefix q ∷ [])
-    (prefixes-append indent marker (pair-prefixes p is.marker) (refl, refl, (refl, refl, (refl, refl, pair-prefixes is.behind q)))) (refl, refl, tt))
+    (each-append (IsNamed is_prefix) (indent ++ marker) (exit n.BlockQuotePrefix q ∷ [])
+    (each-append (IsNamed is_prefix) indent marker (pair-prefixes p is.marker) ((refl, refl), ((refl, refl), ((refl, refl), pair-prefixes is.behind q)))) ((refl, refl), tt))
 
 pub prefix-grows : (bytes : List ℕ) (p q : Point) (es : List Event) → IsPrefix bytes p q es → p.index ≤ q.index
 prefix-grows bytes p q es is =

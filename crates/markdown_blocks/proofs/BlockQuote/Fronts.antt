@@ -1,5 +1,5 @@
 -- A block quote goes on and opens by the cells of a line where it does by its bytes.
-use Rattle.std.proofs.Common.{◌≡◌, ℕ, ◌^◌, ◌<◌, Bool, true, false, cond, ◌&&◌, List, ◌∷◌, ◌++◌, length, Option, Some, None, refl, sym, subst, arith}
+use Rattle.std.proofs.Common.{◌≡◌, ℕ, Bool, true, false, cond, ◌&&◌, List, ◌∷◌, ◌++◌, Option, Some, None, refl, sym, subst, arith}
 use Rattle.md_engine.specs.declared.configuration.ParseOptions.{ParseOptions}
 use Rattle.md_engine.specs.declared.event.Event.{Event}
 use Rattle.md_engine.specs.declared.event.Point.{Point}
@@ -11,17 +11,18 @@ use Rattle.md_seam.specs.Standard.Containers.{Taken, opens_quote, quote_taken}
 use Rattle.md_seam.specs.Events.Nested.{enter}
 use Rattle.md_seam.specs.Standard.Rest.{Rest}
 use Rattle.md_seam.specs.Standard.State.{InQuote}
-use Rattle.md_seam.proofs.FeedLines.{Stops}
-use Rattle.md_seam.proofs.RestCells.{RestAt, past_rest, rest_cells}
+use Rattle.md_seam.proofs.RestCells.{past_rest, rest_cells}
 use Rattle.md_seam.proofs.TextsLemmas.{NoEnding}
 use Rattle.markdown_blocks.specs.Containers.BlockQuote.{quote_new, quote_on, quote_rules}
 use Rattle.markdown_blocks.specs.Passed.{Passed}
+use Rattle.markdown_blocks.proofs.ContainerLaws.{ByRest}
 use Rattle.markdown_blocks.proofs.PassedFacts.{Agree, HasFurther, HasOpening, HasPassed}
 use Rattle.markdown_blocks.proofs.BlockQuote.Facts.{quote-continues, quote-opens}
 use Rattle.md_engine.specs.declared.event.Name.TheVariants as n
 
 -- what a quote leaves, whether its begin stands in front of its prefix or not
-quote-passes : (options : ParseOptions) (line : Line) (text past : List ℕ) (r : Rest) (end : Point) (stop cells : List Cell) (p : Point) (es : List Event) (t : Taken) → NoEnding r.bytes → quote_taken options r ≡ Some t → HasPrefix options line text past end stop cells p t.rest →
+quote-passes : (options : ParseOptions) (line : Line) (text past : List ℕ) (r : Rest) (end : Point) (stop cells : List Cell) (p : Point) (es : List Event) (t : Taken) →
+    NoEnding r.bytes → quote_taken options r ≡ Some t → HasPrefix options line text past end stop cells p t.rest →
     HasPassed line text past end stop cells (record { container = InQuote; events = es; cells = prefix_rest options cells; point = prefix_end options cells p }) t
 quote-passes options line text past r end stop cells p es t h e has = record {
   container = sym (quote-container options r t e);
@@ -34,11 +35,13 @@ quote-passes options line text past r end stop cells p es t h e has = record {
 }
 
 -- a quote goes on or opens by the cells where its prefix stands by the bytes
-by-prefix : (Has : Passed → Taken → Type 0) (passed : Passed) (options : ParseOptions) (line : Line) (text past : List ℕ) (r : Rest) (stop : List Cell) (p : Point) →
-    ((t : Taken) → quote_taken options r ≡ Some t → HasPrefix options line text past (past_rest r p) stop (rest_cells line r p ++ stop) p t.rest → Has passed t) →
-    RestAt text past r p → Stops stop → length (rest_cells line r p ++ stop) < 2 ^ 63 →
-    Agree Has (cond (takes_prefix options (rest_cells line r p ++ stop)) (Some passed) None) (quote_taken options r)
-by-prefix Has passed options line text past r stop p found is k short = go (quote_taken options r) refl (prefix-agrees options line text past r stop p is k short)
+by-prefix : (Has : Passed → Taken → Type 0) (passed : Passed) (options : ParseOptions) → ByRest (λ line text past r stop p.
+    let cells = rest_cells line r p ++ stop in
+    ((t : Taken) → quote_taken options r ≡ Some t →
+    HasPrefix options line text past (past_rest r p) stop cells p t.rest → Has passed t) →
+    Agree Has (cond (takes_prefix options cells) (Some passed) None) (quote_taken options r))
+by-prefix Has passed options line text past r stop p is h k short found =
+    go (quote_taken options r) refl (prefix-agrees options line text past r stop p is k short)
   where
     cells : List Cell
     cells = rest_cells line r p ++ stop
@@ -46,23 +49,37 @@ by-prefix Has passed options line text past r stop p found is k short = go (quot
     By : Bool → Option Taken → Type 0
     By x taken = Agree Has (cond x (Some passed) None) taken
 
-    go : (taken : Option Taken) → quote_taken options r ≡ taken → PrefixIs options line text past (past_rest r p) stop cells p taken → By (takes_prefix options cells) taken
+    go : (taken : Option Taken) → quote_taken options r ≡ taken →
+        PrefixIs options line text past (past_rest r p) stop cells p taken → By (takes_prefix options cells) taken
     go None e none = subst (λ (x : Bool). By x None) (sym none) tt
     go (Some t) e has = subst (λ (x : Bool). By x (Some t)) (sym has.takes) (found t e has)
 
 -- a quote goes on
-pub quote-goes : (options : ParseOptions) (line : Line) (text past : List ℕ) (r : Rest) (stop : List Cell) (p : Point) → RestAt text past r p → NoEnding r.bytes → Stops stop → length (rest_cells line r p ++ stop) < 2 ^ 63 →
-    Agree (HasFurther line text past p (past_rest r p) stop (rest_cells line r p ++ stop)) (cond (takes_prefix options (rest_cells line r p ++ stop)) (Some (quote_on options (rest_cells line r p ++ stop) p)) None) (quote_taken options r)
+pub quote-goes : (options : ParseOptions) → ByRest (λ line text past r stop p.
+    let cells = rest_cells line r p ++ stop in
+    Agree (HasFurther line text past p (past_rest r p) stop cells) (quote_rules.goes options InQuote cells p) (quote_taken options r))
 quote-goes options line text past r stop p is h k short =
-    by-prefix (HasFurther line text past p (past_rest r p) stop cells) (quote_on options cells p) options line text past r stop p
-    (λ t e has. record { passes = quote-passes options line text past r (past_rest r p) stop cells p (prefix_events options cells p) t h e has; further = quote-continues text p (prefix_end options cells p) (prefix_events options cells p) has.prefix }) is k short
+    by-prefix Has (quote_on options cells p) options line text past r stop p is h k short further
   where
     cells : List Cell
     cells = rest_cells line r p ++ stop
 
+    Has : Passed → Taken → Type 0
+    Has passed taken = HasFurther line text past p (past_rest r p) stop cells passed taken
+
+    further : (t : Taken) → quote_taken options r ≡ Some t →
+        HasPrefix options line text past (past_rest r p) stop cells p t.rest → Has (quote_on options cells p) t
+    further t e has =
+        let es = prefix_events options cells p in
+        record {
+          passes = quote-passes options line text past r (past_rest r p) stop cells p es t h e has;
+          further = quote-continues text p (prefix_end options cells p) es has.prefix;
+        }
+
 -- a quote opens, if quotes are on
-pub quote-begins : (options : ParseOptions) (interrupting : Bool) (line : Line) (text past : List ℕ) (r : Rest) (stop : List Cell) (p : Point) → RestAt text past r p → NoEnding r.bytes → Stops stop → length (rest_cells line r p ++ stop) < 2 ^ 63 →
-    Agree (HasOpening line text past p (past_rest r p) stop (rest_cells line r p ++ stop)) (quote_rules.opens options interrupting (rest_cells line r p ++ stop) p) (opens_quote options r)
+pub quote-begins : (options : ParseOptions) (interrupting : Bool) → ByRest (λ line text past r stop p.
+    let cells = rest_cells line r p ++ stop in
+    Agree (HasOpening line text past p (past_rest r p) stop cells) (quote_rules.opens options interrupting cells p) (opens_quote options r))
 unfolding opens_quote
 quote-begins options interrupting line text past r stop p is h k short = on options.constructs.block_quote
   where
@@ -72,15 +89,19 @@ quote-begins options interrupting line text past r stop p is h k short = on opti
     Has : Passed → Taken → Type 0
     Has passed taken = HasOpening line text past p (past_rest r p) stop cells passed taken
 
-    opening : (t : Taken) → quote_taken options r ≡ Some t → HasPrefix options line text past (past_rest r p) stop cells p t.rest → Has (quote_new options cells p) t
-    opening t e has = record {
-      passes = quote-passes options line text past r (past_rest r p) stop cells p (enter n.BlockQuote p ∷ prefix_events options cells p) t h e has;
-      inside = prefix_events options cells p;
-      events = refl;
-      opening = quote-opens text p (prefix_end options cells p) (prefix_events options cells p) has.prefix;
-      fewer = has.shorter;
-    }
+    opening : (t : Taken) → quote_taken options r ≡ Some t →
+        HasPrefix options line text past (past_rest r p) stop cells p t.rest → Has (quote_new options cells p) t
+    opening t e has =
+        let es = prefix_events options cells p in
+        record {
+          passes = quote-passes options line text past r (past_rest r p) stop cells p (enter n.BlockQuote p ∷ es) t h e has;
+          inside = es;
+          events = refl;
+          opening = quote-opens text p (prefix_end options cells p) es has.prefix;
+          fewer = has.shorter;
+        }
 
-    on : (x : Bool) → Agree Has (cond (x && takes_prefix options cells) (Some (quote_new options cells p)) None) (cond x (quote_taken options r) None)
-    on true = by-prefix Has (quote_new options cells p) options line text past r stop p opening is k short
+    on : (x : Bool) →
+        Agree Has (cond (x && takes_prefix options cells) (Some (quote_new options cells p)) None) (cond x (quote_taken options r) None)
+    on true = by-prefix Has (quote_new options cells p) options line text past r stop p is h k short opening
     on false = tt

@@ -1,20 +1,19 @@
 -- The laws of block quotes, as containers.
-use Rattle.std.proofs.Common.{◌≡◌, Bool, true, false, cond, refl, sym, ap, ◌∙◌, List, [], ◌++◌}
-use Rattle.std.specs.Prelude.{None, Some, Option}
-use Rattle.md_engine.specs.declared.tokenizer.container.ContainerKind.{ContainerKind}
-use Rattle.md_engine.specs.declared.tokenizer.container.ContainerKind.TheVariants as kind
-use Rattle.md_containers.specs.QuoteRule.{takes_prefix}
+use Rattle.std.proofs.Common.{◌≡◌, ap, [], ◌++◌}
+use Rattle.std.specs.Prelude.{None}
+use Rattle.md_engine.specs.declared.configuration.ParseOptions.{ParseOptions}
+use Rattle.md_engine.specs.declared.tokenizer.container.name.ContainerKind.TheVariants as kind
 use Rattle.md_containers.proofs.QuoteShorter.{prefix-shortens, quote-shortens}
 use Rattle.md_seam.specs.Standard.Containers.{continues}
 use Rattle.md_seam.specs.Standard.Preamble.{rest_at}
 use Rattle.md_seam.specs.Standard.State.{Container, InFootnote, InItem, InQuote, container_block}
 use Rattle.md_seam.proofs.RestCells.{past_rest, rest_cells}
-use Rattle.markdown_blocks.specs.Containers.BlockQuote.{quote_on, quote_rules}
+use Rattle.markdown_blocks.specs.Containers.BlockQuote.{quote_rules}
 use Rattle.markdown_blocks.specs.Registry.{IsOf, kind_of, shape_of}
 use Rattle.markdown_blocks.proofs.BlockQuote.Fronts.{quote-begins, quote-goes}
 use Rattle.markdown_blocks.proofs.BlockQuote.Tree.{no_quote-empty, opens-quote, simple-quote}
 use Rattle.markdown_blocks.proofs.BlockQuote.Trial.{prefix-passed, prefix-tried, quote-passed, quote-tried}
-use Rattle.markdown_blocks.proofs.ContainerLaws.{ContainerLaws}
+use Rattle.markdown_blocks.proofs.ContainerLaws.{ByRest, ContainerLaws}
 use Rattle.markdown_blocks.proofs.PassedFacts.{Agree, HasFurther}
 use Rattle.markdown_blocks.proofs.SimpleBlocks.{IsSimple}
 
@@ -34,11 +33,18 @@ quote-laws = record {
   went = λ options c cells p t is e. prefix-passed options cells p t e;
   held_new = λ options interrupting cells p t e. tt;
   held_on = λ options held c cells p t holds e. tt;
-  opens_agrees = λ options interrupting line text past r stop p at none stops short. quote-begins options interrupting line text past r stop p at none stops short;
-  goes_agrees = λ options line text past c r stop p is at none stops short.
-      each-quote (λ d. Agree (HasFurther line text past p (past_rest r p) stop (rest_cells line r p ++ stop)) (quote_rules.goes options d (rest_cells line r p ++ stop) p) (continues options d r))
-      (quote-goes options line text past r stop p at none stops short) c is;
+  opens_agrees = λ options interrupting. quote-begins options interrupting;
+  goes_agrees = goes;
   found_one = λ options interrupting r t e. ap (λ (c : Container). kind_of (shape_of c)) (opens-quote options r t e);
-  empty_ends = λ options c column is. each-quote (λ d. continues options d (rest_at column []) ≡ None) (no_quote-empty options column) c is;
+  empty_ends = λ options c column is.
+      each-quote (λ d. continues options d (rest_at column []) ≡ None) (no_quote-empty options column) c is;
   simple = λ c bs is simple. each-quote (λ d. IsSimple (container_block d bs)) (simple-quote bs simple) c is;
 }
+  where
+    goes : (options : ParseOptions) (c : Container) → IsOf kind.BlockQuote c → ByRest (λ line text past r stop p.
+        let cells = rest_cells line r p ++ stop in
+        Agree (HasFurther line text past p (past_rest r p) stop cells) (quote_rules.goes options c cells p) (continues options c r))
+    goes options c is = each-quote (λ d. ByRest (λ line text past r stop p.
+        let cells = rest_cells line r p ++ stop in
+        Agree (HasFurther line text past p (past_rest r p) stop cells) (quote_rules.goes options d cells p) (continues options d r)))
+        (quote-goes options) c is

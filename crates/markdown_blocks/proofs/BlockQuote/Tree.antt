@@ -1,4 +1,5 @@
--- Block quotes by the line definition: what opens as one is one, they make no list, and they do not go on over an empty line.
+-- Block quotes by the line definition: what opens as one is one, they make no list, and they do not go on over an empty
+-- line.
 use Rattle.std.proofs.Common.{◌≡◌, ◌+◌, Bool, true, false, cond, ◌&&◌, [], refl, ap, ℕ}
 use Rattle.std.specs.Prelude.{Option, Some, None}
 use Rattle.md_engine.specs.declared.configuration.ParseOptions.{ParseOptions}
@@ -11,7 +12,8 @@ use Rattle.md_seam.specs.Standard.Tree.{Blocks, Quote}
 use Rattle.markdown_blocks.proofs.SimpleBlocks.{AreSimple, grouped-blocks, shallow-blocks, IsSimple}
 
 -- a quote that opens is one
-pub opens-quote : (options : ParseOptions) (r : Rest) (t : Taken) → opens_quote options r ≡ Some t → t.container ≡ InQuote
+pub opens-quote : (options : ParseOptions) (r : Rest) (t : Taken) → opens_quote options r ≡ Some t →
+    t.container ≡ InQuote
 unfolding opens_quote
 opens-quote options r t e = go options.constructs.block_quote e
   where

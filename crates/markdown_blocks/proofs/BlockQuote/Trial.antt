@@ -1,9 +1,9 @@
 -- What is tried for a block quote: its prefix is taken where its cells say so, and takes a cell at least.
-use Rattle.std.proofs.Common.{◌≡◌, Bool, true, false, cond, ◌&&◌, List, length, Some, None, refl, ◌∙◌, subst}
+use Rattle.std.proofs.Common.{◌≡◌, Bool, true, false, cond, ◌&&◌, List, Some, None, refl, ◌∙◌, subst}
 use Rattle.std.proofs.lemmas.Bool.{and_parts}
 use Rattle.md_engine.specs.declared.configuration.ParseOptions.{ParseOptions}
 use Rattle.md_engine.specs.declared.event.Point.{Point}
-use Rattle.md_engine.specs.declared.tokenizer.container.ContainerKind.TheVariants as kind
+use Rattle.md_engine.specs.declared.tokenizer.container.name.ContainerKind.TheVariants as kind
 use Rattle.md_engine.specs.Meaning.{Accepts, Cell, Here, Refuses}
 use Rattle.md_containers.specs.QuoteRule.{prefix_at, quote_at, takes_prefix}
 use Rattle.md_seam.specs.Spaces.{IsRest}
@@ -14,7 +14,8 @@ use Rattle.markdown_blocks.proofs.ContainerLaws.{IsPassed}
 use Rattle.md_containers.proofs.QuoteCells.{prefix-is, prefix-shorter, quote-is}
 
 -- what stands here, if it does, is taken, and else refused
-tried-if : (x : Bool) (u : Passed) (h : Here) → cond x (Accepts (passed_here u h) u.cells) (Refuses h.scratch h.flags) ≡ passed_by (cond x (Some u) None) h
+tried-if : (x : Bool) (u : Passed) (h : Here) →
+    cond x (Accepts (passed_here u h) u.cells) (Refuses h.scratch h.flags) ≡ passed_by (cond x (Some u) None) h
 tried-if true u h = refl
 tried-if false u h = refl
 
@@ -47,4 +48,4 @@ quote-passed options interrupting cells p t e =
     let is = taken-if (options.constructs.block_quote && takes_prefix options cells) (quote_new options cells p) t e in
     let takes = (and_parts options.constructs.block_quote (takes_prefix options cells) is.0).1 in
     subst (IsPassed kind.BlockQuote cells) is.1
-    (record { one = refl; shorter = prefix-shorter options cells takes; front = (refl, refl, quote-front options cells p) })
+    (record { one = refl; shorter = prefix-shorter options cells takes; front = ((refl, refl), quote-front options cells p) })

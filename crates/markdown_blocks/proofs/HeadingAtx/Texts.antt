@@ -25,6 +25,7 @@ use Rattle.md_seam.specs.Standard.Rest.{Rest, is_white, trim_start}
 use Rattle.md_seam.specs.Substituted.{Readings}
 use Rattle.md_seam.proofs.InlineLemmas.{plain-fills, same-refl}
 use Rattle.md_seam.proofs.NestedLemmas.{at_or_before-refl}
+use Rattle.markdown_blocks.proofs.EachEvent.{each-append}
 use Rattle.markdown_blocks.specs.Leaf.HeadingAtx.{read_text, read_title}
 use Rattle.markdown_blocks.specs.Unread.{linked}
 use Rattle.markdown_blocks.proofs.FillFacts.{Fill, fill-append, fill-part, fill-same, linked-filled}
@@ -32,7 +33,7 @@ use Rattle.markdown_blocks.proofs.HeadingAtx.Places.{text-order, text_begin, tex
 use Rattle.markdown_blocks.proofs.HeadingAtx.Runs.{runs-each}
 use Rattle.markdown_blocks.proofs.LeafFacts.{LineAt, ReadsText}
 use Rattle.markdown_blocks.proofs.LineTexts.{past-whole}
-use Rattle.markdown_blocks.proofs.PartFacts.{NoLinks, NoParts, no_parts-append}
+use Rattle.markdown_blocks.proofs.PartFacts.{NoLinks, NoParts, IsNoPart}
 use Rattle.markdown_blocks.proofs.PartsStand.{Stands, inside-linked, stands-append, stands-outside, stands-part}
 use Rattle.markdown_blocks.proofs.SubstitutedLemmas.{Becomes, becomes-append, becomes-same, no_links-unwanted, part-becomes}
 
@@ -110,7 +111,7 @@ closes-no_parts heading.Text p = (refl, tt)
 -- so it is in what is left of runs
 runs-no_parts : (run : heading.Run) (xs : List ℕ) (p : Point) → NoParts (line_runs run xs p)
 runs-no_parts run xs p =
-    runs-each (λ q. Unit {0}) NoParts (record { append = no_parts-append; closes = λ r q h. closes-no_parts r q; opens = λ r q h. opens-no_parts r q; next = λ b q h. tt }) run xs p tt
+    runs-each (λ q. Unit {0}) NoParts (record { append = each-append IsNoPart; closes = λ r q h. closes-no_parts r q; opens = λ r q h. opens-no_parts r q; next = λ b q h. tt }) run xs p tt
 
 -- The text is a chunk of one line.
 

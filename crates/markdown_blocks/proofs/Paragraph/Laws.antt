@@ -1,5 +1,5 @@
 -- The laws of paragraphs, as a leaf of lines of text.
-use Rattle.std.proofs.Common.{◌≡◌, ℕ, Bool, true, false, cond, ◌==◌, List, [], ◌∷◌, ◌++◌, refl}
+use Rattle.std.proofs.Common.{◌≡◌, ℕ, Bool, true, false, cond, ◌==◌, List, [], ◌∷◌, refl}
 use Rattle.md_engine.specs.declared.configuration.ParseOptions.{ParseOptions}
 use Rattle.md_engine.specs.declared.event.Name.TheVariants as n
 use Rattle.md_engine.specs.declared.event.Point.{Point}
@@ -48,7 +48,8 @@ lines-outside (c ∷ cs) p = go (c.byte == 10) (lines-outside cs c.after)
     go true k = (refl, (refl, k))
     go false k = k
 
-content-outside : (bytes : List ℕ) (options : ParseOptions) (chunks : List Chunk) → AreOutside (content_events bytes options chunks)
+content-outside : (bytes : List ℕ) (options : ParseOptions) (chunks : List Chunk) →
+    AreOutside (content_events bytes options chunks)
 unfolding content_events
 content-outside bytes options chunks =
     let w : World = part_world bytes options chunks in

@@ -22,6 +22,7 @@ use Rattle.md_seam.proofs.EndingsLemmas as ending
 use Rattle.md_seam.proofs.EndingsLemmas.{AreOthers, behind_leaf, in_leaf, leaf-leads, others-lead}
 use Rattle.md_seam.proofs.GrammarLemmas.{IsWord, leads-around}
 use Rattle.md_seam.proofs.SpelledLemmas.{Quiet, Roles}
+use Rattle.markdown_blocks.proofs.EachEvent.{each-append}
 use Rattle.markdown_blocks.specs.Fronted.{rest_line}
 use Rattle.markdown_blocks.specs.Leaf.ThematicBreak.{break_leaf, break_line, first_byte}
 use Rattle.markdown_blocks.specs.MarkRuns.{Apart, Marks, Run, White, mark_runs}
@@ -30,7 +31,7 @@ use Rattle.markdown_blocks.proofs.BetweenFacts.{all-more, around-between, is_low
 use Rattle.markdown_blocks.proofs.FillFacts.{fill-around, fill-same}
 use Rattle.markdown_blocks.proofs.LeafFacts.{LeafFacts, LineAt}
 use Rattle.markdown_blocks.proofs.LineTexts.{line-stands}
-use Rattle.markdown_blocks.proofs.PartFacts.{NoLinks, NoParts, no_links-append, quiet-no_parts}
+use Rattle.markdown_blocks.proofs.PartFacts.{NoLinks, NoParts, quiet-no_parts, IsUnlinked}
 use Rattle.markdown_blocks.proofs.PartedFacts.{around-sits, quiets-still, sits-still}
 use Rattle.markdown_blocks.proofs.PartsStand.{stands-around, stands-outside}
 use Rattle.markdown_blocks.proofs.PieceFacts.{Starts, Stood, stood-around}
@@ -99,7 +100,7 @@ break-set line p es =
 pub break-unlinked : (line : List ℕ) (p : Point) → NoLinks (break_line line p)
 break-unlinked line p =
     let m : ℕ = first_byte (trim_start line) in
-    (refl, no_links-append (marks_of Apart m line p) (exit n.ThematicBreak (past_text line p) ∷ []) (runs-unlinked Apart m line p) (refl, tt))
+    (refl, each-append IsUnlinked (marks_of Apart m line p) (exit n.ThematicBreak (past_text line p) ∷ []) (runs-unlinked Apart m line p) (refl, tt))
 
 -- What it is over.
 

@@ -38,7 +38,8 @@ quote_rules = record {
   begins = λ options cells h. quote_at options cells h;
   further = s.BlockQuote its.ContStart;
   continues = λ options cells h. prefix_at options cells h;
-  opens = λ options interrupting cells p. if options.constructs.block_quote && takes_prefix options cells then Some (quote_new options cells p) else None;
+  opens = λ options interrupting cells p.
+      if options.constructs.block_quote && takes_prefix options cells then Some (quote_new options cells p) else None;
   goes = λ options c cells p. if takes_prefix options cells then Some (quote_on options cells p) else None;
   found = λ options interrupting r. opens_quote options r;
   holds = λ held c. Unit {0};

@@ -1,4 +1,5 @@
-// The constructs that are built: the one place of the frame's code that names them, but for the states of flow in front of leaves.
+// The constructs that are built: the one place of the frame's code that names them, but for the states of flow in front
+// of leaves.
 //
 //     container ::= block_quote
 //     leaf      ::= heading_atx | thematic_break

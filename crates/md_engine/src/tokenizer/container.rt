@@ -1,27 +1,11 @@
-// Containers: their kinds, what is kept of one that is open, and the name of its events.
+// What is kept of a container that is open.
 
-ghost use Rattle.std.specs.Prelude.{◌≡◌};
-ghost use Rattle.md_engine.specs.ContainerName.{name_of};
+pub mod name;
 
-use crate::event::Name;
-
-/// The kinds of containers.
-#[derive(Clone, Copy, Debug, PartialEq, Eq)]
-pub enum ContainerKind {
-    BlockQuote,
-}
+pub use crate::tokenizer::container::name::ContainerKind;
 
 /// A container that is open.
 #[derive(Clone, Copy, Debug, PartialEq, Eq)]
 pub struct Container {
     pub kind: ContainerKind,
-}
-
-/// The name of a container's events.
-pub(crate) fn name_of(kind: ContainerKind) -> Name
-    ensures { result ≡ name_of kind }
-{
-    match kind {
-        ContainerKind::BlockQuote => Name::BlockQuote,
-    }
 }

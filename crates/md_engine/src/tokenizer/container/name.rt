@@ -1,0 +1,21 @@
+// The kinds of containers, and the names of their events.
+
+ghost use Rattle.std.specs.Prelude.{◌≡◌};
+ghost use Rattle.md_engine.specs.ContainerName.{name_of};
+
+use crate::event::Name;
+
+/// The kinds of containers.
+#[derive(Clone, Copy, Debug, PartialEq, Eq)]
+pub enum ContainerKind {
+    BlockQuote,
+}
+
+/// The name of a container's events.
+pub(crate) fn name_of(kind: ContainerKind) -> Name
+    ensures { result ≡ name_of kind }
+{
+    match kind {
+        ContainerKind::BlockQuote => Name::BlockQuote,
+    }
+}
