@@ -7,7 +7,8 @@ use Rattle.md_engine.specs.declared.event.Kind.TheVariants.{Enter, Exit}
 use Rattle.md_engine.specs.declared.event.Name.{Name}
 use Rattle.md_engine.specs.declared.event.Point.{Point}
 use Rattle.md_seam.specs.Events.Nested.{Balanced, Fits, Matches, open_after, open_behind}
-use Rattle.md_seam.specs.Events.Spelled.{AsDigits, AsFootnoteLabel, AsItemMarker, Purpose, Role, on_shape, role, told_at, Around, AsParagraph, Holds, IsEnding, OpenLeaf, Opens, Reading, Shape, Tells, Text, at_ending, finished, left, next_line, on_leaf, read, read_by, read_enter, read_exit, unread}
+use Rattle.md_seam.specs.Events.Spelled.{Around, Holds, IsEnding, OpenLeaf, Opens, Purpose, Reading, Role, Shape, Tells, Text, at_ending, finished, left, next_line, on_leaf, on_shape, read, read_by, read_enter, read_exit, role, text_to, told_at, unread}
+use Rattle.md_outline.proofs.RoleLemmas.{ByTold, by-told}
 
 -- how many containers are open
 abbrev pub depth_of : List Around → ℕ
@@ -58,14 +59,17 @@ depth-shape : (f : Shape → Shape) (outer : List Around) → depth_of (on_shape
 depth-shape f [] = refl
 depth-shape f (around ∷ outer) = refl
 
+abbrev SameDepth : Reading → Reading → Type 0
+SameDepth before r = depth_of r.outer ≡ depth_of before.outer
+
+depth-by-told : ByTold SameDepth
+depth-by-told = record { block = λ b r. refl; named = λ f r. depth-shape f r.outer; noted = λ f r. refl }
+
 depth-told : (bytes : List ℕ) (x : Purpose) (p : Point) (text : Option Text) (r : Reading) →
     depth_of (told_at bytes x p text r).outer ≡ depth_of r.outer
 depth-told bytes x p None r = refl
-depth-told bytes AsDigits p (Some text) r = depth-shape _ r.outer
-depth-told bytes AsItemMarker p (Some text) r = depth-shape _ r.outer
-depth-told bytes AsFootnoteLabel p (Some text) r = depth-shape _ r.outer
-depth-told bytes AsParagraph p (Some text) r = refl
-depth-told bytes _ p (Some text) r = refl
+depth-told bytes x p (Some text) r =
+    by-told SameDepth x (record { spaces = text.spaces; text = text_to bytes p.index text }) (record r { text = None }) depth-by-told
 
 depth-exit : (bytes : List ℕ) (x : Role) (p : Point) (r : Reading) →
     depth_of (read_exit bytes x p r).outer ≡ shallower x (depth_of r.outer)

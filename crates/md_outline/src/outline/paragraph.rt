@@ -1,4 +1,4 @@
-// What an outline shows of a paragraph.
+// A text that is a block of its own, a paragraph: what an outline shows of it.
 
 ghost use Rattle.std.specs.Prelude.{◌≡◌, ◌+◌, ◌++◌, OnOk};
 ghost use Rattle.std.specs.Str.{IsUtf8};
@@ -26,7 +26,7 @@ pub fn push_begin<'a>(
 }
 
 /// Adds what a paragraph ends with.
-pub fn push_paragraph<'a>(
+pub fn push_block<'a>(
     lines: &mut Vec<OutlineLine<'a>>,
     depth: usize,
     is_shown: bool,
