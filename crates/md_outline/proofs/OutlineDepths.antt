@@ -8,7 +8,7 @@ use Rattle.md_engine.specs.declared.event.Name.{Name}
 use Rattle.md_engine.specs.declared.event.Point.{Point}
 use Rattle.md_seam.specs.Events.Nested.{Balanced, Fits, Matches, open_after, open_behind}
 use Rattle.md_seam.specs.Events.Spelled.{Around, Holds, IsEnding, OpenLeaf, Opens, Purpose, Reading, Role, Shape, Tells, Text, at_ending, finished, left, next_line, on_leaf, on_shape, read, read_by, read_enter, read_exit, role, text_to, told_at, unread}
-use Rattle.md_outline.proofs.RoleLemmas.{ByTold, by-told}
+use Rattle.md_outline.proofs.RoleLemmas.{by-ending, by-told_at}
 
 -- how many containers are open
 abbrev pub depth_of : List Around → ℕ
@@ -46,37 +46,22 @@ depth-finished : (leaf : Option OpenLeaf) (r : Reading) → depth_of (finished l
 depth-finished None r = refl
 depth-finished (Some leaf) r = refl
 
-depth-ending : (bytes : List ℕ) (p : Point) (text : Option Text) (r : Reading) →
-    depth_of (at_ending bytes p text r).outer ≡ depth_of r.outer
-depth-ending bytes p (Some text) r = refl
-depth-ending bytes p None r = go (nat_lt p.index (length bytes))
-  where
-    go : (x : Bool) → depth_of (cond x (on_leaf next_line r) r).outer ≡ depth_of r.outer
-    go true = refl
-    go false = refl
-
 depth-shape : (f : Shape → Shape) (outer : List Around) → depth_of (on_shape f outer) ≡ depth_of outer
 depth-shape f [] = refl
 depth-shape f (around ∷ outer) = refl
 
-abbrev SameDepth : Reading → Reading → Type 0
-SameDepth before r = depth_of r.outer ≡ depth_of before.outer
-
-depth-by-told : ByTold SameDepth
-depth-by-told = record { block = λ b r. refl; named = λ f r. depth-shape f r.outer; noted = λ f r. refl }
-
 depth-told : (bytes : List ℕ) (x : Purpose) (p : Point) (text : Option Text) (r : Reading) →
     depth_of (told_at bytes x p text r).outer ≡ depth_of r.outer
-depth-told bytes x p None r = refl
-depth-told bytes x p (Some text) r =
-    by-told SameDepth x (record { spaces = text.spaces; text = text_to bytes p.index text }) (record r { text = None }) depth-by-told
+depth-told bytes x p text r =
+    by-told_at (λ now. depth_of now.outer ≡ depth_of r.outer) bytes x p text r refl
+    (record { block = λ b. refl; named = λ f. depth-shape f r.outer; noted = λ f. refl })
 
 depth-exit : (bytes : List ℕ) (x : Role) (p : Point) (r : Reading) →
     depth_of (read_exit bytes x p r).outer ≡ shallower x (depth_of r.outer)
 depth-exit bytes (Holds shape) p r = depth-left r.outer r refl
 depth-exit bytes (Opens kind) p r = depth-finished r.leaf r
 depth-exit bytes (Tells x) p r = depth-told bytes x p r.text r
-depth-exit bytes IsEnding p r = depth-ending bytes p r.text r
+depth-exit bytes IsEnding p r = by-ending (λ now. depth_of now.outer ≡ depth_of r.outer) bytes p r.text r refl refl
 depth-exit bytes _ p r = refl
 
 depth-step : (bytes : List ℕ) (kind : Kind) (name : Name) (p : Point) (r : Reading) (names : List Name) →

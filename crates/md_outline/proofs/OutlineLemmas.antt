@@ -38,7 +38,7 @@ use Rattle.md_outline.proofs.BlocksStay.{AllHold, blocks-stay, outer_hold}
 use Rattle.md_outline.proofs.HeadingLemmas.{fitted-same}
 use Rattle.md_outline.proofs.OutlineDepths.{all-closed, depth_of}
 use Rattle.md_outline.proofs.ParagraphPieces.{Pieces, pieces-from, pieces-last, pieces-next, pieces-none}
-use Rattle.md_outline.proofs.RoleLemmas.{ByRole, IsBlock, IsNote, IsShownBy, Knows, by-role, knows-line, knows-noted}
+use Rattle.md_outline.proofs.RoleLemmas.{ByRole, IsBlock, IsNote, IsShownBy, Knows, by-ending, by-role, knows-line, knows-noted}
 use Rattle.md_outline.proofs.TextCuts.{utf8-part}
 
 -- a block that is added last is shown last
@@ -159,8 +159,8 @@ whole-piece bytes p before depth lines span text h k =
     ap (λ f. f ++ slice_range bytes text.from p.index) (pieces-none before depth lines span.is_parted text.front h k.1).1 ∙ ap (λ i. slice_range bytes i p.index) k.0
 
 -- a text that is a block of its own
-agrees-block : (bytes : List ℕ) (x : spelled.Purpose) (p : Point) (s : OutlineState) (r : Reading) (span : Option Span) (text : Option Text) →
-    IsBlock x → TextIs (shown r.outer r.here) s.depth s.lines span text →
+agrees-block : (bytes : List ℕ) (x : spelled.Purpose) (p : Point) (s : OutlineState) (r : Reading) (span : Option Span)
+    (text : Option Text) → IsBlock x → TextIs (shown r.outer r.here) s.depth s.lines span text →
     parts_by bytes Exit (Tells x) p span ≡ true → Agrees s r →
     Agrees (told_at bytes purpose.Block p.index span s) (spelled.told_at bytes x p text r)
 agrees-block bytes x p s r None None by h k is = is
@@ -183,8 +183,8 @@ agrees-block bytes x p s r (Some span) (Some text) by h k is =
     })
 
 -- a text that says something of a leaf
-agrees-note : (bytes : List ℕ) (x : spelled.Purpose) (y : Note) (p : Point) (s : OutlineState) (r : Reading) (span : Option Span) (text : Option Text) →
-    IsNote x y → TextIs (shown r.outer r.here) s.depth s.lines span text → is_unparted span ≡ true →
+agrees-note : (bytes : List ℕ) (x : spelled.Purpose) (y : Note) (p : Point) (s : OutlineState) (r : Reading) (span : Option Span)
+    (text : Option Text) → IsNote x y → TextIs (shown r.outer r.here) s.depth s.lines span text → is_unparted span ≡ true →
     Agrees s r → Agrees (told_at bytes (purpose.Note y) p.index span s) (spelled.told_at bytes x p text r)
 agrees-note bytes x y p s r None None by h k is = is
 agrees-note bytes x y p s r None (Some text) by h k is = absurd h
@@ -261,16 +261,17 @@ agrees-left s r (around ∷ outer) e h is =
           is.text;
     }
 
-agrees-ending : (bytes : List ℕ) (p : Point) (s : OutlineState) (r : Reading) (text : Option Text) → Agrees s r →
-    Agrees s (at_ending bytes p text r)
-agrees-ending bytes p s r (Some text) is = is
-agrees-ending bytes p s r None is = go (nat_lt p.index (length bytes))
-  where
-    go : (x : Bool) → Agrees s (cond x (on_leaf next_line r) r)
-    go true =
-        let same = known-line r.leaf is.known in
-        record { depth = is.depth; containers = is.containers; leaf = is.leaf ∙ sym same; known = subst KnowsOpen (sym same) is.known; text = is.text }
-    go false = is
+-- a line ending opens no line of a leaf that an outline knows
+agrees-line : (s : OutlineState) (r : Reading) → Agrees s r → Agrees s (on_leaf next_line r)
+agrees-line s r is =
+    let same = known-line r.leaf is.known in
+    record {
+      depth = is.depth;
+      containers = is.containers;
+      leaf = is.leaf ∙ sym same;
+      known = subst KnowsOpen (sym same) is.known;
+      text = is.text;
+    }
 
 -- What stands in no text that is parted.
 apart : (bytes : List ℕ) (kind : Kind) (x : spelled.Role) (p : Point) (span : Option Span) →
@@ -337,7 +338,7 @@ agrees-exit bytes p = record {
       (agrees-leaf s r r.leaf (apart bytes Exit (Opens kind) p s.text (λ t. refl) k) d is);
   block = λ x by s r k d is. agrees-block bytes x p s r s.text r.text by is.text k is;
   note = λ x y by s r k d is. agrees-note bytes x y p s r s.text r.text by is.text (apart bytes Exit (Tells x) p s.text (by.whole bytes p) k) is;
-  ending = λ s r k d is. agrees-ending bytes p s r r.text is;
+  ending = λ s r k d is. by-ending (Agrees s) bytes p r.text r is (agrees-line s r is);
   quiet = λ s r k d is. is;
 }
 
@@ -440,8 +441,8 @@ part-is_text bytes part span end text is u begins between epart =
     subst IsUtf8 (sym epart) (utf8-part bytes span.from end u (subst (BeginsBetween bytes) is begins) between)
 
 -- it is a block of its own
-pub block-end : (bytes part : List ℕ) (span : Span) (end : ℕ) (text : Option Span) (x : Purpose) (s : OutlineState) (lines : List Entry) →
-    text ≡ Some span → x ≡ purpose.Block → IsUtf8 bytes → BeginsBetween bytes text → is_between bytes end ≡ true →
+pub block-end : (bytes part : List ℕ) (span : Span) (end : ℕ) (text : Option Span) (x : Purpose) (s : OutlineState)
+    (lines : List Entry) → text ≡ Some span → x ≡ purpose.Block → IsUtf8 bytes → BeginsBetween bytes text → is_between bytes end ≡ true →
     part ≡ slice_range bytes span.from end → (IsUtf8 part → lines ≡ s.lines ++ begin_entries s.depth span.is_parted ++ text_entries (s.depth + 1) part) →
     record s { text = None; lines = lines } ≡ told_at bytes x end text s
 block-end bytes part span end text x s lines is same u begins between epart elines =
@@ -451,8 +452,8 @@ block-end bytes part span end text x s lines is same u begins between epart elin
     ∙ sym (ap (λ t. told_at bytes x end t s) is ∙ ap (λ y. told_at bytes y end (Some span) s) same)
 
 -- it tells a leaf something
-pub note-end : (bytes part lent : List ℕ) (span : Span) (end : ℕ) (text : Option Span) (x : Purpose) (y : Note) (s next : OutlineState) →
-    text ≡ Some span → x ≡ purpose.Note y → IsUtf8 bytes → BeginsBetween bytes text → is_between bytes end ≡ true →
+pub note-end : (bytes part lent : List ℕ) (span : Span) (end : ℕ) (text : Option Span) (x : Purpose) (y : Note)
+    (s next : OutlineState) → text ≡ Some span → x ≡ purpose.Note y → IsUtf8 bytes → BeginsBetween bytes text → is_between bytes end ≡ true →
     part ≡ slice_range bytes span.from end → (IsUtf8 part → lent ≡ part) → next ≡ told_leaf y lent (record s { text = None }) →
     next ≡ told_at bytes x end text s
 note-end bytes part lent span end text x y s next is same u begins between epart elent reads =

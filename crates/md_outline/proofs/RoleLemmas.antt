@@ -1,12 +1,13 @@
--- What is needed of the blocks that an outline shows, by the kinds of their roles: what is proved by these needs to name no block.
-use Rattle.std.proofs.Common.{◌≡◌, ℕ, ◌+◌, Bool, true, not, List, ◌∷◌, refl, sym}
-use Rattle.std.specs.Prelude.{None}
+-- What is needed of the blocks that an outline shows, by the kinds of their roles: what is proved by these needs to name no
+-- block.
+use Rattle.std.proofs.Common.{◌≡◌, ℕ, ◌+◌, Bool, true, not, List, ◌∷◌, refl, sym, false, cond, length}
+use Rattle.std.specs.Prelude.{Option, Some, None, nat_lt}
 use Rattle.std.proofs.lemmas.Bool.{true≢false}
 use Rattle.md_engine.specs.declared.event.Point.{Point}
 use Rattle.md_seam.specs.declared.outline.Word.{Word}
 use Rattle.md_seam.specs.declared.outline.Word.TheVariants as word
 use Rattle.md_seam.specs.Standard.Outline.{block_entries, entry, outline}
-use Rattle.md_seam.specs.Events.Spelled.{AsDigits, AsFootnoteLabel, AsHeading, AsItemMarker, AsMarkers, AsParagraph, BreakLeaf, HeadingAtxLeaf, Holds, IsEnding, IsPrefix, IsQuiet, LeafKind, OfBreak, OfHeadingAtx, OpenLeaf, Opens, QuoteShape, Reading, Shape, Tells, add_block, block_around, fresh, named, next_line, on_leaf, on_shape, spelled}
+use Rattle.md_seam.specs.Events.Spelled.{AsDigits, AsFootnoteLabel, AsHeading, AsItemMarker, AsMarkers, AsParagraph, BreakLeaf, HeadingAtxLeaf, Holds, IsEnding, IsPrefix, IsQuiet, LeafKind, OfBreak, OfHeadingAtx, OpenLeaf, Opens, QuoteShape, Reading, Shape, Tells, Text, add_block, at_ending, block_around, fresh, named, next_line, on_leaf, on_shape, spelled, text_to}
 use Rattle.md_seam.specs.Events.Spelled as spelled
 use Rattle.md_seam.specs.Standard.Tree.{Block, Blocks, Line}
 use Rattle.md_outline.specs.Outlined.{begins_line, parts_exit, piece_to}
@@ -47,7 +48,8 @@ knows-line _ k = absurd k
 
 -- A container that is shown by a word, and then by its blocks.
 pub record IsShownBy (shape : Shape) (w : Word) : Type 0 where
-  pub lines : (depth : ℕ) (here : Blocks) → block_entries depth (block_around shape here) ≡ entry depth w ∷ outline (depth + 1) here
+  pub lines : (depth : ℕ) (here : Blocks) →
+      block_entries depth (block_around shape here) ≡ entry depth w ∷ outline (depth + 1) here
 
 -- A leaf block, as it begins.
 pub record IsBegun (kind : LeafKind) (l : Leaf) : Type 0 where
@@ -57,7 +59,8 @@ pub record IsBegun (kind : LeafKind) (l : Leaf) : Type 0 where
 -- A text that is a block of its own, and may be parted.
 pub record IsBlock (x : spelled.Purpose) : Type 0 where
   pub tree : (line : Line) (r : Reading) → spelled.told x line r ≡ add_block (text_block line.text) r
-  pub parted : (bytes : List ℕ) (p : Point) (text : Span) → parts_exit bytes (Tells x) p text ≡ begins_line text (piece_to bytes p text)
+  pub parted : (bytes : List ℕ) (p : Point) (text : Span) →
+      parts_exit bytes (Tells x) p text ≡ begins_line text (piece_to bytes p text)
 
 -- A text that tells a leaf block something, and is never parted.
 pub record IsNote (x : spelled.Purpose) (y : Note) : Type 0 where
@@ -79,7 +82,8 @@ pub by-role : (P : spelled.Role → Role → Type 0) (x : spelled.Role) → ByRo
 by-role P (Holds QuoteShape) by h = by.container QuoteShape word.Quote (record { lines = λ depth here. refl })
 by-role P IsPrefix by h = by.prefix
 by-role P (Opens OfBreak) by h = by.begins OfBreak leaf.Break (record { same = refl; known = tt })
-by-role P (Opens OfHeadingAtx) by h = by.begins OfHeadingAtx (leaf.Heading (record { markers = None; text = None })) (record { same = refl; known = tt })
+by-role P (Opens OfHeadingAtx) by h =
+    by.begins OfHeadingAtx (leaf.Heading (record { markers = None; text = None })) (record { same = refl; known = tt })
 by-role P (Tells AsParagraph) by h = by.block AsParagraph (record { tree = λ line r. refl; parted = λ bytes p text. refl })
 by-role P (Tells AsMarkers) by h = by.note AsMarkers note.Markers (record { tree = λ line r. refl; whole = λ bytes p text. refl })
 by-role P (Tells AsHeading) by h = by.note AsHeading note.Title (record { tree = λ line r. refl; whole = λ bytes p text. refl })
@@ -87,18 +91,35 @@ by-role P IsEnding by h = by.ending
 by-role P IsQuiet by h = by.quiet
 by-role P _ by h = absurd (true≢false (sym h))
 
--- Texts, of all roles.
+-- Texts and line endings, of all roles.
 
--- What is known of a half-read tree behind a text: it has one block more, its innermost container is named, or its leaf block is told.
-pub record ByTold (P : Reading → Reading → Type 0) : Type 0 where
-  pub block : (b : Block) (r : Reading) → P r (add_block b r)
-  pub named : (f : Shape → Shape) (r : Reading) → P r (record r { outer = on_shape f r.outer })
-  pub noted : (f : OpenLeaf → OpenLeaf) (r : Reading) → P r (on_leaf f r)
+-- What is known of a half-read tree when it has one block more, when its innermost container is named, and when its leaf block
+-- is told of something: so it is behind each text.
+pub record ByTold (P : Reading → Type 0) (r : Reading) : Type 0 where
+  pub block : (b : Block) → P (add_block b r)
+  pub named : (f : Shape → Shape) → P (record r { outer = on_shape f r.outer })
+  pub noted : (f : OpenLeaf → OpenLeaf) → P (on_leaf f r)
 
-pub by-told : (P : Reading → Reading → Type 0) (x : spelled.Purpose) (line : Line) (r : Reading) → ByTold P →
-    P r (spelled.told x line r)
-by-told P AsParagraph line r by = by.block (text_block line.text) r
-by-told P AsDigits line r by = by.named (named AsDigits line.text) r
-by-told P AsItemMarker line r by = by.named (named AsItemMarker line.text) r
-by-told P AsFootnoteLabel line r by = by.named (named AsFootnoteLabel line.text) r
-by-told P x line r by = by.noted (spelled.noted x line) r
+by-told : (P : Reading → Type 0) (x : spelled.Purpose) (line : Line) (r : Reading) → ByTold P r →
+    P (spelled.told x line r)
+by-told P AsParagraph line r by = by.block (text_block line.text)
+by-told P AsDigits line r by = by.named (named AsDigits line.text)
+by-told P AsItemMarker line r by = by.named (named AsItemMarker line.text)
+by-told P AsFootnoteLabel line r by = by.named (named AsFootnoteLabel line.text)
+by-told P x line r by = by.noted (spelled.noted x line)
+
+pub by-told_at : (P : Reading → Type 0) (bytes : List ℕ) (x : spelled.Purpose) (p : Point) (text : Option Text) (r : Reading) →
+    P r → ByTold P (record r { text = None }) → P (spelled.told_at bytes x p text r)
+by-told_at P bytes x p None r none by = none
+by-told_at P bytes x p (Some text) r none by =
+    by-told P x (record { spaces = text.spaces; text = text_to bytes p.index text }) (record r { text = None }) by
+
+-- and behind a line ending, which may open a line of the leaf block
+pub by-ending : (P : Reading → Type 0) (bytes : List ℕ) (p : Point) (text : Option Text) (r : Reading) → P r →
+    P (on_leaf next_line r) → P (at_ending bytes p text r)
+by-ending P bytes p (Some text) r same next = same
+by-ending P bytes p None r same next = go (nat_lt p.index (length bytes))
+  where
+    go : (x : Bool) → P (cond x (on_leaf next_line r) r)
+    go true = next
+    go false = same

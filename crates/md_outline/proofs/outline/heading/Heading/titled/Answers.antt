@@ -1,4 +1,4 @@
-use Rattle.std.proofs.Common.{◌≡◌, ◌∙◌, ℕ, List, ap, sym}
+use Rattle.std.proofs.Common.{◌∙◌, ℕ, List, ap, sym}
 use Rattle.md_seam.specs.Events.Spelled.{HeadingSoFar, first_told}
 use Rattle.md_seam.specs.Standard.Texts.{split_lines, trim_each}
 use Rattle.md_outline.specs.HeadingState.{heading_of, title_lines}
