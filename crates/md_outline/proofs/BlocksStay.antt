@@ -1,12 +1,12 @@
 -- Blocks, once read, stay: what holds of all blocks of a tree held of all before.
-use Rattle.std.proofs.Common.{◌≡◌, ℕ, Bool, true, false, cond, ◌&&◌, List, [], ◌∷◌, length, refl, sym, ◌∙◌, ap}
-use Rattle.std.specs.Prelude.{Option, Some, None, nat_lt}
+use Rattle.std.proofs.Common.{◌≡◌, ℕ, Bool, true, ◌&&◌, List, [], ◌∷◌, refl, sym, ◌∙◌, ap}
+use Rattle.std.specs.Prelude.{Option, Some, None}
 use Rattle.std.proofs.lemmas.Bool.{and_from, and_parts}
 use Rattle.md_engine.specs.declared.event.Event.{Event}
 use Rattle.md_engine.specs.declared.event.Kind.{Kind}
 use Rattle.md_engine.specs.declared.event.Kind.TheVariants.{Enter, Exit}
 use Rattle.md_engine.specs.declared.event.Point.{Point}
-use Rattle.md_seam.specs.Events.Spelled.{Around, Holds, IsEnding, OpenLeaf, Opens, Purpose, Reading, Role, Shape, Tells, Text, at_ending, block_around, block_of, finished, left, next_line, on_leaf, on_shape, read, read_by, role, text_to, told_at}
+use Rattle.md_seam.specs.Events.Spelled.{Around, Holds, IsEnding, OpenLeaf, Opens, Purpose, Reading, Role, Shape, Tells, Text, block_around, block_of, finished, left, on_shape, read, read_by, role, told_at}
 use Rattle.md_seam.specs.Events.Throughout.{all_blocks}
 use Rattle.md_seam.specs.Standard.Tree.{Block}
 use Rattle.md_seam.proofs.ThroughoutLemmas.{all-inside, all-then}
@@ -24,8 +24,7 @@ stay-left : (p : Block → Bool) (outer : List Around) (r : Reading) → r.outer
     AllHold p (left outer r) → AllHold p r
 stay-left p [] r e d = d
 stay-left p (around ∷ outer) r e d =
-    let parts = all-then p around.before (block_around around.shape r.here) d.0 in
-    (
+    let parts = all-then p around.before (block_around around.shape r.here) d.0 in (
       all-inside p around.shape r.here parts.1,
       ap (outer_hold p) e ∙ and_from (all_blocks p around.before) (outer_hold p outer) parts.0 d.1,
     )

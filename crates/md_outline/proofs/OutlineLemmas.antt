@@ -1,6 +1,6 @@
 -- What an outline has read of some events is what the events spell out.
-use Rattle.std.proofs.Common.{◌≡◌, ℕ, ◌+◌, ◌-◌, ◌<◌, ◌≤◌, Bool, true, false, cond, ◌||◌, not, List, [], ◌∷◌, ◌++◌, length, drop, get_or, slice_range, Result, Ok, Err, refl, sym, ◌∙◌, ap, subst, append_assoc, append-nil, arith}
-use Rattle.std.specs.Prelude.{Option, Some, None, option_map, nat_lt, OnOk}
+use Rattle.std.proofs.Common.{◌≡◌, ℕ, ◌+◌, ◌-◌, ◌<◌, ◌≤◌, Bool, true, false, ◌||◌, not, List, [], ◌∷◌, ◌++◌, length, drop, get_or, slice_range, Result, Ok, Err, refl, sym, ◌∙◌, ap, subst, append_assoc, append-nil, arith}
+use Rattle.std.specs.Prelude.{Option, Some, None, option_map, OnOk}
 use Rattle.std.specs.List.{list_all}
 use Rattle.std.specs.Str.{IsUtf8}
 use Rattle.std.proofs.lemmas.Bool.{and_parts}
@@ -24,7 +24,7 @@ use Rattle.md_seam.proofs.ThroughoutLemmas.{all-then}
 use Rattle.md_outline.specs.Between.{is_between}
 use Rattle.md_outline.specs.HeadingDepths.{are_shallow, fits}
 use Rattle.md_outline.specs.Outlined.{IsOutlined, are_parted, begins_line, has_plain_name, is_unparted, parts_by, span_by, tells_between}
-use Rattle.md_outline.specs.OutlineSteps.{BeginsBetween, OutlineState, before_all, leaf_ended, parted_at, state_after, state_by, state_enter, state_exit, told_at, told_leaf}
+use Rattle.md_outline.specs.OutlineSteps.{BeginsBetween, IsCutAt, OutlineState, before_all, leaf_ended, parted_at, state_after, state_by, state_enter, state_exit, told_at, told_leaf}
 use Rattle.md_outline.specs.ParagraphState.{begin_entries, text_block}
 use Rattle.md_outline.specs.Roles.{is_plain, is_told, leaf_entries, noted, shown_as}
 use Rattle.md_outline.specs.TextLines.{full_entries, text_entries}
@@ -134,7 +134,8 @@ agrees-leaf s r (Some leaf) k d is =
       leaf = refl;
       known = tt;
       text =
-          text-stays (shown r.outer r.here) (shown r.outer (then_block r.here b)) s.depth s.depth s.lines (s.lines ++ leaf_entries s.depth leaf) s.text r.text k
+          text-stays (shown r.outer r.here) (shown r.outer (then_block r.here b)) s.depth s.depth s.lines
+          (s.lines ++ leaf_entries s.depth leaf) s.text r.text k
           (λ same.
           ap (λ all. all ++ leaf_entries s.depth leaf) same
           ∙ ap (λ x. shown r.outer r.here ++ x) (ap (block_entries s.depth) fit ∙ ap (λ d. block_entries d b) is.depth)
@@ -143,7 +144,8 @@ agrees-leaf s r (Some leaf) k d is =
     }
 
 -- a leaf that an outline knows is told of a text, and meets a line ending
-known-noted : (y : Note) (text : List ℕ) (leaf : Option OpenLeaf) → KnowsOpen leaf → KnowsOpen (option_map (noted y text) leaf)
+known-noted : (y : Note) (text : List ℕ) (leaf : Option OpenLeaf) → KnowsOpen leaf →
+    KnowsOpen (option_map (noted y text) leaf)
 known-noted y text None k = tt
 known-noted y text (Some leaf) k = knows-noted y text leaf k
 
@@ -176,7 +178,8 @@ agrees-block bytes x p s r (Some span) (Some text) by h k is =
       leaf = is.leaf;
       known = is.known;
       text =
-          pieces-last (shown r.outer r.here) s.depth s.lines span.is_parted text.front piece (sym (by.parted bytes p span) ∙ k) h.1
+          pieces-last (shown r.outer r.here) s.depth s.lines span.is_parted text.front piece
+          (sym (by.parted bytes p span) ∙ k) h.1
           ∙ ap (λ i. shown r.outer r.here ++ block_entries s.depth (text_block (text.front ++ slice_range bytes i p.index))) (sym h.0)
           ∙ ap (λ d. shown r.outer r.here ++ block_entries d (text_block line.text)) is.depth
           ∙ sym (shown-then r.outer r.here (text_block line.text));
@@ -207,7 +210,13 @@ agrees-prefix : (bytes : List ℕ) (p : Point) (s : OutlineState) (r : Reading) 
     s.text ≡ span → TextIs (shown r.outer r.here) s.depth s.lines span text →
     parts_by bytes Enter IsPrefix p span ≡ true → Agrees s r →
     Agrees (parted_at bytes p.index span s) (record r { text = option_map (before_prefix bytes p) text })
-agrees-prefix bytes p s r None None e h k is = record { depth = is.depth; containers = is.containers; leaf = is.leaf; known = is.known; text = subst (λ x. TextIs (shown r.outer r.here) s.depth s.lines x None) (sym e) h }
+agrees-prefix bytes p s r None None e h k is = record {
+  depth = is.depth;
+  containers = is.containers;
+  leaf = is.leaf;
+  known = is.known;
+  text = subst (λ x. TextIs (shown r.outer r.here) s.depth s.lines x None) (sym e) h;
+}
 agrees-prefix bytes p s r None (Some text) e h k is = absurd h
 agrees-prefix bytes p s r (Some span) None e h k is = absurd h
 agrees-prefix bytes p s r (Some span) (Some text) e h k is =
@@ -317,9 +326,11 @@ AgreesBehind bytes p x y = (s : OutlineState) (r : Reading) → parts_by bytes E
 
 agrees-enter : (bytes : List ℕ) (p : Point) → ByRole (AgreesBehind bytes p)
 agrees-enter bytes p = record {
-  container = λ shape w by s r k is. agrees-container bytes shape w p s r by (apart bytes Enter (Holds shape) p s.text (λ t. refl) k) is;
+  container = λ shape w by s r k is.
+      agrees-container bytes shape w p s r by (apart bytes Enter (Holds shape) p s.text (λ t. refl) k) is;
   prefix = λ s r k is. agrees-prefix bytes p s r s.text r.text refl is.text k is;
-  begins = λ kind l by s r k is. record { depth = is.depth; containers = is.containers; leaf = ap Some by.same; known = by.known; text = is.text };
+  begins = λ kind l by s r k is.
+      record { depth = is.depth; containers = is.containers; leaf = ap Some by.same; known = by.known; text = is.text };
   block = λ x by s r k is. agrees-begun p s r (apart bytes Enter (Tells x) p s.text (λ t. refl) k) is;
   note = λ x y by s r k is. agrees-begun p s r (apart bytes Enter (Tells x) p s.text (λ t. refl) k) is;
   ending = λ s r k is. is;
@@ -331,13 +342,21 @@ AgreesEnded bytes p x y = (s : OutlineState) (r : Reading) → parts_by bytes Ex
 
 agrees-exit : (bytes : List ℕ) (p : Point) → ByRole (AgreesEnded bytes p)
 agrees-exit bytes p = record {
-  container = λ shape w by s r k d is. agrees-left s r r.outer refl (apart bytes Exit (Holds shape) p s.text (λ t. refl) k) is;
-  prefix = λ s r k d is. record { depth = is.depth; containers = is.containers; leaf = is.leaf; known = is.known; text = agrees-gone_on p (shown r.outer r.here) s.depth s.lines s.text r.text is.text };
+  container = λ shape w by s r k d is.
+      agrees-left s r r.outer refl (apart bytes Exit (Holds shape) p s.text (λ t. refl) k) is;
+  prefix = λ s r k d is. record {
+    depth = is.depth;
+    containers = is.containers;
+    leaf = is.leaf;
+    known = is.known;
+    text = agrees-gone_on p (shown r.outer r.here) s.depth s.lines s.text r.text is.text;
+  };
   begins = λ kind l by s r k d is.
       subst (λ leaf. Agrees (leaf_ended leaf s) (finished r.leaf r)) (sym is.leaf)
       (agrees-leaf s r r.leaf (apart bytes Exit (Opens kind) p s.text (λ t. refl) k) d is);
   block = λ x by s r k d is. agrees-block bytes x p s r s.text r.text by is.text k is;
-  note = λ x y by s r k d is. agrees-note bytes x y p s r s.text r.text by is.text (apart bytes Exit (Tells x) p s.text (by.whole bytes p) k) is;
+  note = λ x y by s r k d is.
+      agrees-note bytes x y p s r s.text r.text by is.text (apart bytes Exit (Tells x) p s.text (by.whole bytes p) k) is;
   ending = λ s r k d is. by-ending (Agrees s) bytes p r.text r is (agrees-line s r is);
   quiet = λ s r k d is. is;
 }
@@ -416,7 +435,8 @@ agrees-all bytes (e ∷ events) s r h k d is =
     let parts = parted-step bytes e events s names.0 k in
     let next : Reading = read_by bytes e.kind (spelled.role e.name) e.point r in
     agrees-all bytes events (state_by bytes e.kind (shown_as (spelled.role e.name)) e.point s) next names.1 parts.1 d
-    (agrees-step bytes e.kind (spelled.role e.name) e.point s r names.0 parts.0 (blocks-stay fits bytes events next d).0 is)
+    (agrees-step bytes e.kind (spelled.role e.name) e.point s r names.0 parts.0
+    (blocks-stay fits bytes events next d).0 is)
 
 -- the lines that all events add are those of the tree that they spell out
 pub outline-spelled : (bytes : List ℕ) (events : List Event) → IsOutlined events bytes →
@@ -434,42 +454,52 @@ pub on_ok-map : {A E P Q : Type 0} (r : Result A E) → (P → Q) → OnOk r P �
 on_ok-map (Ok x) f h = f h
 on_ok-map (Err e) f h = h
 
--- a text has ended: between these places it is UTF-8
-part-is_text : (bytes part : List ℕ) (span : Span) (end : ℕ) (text : Option Span) → text ≡ Some span → IsUtf8 bytes →
-    BeginsBetween bytes text → is_between bytes end ≡ true → part ≡ slice_range bytes span.from end → IsUtf8 part
-part-is_text bytes part span end text is u begins between epart =
-    subst IsUtf8 (sym epart) (utf8-part bytes span.from end u (subst (BeginsBetween bytes) is begins) between)
+-- A text is cut.
 
--- it is a block of its own
+part-is_text : (bytes part : List ℕ) (span : Span) (end : ℕ) (text : Option Span) → text ≡ Some span →
+    IsCutAt bytes text end → part ≡ slice_range bytes span.from end → IsUtf8 part
+part-is_text bytes part span end text is cut epart =
+    subst IsUtf8 (sym epart) (utf8-part bytes span.from end cut.utf8 (subst (BeginsBetween bytes) is cut.begins) cut.ends)
+
+-- its lines, or those that have an ending, are shown behind the begin of the block
+part-shown : (bytes part : List ℕ) (span : Span) (end : ℕ) (text : Option Span) (s : OutlineState) (lines : List Entry)
+    (shows : ℕ → List ℕ → List Entry) → text ≡ Some span → IsCutAt bytes text end →
+    part ≡ slice_range bytes span.from end →
+    (IsUtf8 part → lines ≡ s.lines ++ begin_entries s.depth span.is_parted ++ shows (s.depth + 1) part) →
+    lines ≡ s.lines ++ begin_entries s.depth span.is_parted ++ shows (s.depth + 1) (slice_range bytes span.from end)
+part-shown bytes part span end text s lines shows is cut epart elines =
+    elines (part-is_text bytes part span end text is cut epart)
+    ∙ ap (λ t. s.lines ++ begin_entries s.depth span.is_parted ++ shows (s.depth + 1) t) epart
+
+-- a block of its own ends
 pub block-end : (bytes part : List ℕ) (span : Span) (end : ℕ) (text : Option Span) (x : Purpose) (s : OutlineState)
-    (lines : List Entry) → text ≡ Some span → x ≡ purpose.Block → IsUtf8 bytes → BeginsBetween bytes text → is_between bytes end ≡ true →
-    part ≡ slice_range bytes span.from end → (IsUtf8 part → lines ≡ s.lines ++ begin_entries s.depth span.is_parted ++ text_entries (s.depth + 1) part) →
+    (lines : List Entry) → text ≡ Some span → x ≡ purpose.Block → IsCutAt bytes text end →
+    part ≡ slice_range bytes span.from end →
+    (IsUtf8 part → lines ≡ s.lines ++ begin_entries s.depth span.is_parted ++ text_entries (s.depth + 1) part) →
     record s { text = None; lines = lines } ≡ told_at bytes x end text s
-block-end bytes part span end text x s lines is same u begins between epart elines =
+block-end bytes part span end text x s lines is same cut epart elines =
     let with_lines : List Entry → OutlineState = λ es. record s { text = None; lines = es } in
-    ap with_lines
-    (elines (part-is_text bytes part span end text is u begins between epart) ∙ ap (λ t. s.lines ++ begin_entries s.depth span.is_parted ++ text_entries (s.depth + 1) t) epart)
+    ap with_lines (part-shown bytes part span end text s lines text_entries is cut epart elines)
     ∙ sym (ap (λ t. told_at bytes x end t s) is ∙ ap (λ y. told_at bytes y end (Some span) s) same)
 
--- it tells a leaf something
+-- a note for a leaf ends
 pub note-end : (bytes part lent : List ℕ) (span : Span) (end : ℕ) (text : Option Span) (x : Purpose) (y : Note)
-    (s next : OutlineState) → text ≡ Some span → x ≡ purpose.Note y → IsUtf8 bytes → BeginsBetween bytes text → is_between bytes end ≡ true →
-    part ≡ slice_range bytes span.from end → (IsUtf8 part → lent ≡ part) → next ≡ told_leaf y lent (record s { text = None }) →
-    next ≡ told_at bytes x end text s
-note-end bytes part lent span end text x y s next is same u begins between epart elent reads =
+    (s next : OutlineState) → text ≡ Some span → x ≡ purpose.Note y → IsCutAt bytes text end →
+    part ≡ slice_range bytes span.from end → (IsUtf8 part → lent ≡ part) →
+    next ≡ told_leaf y lent (record s { text = None }) → next ≡ told_at bytes x end text s
+note-end bytes part lent span end text x y s next is same cut epart elent reads =
     reads
-    ∙ ap (λ t. told_leaf y t (record s { text = None })) (elent (part-is_text bytes part span end text is u begins between epart) ∙ epart)
+    ∙ ap (λ t. told_leaf y t (record s { text = None })) (elent (part-is_text bytes part span end text is cut epart) ∙ epart)
     ∙ sym (ap (λ t. told_at bytes x end t s) is ∙ ap (λ z. told_at bytes z end (Some span) s) same)
 
 -- a prefix has begun in a text
-pub piece-end : (bytes part : List ℕ) (span : Span) (end : ℕ) (text : Option Span) (s : OutlineState) (lines : List Entry) →
-    text ≡ Some span → IsUtf8 bytes → BeginsBetween bytes text → is_between bytes end ≡ true →
-    part ≡ slice_range bytes span.from end → (IsUtf8 part → lines ≡ s.lines ++ begin_entries s.depth span.is_parted ++ full_entries (s.depth + 1) part) →
+pub piece-end : (bytes part : List ℕ) (span : Span) (end : ℕ) (text : Option Span) (s : OutlineState)
+    (lines : List Entry) → text ≡ Some span → IsCutAt bytes text end → part ≡ slice_range bytes span.from end →
+    (IsUtf8 part → lines ≡ s.lines ++ begin_entries s.depth span.is_parted ++ full_entries (s.depth + 1) part) →
     record s { text = Some (record span { is_parted = true }); lines = lines } ≡ parted_at bytes end text s
-piece-end bytes part span end text s lines is u begins between epart elines =
+piece-end bytes part span end text s lines is cut epart elines =
     let with_lines : List Entry → OutlineState = λ es. record s { text = Some (record span { is_parted = true }); lines = es } in
-    ap with_lines
-    (elines (part-is_text bytes part span end text is u begins between epart) ∙ ap (λ t. s.lines ++ begin_entries s.depth span.is_parted ++ full_entries (s.depth + 1) t) epart)
+    ap with_lines (part-shown bytes part span end text s lines full_entries is cut epart elines)
     ∙ sym (ap (λ t. parted_at bytes end t s) is)
 
 -- The loop over the events.
@@ -492,7 +522,8 @@ all-at : (p : Event → Bool) (events : List Event) (i : ℕ) (d : Event) → i 
     p (get_or events i d) ≡ true
 all-at p events i d lt h = All-get_or (λ (e : Event). p e ≡ true) events i d lt (AllPass-from_list_all p events h)
 
--- what is known before each event: where the text begins, that the events to come stand where they may, and what they come to
+-- what is known before each event: where the text begins, that the events to come stand where they may, and what they
+-- come to
 pub record Goes (bytes : List ℕ) (events : List Event) (s all : OutlineState) : Type 0 where
   pub begins : BeginsBetween bytes s.text
   pub parted : are_parted bytes s.text events ≡ true
@@ -501,7 +532,8 @@ pub record Goes (bytes : List ℕ) (events : List Event) (s all : OutlineState) 
 -- one event was read
 pub state-next : (bytes : List ℕ) (events : List Event) (i : ℕ) (d : Event) (s next all : OutlineState) →
     IsOutlined events bytes → i < length events → Goes bytes (drop i events) s all →
-    (IsUtf8 bytes → BeginsBetween bytes s.text → is_between bytes (get_or events i d).point.index ≡ true → next ≡ state_by bytes (get_or events i d).kind (shown_as (spelled.role (get_or events i d).name)) (get_or events i d).point s) →
+    (IsCutAt bytes s.text (get_or events i d).point.index →
+    next ≡ state_by bytes (get_or events i d).kind (shown_as (spelled.role (get_or events i d).name)) (get_or events i d).point s) →
     Goes bytes (drop (i + 1) events) next all
 state-next bytes events i d s next all is lt goes reads =
     let e : Event = get_or events i d in
@@ -510,7 +542,8 @@ state-next bytes events i d s next all is lt goes reads =
     let tells : tells_between bytes e ≡ true = all-at (tells_between bytes) events i d lt is.texts in
     let name : has_plain_name e ≡ true = all-at has_plain_name events i d lt is.names in
     let parts = parted-step bytes e (drop (i + 1) events) s name (sym (at_drop_more (are_parted bytes s.text) events i d lt) ∙ goes.parted) in
-    let read : next ≡ state_by bytes e.kind (shown_as x) e.point s = reads is.text goes.begins between in
+    let read : next ≡ state_by bytes e.kind (shown_as x) e.point s =
+    reads (record { utf8 = is.text; begins = goes.begins; ends = between }) in
     record {
       begins =
           subst (BeginsBetween bytes) (sym (ap (λ (n : OutlineState). n.text) read ∙ span-step bytes e.kind x e.point s name))

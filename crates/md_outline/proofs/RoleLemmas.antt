@@ -1,5 +1,6 @@
--- What is needed of the blocks that an outline shows, by the kinds of their roles: what is proved by these needs to name no
--- block.
+-- What is needed of the blocks that an outline shows, by the kinds of their roles.
+--
+-- What is proved by these names no block.
 use Rattle.std.proofs.Common.{◌≡◌, ℕ, ◌+◌, Bool, true, not, List, ◌∷◌, refl, sym, false, cond, length}
 use Rattle.std.specs.Prelude.{Option, Some, None, nat_lt}
 use Rattle.std.proofs.lemmas.Bool.{true≢false}
@@ -84,17 +85,20 @@ by-role P IsPrefix by h = by.prefix
 by-role P (Opens OfBreak) by h = by.begins OfBreak leaf.Break (record { same = refl; known = tt })
 by-role P (Opens OfHeadingAtx) by h =
     by.begins OfHeadingAtx (leaf.Heading (record { markers = None; text = None })) (record { same = refl; known = tt })
-by-role P (Tells AsParagraph) by h = by.block AsParagraph (record { tree = λ line r. refl; parted = λ bytes p text. refl })
-by-role P (Tells AsMarkers) by h = by.note AsMarkers note.Markers (record { tree = λ line r. refl; whole = λ bytes p text. refl })
-by-role P (Tells AsHeading) by h = by.note AsHeading note.Title (record { tree = λ line r. refl; whole = λ bytes p text. refl })
+by-role P (Tells AsParagraph) by h =
+    by.block AsParagraph (record { tree = λ line r. refl; parted = λ bytes p text. refl })
+by-role P (Tells AsMarkers) by h =
+    by.note AsMarkers note.Markers (record { tree = λ line r. refl; whole = λ bytes p text. refl })
+by-role P (Tells AsHeading) by h =
+    by.note AsHeading note.Title (record { tree = λ line r. refl; whole = λ bytes p text. refl })
 by-role P IsEnding by h = by.ending
 by-role P IsQuiet by h = by.quiet
 by-role P _ by h = absurd (true≢false (sym h))
 
 -- Texts and line endings, of all roles.
 
--- What is known of a half-read tree when it has one block more, when its innermost container is named, and when its leaf block
--- is told of something: so it is behind each text.
+-- What is known of a half-read tree when it has one block more, when its innermost container is named, and when its leaf
+-- block is told something: so it is behind each text.
 pub record ByTold (P : Reading → Type 0) (r : Reading) : Type 0 where
   pub block : (b : Block) → P (add_block b r)
   pub named : (f : Shape → Shape) → P (record r { outer = on_shape f r.outer })
@@ -108,8 +112,8 @@ by-told P AsItemMarker line r by = by.named (named AsItemMarker line.text)
 by-told P AsFootnoteLabel line r by = by.named (named AsFootnoteLabel line.text)
 by-told P x line r by = by.noted (spelled.noted x line)
 
-pub by-told_at : (P : Reading → Type 0) (bytes : List ℕ) (x : spelled.Purpose) (p : Point) (text : Option Text) (r : Reading) →
-    P r → ByTold P (record r { text = None }) → P (spelled.told_at bytes x p text r)
+pub by-told_at : (P : Reading → Type 0) (bytes : List ℕ) (x : spelled.Purpose) (p : Point) (text : Option Text)
+    (r : Reading) → P r → ByTold P (record r { text = None }) → P (spelled.told_at bytes x p text r)
 by-told_at P bytes x p None r none by = none
 by-told_at P bytes x p (Some text) r none by =
     by-told P x (record { spaces = text.spaces; text = text_to bytes p.index text }) (record r { text = None }) by

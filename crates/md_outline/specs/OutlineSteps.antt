@@ -1,5 +1,6 @@
 -- What an outline has read between two events.
 use Rattle.std.specs.Prelude.{◌≡◌, ℕ, ◌+◌, ◌-◌, ◌++◌, Bool, true, false, List, [], ◌∷◌, slice_range, Option, Some, None, option_map}
+use Rattle.std.specs.Str.{IsUtf8}
 use Rattle.md_engine.specs.declared.event.Event.{Event}
 use Rattle.md_engine.specs.declared.event.Kind.{Kind}
 use Rattle.md_engine.specs.declared.event.Kind.TheVariants.{Enter, Exit}
@@ -27,7 +28,12 @@ pub record OutlineState : Type 0 where
   pub lines : List Entry
 
 abbrev pub state_of : Reading → OutlineState
-state_of r = record { depth = r.depth; leaf = option_map leaf_of r.leaf; text = r.text; lines = entries_of r.lines.items }
+state_of r = record {
+  depth = r.depth;
+  leaf = option_map leaf_of r.leaf;
+  text = r.text;
+  lines = entries_of r.lines.items;
+}
 
 -- before the first event
 abbrev pub before_all : OutlineState
@@ -43,7 +49,8 @@ told_leaf x text s = record s { leaf = option_map (noted x text) s.leaf }
 
 -- a text has ended, with this piece
 abbrev pub told : Purpose → Bool → List ℕ → OutlineState → OutlineState
-told purpose.Block is_shown text s = record s { lines = s.lines ++ begin_entries s.depth is_shown ++ text_entries (s.depth + 1) text }
+told purpose.Block is_shown text s =
+    record s { lines = s.lines ++ begin_entries s.depth is_shown ++ text_entries (s.depth + 1) text }
 told (purpose.Note x) is_shown text s = told_leaf x text s
 
 abbrev pub told_at : List ℕ → Purpose → ℕ → Option Span → OutlineState → OutlineState
@@ -84,3 +91,9 @@ state_after bytes s (e ∷ es) = state_after bytes (state_by bytes e.kind (shown
 abbrev pub BeginsBetween : List ℕ → Option Span → Type 0
 BeginsBetween bytes None = Unit {0}
 BeginsBetween bytes (Some text) = is_between bytes text.from ≡ true
+
+-- and it may be cut here: each part is UTF-8
+pub record IsCutAt (bytes : List ℕ) (text : Option Span) (end : ℕ) : Type 0 where
+  pub utf8 : IsUtf8 bytes
+  pub begins : BeginsBetween bytes text
+  pub ends : is_between bytes end ≡ true

@@ -1,11 +1,9 @@
 // The outline of a text: its blocks and their lines, from the first to the last.
 
 ghost use Rattle.std.specs.Prelude.{◌≡◌, true, Option, option_map, IfOk, OnOk};
-ghost use Rattle.std.specs.Str.{IsUtf8};
 ghost use Rattle.md_seam.specs.Events.Spelled as spelled;
-ghost use Rattle.md_outline.specs.Between.{is_between};
 ghost use Rattle.md_outline.specs.Outlined.{Outlines};
-ghost use Rattle.md_outline.specs.OutlineSteps.{BeginsBetween, leaf_ended, parted_at, state_by, state_enter, state_exit, state_of, told_at, told_leaf};
+ghost use Rattle.md_outline.specs.OutlineSteps.{IsCutAt, leaf_ended, parted_at, state_by, state_enter, state_exit, state_of, told_at, told_leaf};
 ghost use Rattle.md_outline.specs.Roles.{shown_as};
 ghost use Rattle.md_outline.specs.declared.outline.Span.{Span};
 
@@ -80,7 +78,7 @@ impl<'a> Reading<'a> {
     /// Reads the text that ends here, if one is read.
     fn end_text(&mut self, purpose: Purpose, end: usize) -> Result<(), Message>
         ensures bytes { self.new.bytes ≡ self.old.bytes }
-        ensures read { OnOk result (IsUtf8 self.old.bytes.now → BeginsBetween self.old.bytes.now self.old.text → is_between self.old.bytes.now end ≡ true →
+        ensures read { OnOk result (IsCutAt self.old.bytes.now self.old.text end →
             state_of self.new ≡ told_at self.old.bytes.now purpose end self.old.text (state_of self.old)) }
     {
         let Some(span) = self.text else {
@@ -100,7 +98,7 @@ impl<'a> Reading<'a> {
     /// Shows what stands in front of a prefix in the text that is read, if one is.
     fn part_text(&mut self, end: usize) -> Result<(), Message>
         ensures bytes { self.new.bytes ≡ self.old.bytes }
-        ensures read { OnOk result (IsUtf8 self.old.bytes.now → BeginsBetween self.old.bytes.now self.old.text → is_between self.old.bytes.now end ≡ true →
+        ensures read { OnOk result (IsCutAt self.old.bytes.now self.old.text end →
             state_of self.new ≡ parted_at self.old.bytes.now end self.old.text (state_of self.old)) }
     {
         let Some(span) = self.text else {
@@ -130,7 +128,7 @@ impl<'a> Reading<'a> {
     /// Reads an event that begins a part.
     fn enter(&mut self, role: Role<'a>, point: Point) -> Result<(), Message>
         ensures bytes { self.new.bytes ≡ self.old.bytes }
-        ensures read { OnOk result (IsUtf8 self.old.bytes.now → BeginsBetween self.old.bytes.now self.old.text → is_between self.old.bytes.now point.index ≡ true →
+        ensures read { OnOk result (IsCutAt self.old.bytes.now self.old.text point.index →
             state_of self.new ≡ state_enter self.old.bytes.now role.entry point (state_of self.old)) }
     {
         match role {
@@ -154,7 +152,7 @@ impl<'a> Reading<'a> {
     /// Reads an event that ends a part.
     fn exit(&mut self, role: Role<'a>, point: Point) -> Result<(), Message>
         ensures bytes { self.new.bytes ≡ self.old.bytes }
-        ensures read { OnOk result (IsUtf8 self.old.bytes.now → BeginsBetween self.old.bytes.now self.old.text → is_between self.old.bytes.now point.index ≡ true →
+        ensures read { OnOk result (IsCutAt self.old.bytes.now self.old.text point.index →
             state_of self.new ≡ state_exit self.old.bytes.now role.entry point (state_of self.old)) }
     {
         match role {
@@ -175,7 +173,7 @@ impl<'a> Reading<'a> {
     /// Reads the next event.
     fn read(&mut self, event: &Event) -> Result<(), Message>
         ensures bytes { self.new.bytes ≡ self.old.bytes }
-        ensures read { OnOk result (IsUtf8 self.old.bytes.now → BeginsBetween self.old.bytes.now self.old.text → is_between self.old.bytes.now event.now.point.index ≡ true →
+        ensures read { OnOk result (IsCutAt self.old.bytes.now self.old.text event.now.point.index →
             state_of self.new ≡ state_by self.old.bytes.now event.now.kind (shown_as (spelled.role event.now.name)) event.now.point (state_of self.old)) }
     {
         let role = role_of(event.name);

@@ -9,4 +9,7 @@ pub returns-in-Some : goal.returns-in-Some
 returns-in-Some c =
     let now : List (List ℕ) = trim_each (split_lines c.args.text.now) in
     let with_lines : List (List ℕ) → HeadingSoFar = λ lines. record (heading_of c.args.self) { text = lines } in
-    ap with_lines (ap title_lines c.in-Some.is ∙ sym (title-stands c.in-Some.field-0.now now) ∙ sym (ap (λ t. first_told (title_lines t) now) c.in-Some.is))
+    ap with_lines
+    (ap title_lines c.in-Some.is
+    ∙ sym (title-stands c.in-Some.field-0.now now)
+    ∙ sym (ap (λ t. first_told (title_lines t) now) c.in-Some.is))
