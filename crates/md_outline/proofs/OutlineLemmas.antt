@@ -180,14 +180,17 @@ agrees-block bytes x p s r (Some span) (Some text) by h k is =
       text =
           pieces-last (shown r.outer r.here) s.depth s.lines span.is_parted text.front piece
           (sym (by.parted bytes p span) ∙ k) h.1
-          ∙ ap (λ i. shown r.outer r.here ++ block_entries s.depth (text_block (text.front ++ slice_range bytes i p.index))) (sym h.0)
+          ∙ ap
+          (λ i. shown r.outer r.here ++ block_entries s.depth (text_block (text.front ++ slice_range bytes i p.index)))
+          (sym h.0)
           ∙ ap (λ d. shown r.outer r.here ++ block_entries d (text_block line.text)) is.depth
           ∙ sym (shown-then r.outer r.here (text_block line.text));
     })
 
 -- a text that says something of a leaf
-agrees-note : (bytes : List ℕ) (x : spelled.Purpose) (y : Note) (p : Point) (s : OutlineState) (r : Reading) (span : Option Span)
-    (text : Option Text) → IsNote x y → TextIs (shown r.outer r.here) s.depth s.lines span text → is_unparted span ≡ true →
+agrees-note : (bytes : List ℕ) (x : spelled.Purpose) (y : Note) (p : Point) (s : OutlineState) (r : Reading)
+    (span : Option Span) (text : Option Text) → IsNote x y →
+    TextIs (shown r.outer r.here) s.depth s.lines span text → is_unparted span ≡ true →
     Agrees s r → Agrees (told_at bytes (purpose.Note y) p.index span s) (spelled.told_at bytes x p text r)
 agrees-note bytes x y p s r None None by h k is = is
 agrees-note bytes x y p s r None (Some text) by h k is = absurd h
@@ -459,7 +462,8 @@ on_ok-map (Err e) f h = h
 part-is_text : (bytes part : List ℕ) (span : Span) (end : ℕ) (text : Option Span) → text ≡ Some span →
     IsCutAt bytes text end → part ≡ slice_range bytes span.from end → IsUtf8 part
 part-is_text bytes part span end text is cut epart =
-    subst IsUtf8 (sym epart) (utf8-part bytes span.from end cut.utf8 (subst (BeginsBetween bytes) is cut.begins) cut.ends)
+    subst IsUtf8 (sym epart)
+    (utf8-part bytes span.from end cut.utf8 (subst (BeginsBetween bytes) is cut.begins) cut.ends)
 
 -- its lines, or those that have an ending, are shown behind the begin of the block
 part-shown : (bytes part : List ℕ) (span : Span) (end : ℕ) (text : Option Span) (s : OutlineState) (lines : List Entry)
@@ -489,7 +493,8 @@ pub note-end : (bytes part lent : List ℕ) (span : Span) (end : ℕ) (text : Op
     next ≡ told_leaf y lent (record s { text = None }) → next ≡ told_at bytes x end text s
 note-end bytes part lent span end text x y s next is same cut epart elent reads =
     reads
-    ∙ ap (λ t. told_leaf y t (record s { text = None })) (elent (part-is_text bytes part span end text is cut epart) ∙ epart)
+    ∙ ap (λ t. told_leaf y t (record s { text = None }))
+    (elent (part-is_text bytes part span end text is cut epart) ∙ epart)
     ∙ sym (ap (λ t. told_at bytes x end t s) is ∙ ap (λ z. told_at bytes z end (Some span) s) same)
 
 -- a prefix has begun in a text
@@ -546,7 +551,8 @@ state-next bytes events i d s next all is lt goes reads =
     reads (record { utf8 = is.text; begins = goes.begins; ends = between }) in
     record {
       begins =
-          subst (BeginsBetween bytes) (sym (ap (λ (n : OutlineState). n.text) read ∙ span-step bytes e.kind x e.point s name))
+          subst (BeginsBetween bytes)
+          (sym (ap (λ (n : OutlineState). n.text) read ∙ span-step bytes e.kind x e.point s name))
           (begins-step bytes e.kind x e.point s.text tells parts.0 goes.begins);
       parted = ap (λ (n : OutlineState). are_parted bytes n.text (drop (i + 1) events)) read ∙ parts.1;
       comes = ap (λ (n : OutlineState). state_after bytes n (drop (i + 1) events)) read ∙ sym (at_drop_more (state_after bytes s) events i d lt) ∙ goes.comes;

@@ -67,7 +67,8 @@ pieces-next before depth lines true front piece h blank k =
 -- the last piece is shown
 pub pieces-last : (before : List Entry) (depth : ℕ) (lines : List Entry) (x : Bool) (front piece : List ℕ) →
     (not x || not (begins_with 10 piece)) ≡ true → Pieces before depth lines x front →
-    (lines ++ begin_entries depth x) ++ text_entries (depth + 1) piece ≡ before ++ block_entries depth (text_block (front ++ piece))
+    (lines ++ begin_entries depth x) ++ text_entries (depth + 1) piece
+    ≡ before ++ block_entries depth (text_block (front ++ piece))
 pieces-last before depth lines false front piece h k =
     ap (λ es. (es ++ entry depth word.Paragraph ∷ []) ++ text_entries (depth + 1) piece) k.0
     ∙ append_assoc before (entry depth word.Paragraph ∷ []) (text_entries (depth + 1) piece)

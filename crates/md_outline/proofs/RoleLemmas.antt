@@ -97,8 +97,8 @@ by-role P _ by h = absurd (true≢false (sym h))
 
 -- Texts and line endings, of all roles.
 
--- What is known of a half-read tree when it has one block more, when its innermost container is named, and when its leaf
--- block is told something: so it is behind each text.
+-- What is known of a half-read tree when it has one block more, when its innermost container is named, and when its
+-- leaf block is told something: so it is behind each text.
 pub record ByTold (P : Reading → Type 0) (r : Reading) : Type 0 where
   pub block : (b : Block) → P (add_block b r)
   pub named : (f : Shape → Shape) → P (record r { outer = on_shape f r.outer })

@@ -1,12 +1,13 @@
 -- How an outline meets blocks: what the roles of event names mean to it, and what it knows of an open leaf block.
 --
--- A new block has its clauses in three files, here, in `outline/role.rt` and in `RoleLemmas`; what an outline knows and shows of
--- it stands in files of its own (as `HeadingState`).
+-- A new block has its clauses in three files, here, in `outline/role.rt` and in `RoleLemmas`; what an outline knows and
+-- shows of it stands in files of its own (as `HeadingState`).
 --
 -- - A container that is shown by a word: `is_plain` and `shown_as` here, `role_of` in code, `by-role` in the lemmas.
 -- - A leaf block: the same three, and what is known of it: `leaf_of` here, `Leaf` with `noted` and `push_leaf` in code,
 --   `Knows` with its two laws in the lemmas.
--- - A text that tells a leaf block something: the same three, and `told_as` here, `Note` in code, `knows-noted` in the lemmas.
+-- - A text that tells a leaf block something: the same three, and `told_as` here, `Note` in code, `knows-noted` in the
+--   lemmas.
 use Rattle.std.specs.Prelude.{ℕ, Bool, true, false, List, None}
 use Rattle.md_seam.specs.declared.outline.Word.TheVariants as word
 use Rattle.md_seam.specs.Standard.Outline.{Entry, block_entries}

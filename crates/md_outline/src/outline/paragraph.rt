@@ -10,7 +10,7 @@ use crate::outline::lines::{next, push, push_full_lines, push_lines};
 use md_engine::message::Message;
 use md_seam::outline::{OutlineLine, Word};
 
-/// Adds the begin of a paragraph, if it is not shown yet.
+/// Adds the begin of the block, if it is not shown yet.
 pub fn push_begin<'a>(
     lines: &mut Vec<OutlineLine<'a>>,
     depth: usize,
@@ -25,7 +25,7 @@ pub fn push_begin<'a>(
     }
 }
 
-/// Adds what a paragraph ends with.
+/// Adds what it ends with.
 pub fn push_block<'a>(
     lines: &mut Vec<OutlineLine<'a>>,
     depth: usize,
@@ -38,7 +38,7 @@ pub fn push_block<'a>(
     push_lines(lines, next(depth)?, text)
 }
 
-/// Adds what stands in a paragraph in front of a prefix.
+/// Adds what stands in it in front of a prefix.
 pub fn push_piece<'a>(
     lines: &mut Vec<OutlineLine<'a>>,
     depth: usize,
