@@ -1,6 +1,5 @@
-pub mod HeadingDepths
+pub mod BlocksStay
 pub mod HeadingLemmas
-pub mod LeafLemmas
 pub mod OutlineDepths
 pub mod OutlineLemmas
 pub mod ParagraphPieces

@@ -1,13 +1,14 @@
 -- As many containers are open behind some events as names are.
-use Rattle.std.proofs.Common.{◌≡◌, ℕ, ◌+◌, ◌-◌, Bool, true, false, cond, List, [], ◌∷◌, length, refl, ◌∙◌, ap, arith}
-use Rattle.std.specs.Prelude.{Option, Some, None, nat_lt}
+use Rattle.std.proofs.Common.{◌≡◌, ℕ, ◌+◌, ◌-◌, List, [], ◌∷◌, refl, ◌∙◌, ap, arith}
+use Rattle.std.specs.Prelude.{Option, Some, None}
 use Rattle.md_engine.specs.declared.event.Event.{Event}
 use Rattle.md_engine.specs.declared.event.Kind.{Kind}
 use Rattle.md_engine.specs.declared.event.Kind.TheVariants.{Enter, Exit}
 use Rattle.md_engine.specs.declared.event.Name.{Name}
 use Rattle.md_engine.specs.declared.event.Point.{Point}
 use Rattle.md_seam.specs.Events.Nested.{Balanced, Fits, Matches, open_after, open_behind}
-use Rattle.md_seam.specs.Events.Spelled.{AsDigits, AsFootnoteLabel, AsItemMarker, Purpose, Role, on_shape, role, told_at, Around, AsParagraph, Holds, IsEnding, OpenLeaf, Opens, Reading, Shape, Tells, Text, at_ending, finished, left, next_line, on_leaf, read, read_by, read_enter, read_exit, unread}
+use Rattle.md_seam.specs.Events.Spelled.{Around, Holds, IsEnding, OpenLeaf, Opens, Purpose, Reading, Role, Shape, Tells, Text, finished, left, on_shape, read, read_by, read_enter, read_exit, role, told_at, unread}
+use Rattle.md_outline.proofs.RoleLemmas.{by-ending, by-told_at}
 
 -- how many containers are open
 abbrev pub depth_of : List Around → ℕ
@@ -45,34 +46,22 @@ depth-finished : (leaf : Option OpenLeaf) (r : Reading) → depth_of (finished l
 depth-finished None r = refl
 depth-finished (Some leaf) r = refl
 
-depth-ending : (bytes : List ℕ) (p : Point) (text : Option Text) (r : Reading) →
-    depth_of (at_ending bytes p text r).outer ≡ depth_of r.outer
-depth-ending bytes p (Some text) r = refl
-depth-ending bytes p None r = go (nat_lt p.index (length bytes))
-  where
-    go : (x : Bool) → depth_of (cond x (on_leaf next_line r) r).outer ≡ depth_of r.outer
-    go true = refl
-    go false = refl
-
 depth-shape : (f : Shape → Shape) (outer : List Around) → depth_of (on_shape f outer) ≡ depth_of outer
 depth-shape f [] = refl
 depth-shape f (around ∷ outer) = refl
 
 depth-told : (bytes : List ℕ) (x : Purpose) (p : Point) (text : Option Text) (r : Reading) →
     depth_of (told_at bytes x p text r).outer ≡ depth_of r.outer
-depth-told bytes x p None r = refl
-depth-told bytes AsDigits p (Some text) r = depth-shape _ r.outer
-depth-told bytes AsItemMarker p (Some text) r = depth-shape _ r.outer
-depth-told bytes AsFootnoteLabel p (Some text) r = depth-shape _ r.outer
-depth-told bytes AsParagraph p (Some text) r = refl
-depth-told bytes _ p (Some text) r = refl
+depth-told bytes x p text r =
+    by-told_at (λ now. depth_of now.outer ≡ depth_of r.outer) bytes x p text r refl
+    (record { block = λ b. refl; named = λ f. depth-shape f r.outer; noted = λ f. refl })
 
 depth-exit : (bytes : List ℕ) (x : Role) (p : Point) (r : Reading) →
     depth_of (read_exit bytes x p r).outer ≡ shallower x (depth_of r.outer)
 depth-exit bytes (Holds shape) p r = depth-left r.outer r refl
 depth-exit bytes (Opens kind) p r = depth-finished r.leaf r
 depth-exit bytes (Tells x) p r = depth-told bytes x p r.text r
-depth-exit bytes IsEnding p r = depth-ending bytes p r.text r
+depth-exit bytes IsEnding p r = by-ending (λ now. depth_of now.outer ≡ depth_of r.outer) bytes p r.text r refl refl
 depth-exit bytes _ p r = refl
 
 depth-step : (bytes : List ℕ) (kind : Kind) (name : Name) (p : Point) (r : Reading) (names : List Name) →

@@ -1,6 +1,6 @@
 -- What an outline has read of some events is what the events spell out.
-use Rattle.std.proofs.Common.{◌≡◌, ℕ, ◌+◌, ◌-◌, ◌<◌, ◌≤◌, Bool, true, false, cond, ◌||◌, not, List, [], ◌∷◌, ◌++◌, length, drop, get_or, slice_range, Result, Ok, Err, refl, sym, ◌∙◌, ap, subst, append_assoc, append-nil, arith}
-use Rattle.std.specs.Prelude.{Option, Some, None, option_map, nat_lt, OnOk}
+use Rattle.std.proofs.Common.{◌≡◌, ℕ, ◌+◌, ◌-◌, ◌<◌, ◌≤◌, Bool, true, false, ◌||◌, not, List, [], ◌∷◌, ◌++◌, length, drop, get_or, slice_range, Result, Ok, Err, refl, sym, ◌∙◌, ap, subst, append_assoc, append-nil, arith}
+use Rattle.std.specs.Prelude.{Option, Some, None, option_map, OnOk}
 use Rattle.std.specs.List.{list_all}
 use Rattle.std.specs.Str.{IsUtf8}
 use Rattle.std.proofs.lemmas.Bool.{and_parts}
@@ -15,29 +15,30 @@ use Rattle.md_seam.specs.declared.outline.Word.{Word}
 use Rattle.md_seam.specs.Standard.Outline.{Entry, block_entries, entry, outline}
 use Rattle.md_seam.specs.Events.Places.{last_line}
 use Rattle.md_seam.specs.Standard.Rest.{is_blank}
-use Rattle.md_seam.specs.Events.Spelled.{Around, AsParagraph, Holds, IsPrefix, OpenLeaf, Opens, Reading, Shape, Tells, Text, after_prefix, at_ending, before_prefix, begun, block_around, block_of, byte_at, finished, left, next_line, on_leaf, read, read_by, read_enter, read_exit, spelled, text_to, unread}
+use Rattle.md_seam.specs.Events.Spelled.{Around, Holds, IsPrefix, OpenLeaf, Opens, Reading, Shape, Tells, Text, after_prefix, at_ending, before_prefix, begun, block_around, block_of, byte_at, finished, left, next_line, on_leaf, read, read_by, read_enter, read_exit, spelled, text_to, unread}
 use Rattle.md_seam.specs.Events.Spelled as spelled
 use Rattle.md_seam.specs.Standard.State.{then_block}
-use Rattle.md_seam.specs.Standard.Texts.{split_lines, trim_each}
-use Rattle.md_seam.specs.Standard.Tree.{Block, Blocks, End, Line, More, Paragraph}
+use Rattle.md_seam.specs.Standard.Texts.{split_lines}
+use Rattle.md_seam.specs.Standard.Tree.{Block, Blocks, End, Line, More}
+use Rattle.md_seam.proofs.ThroughoutLemmas.{all-then}
 use Rattle.md_outline.specs.Between.{is_between}
-use Rattle.md_outline.specs.HeadingDepths.{are_shallow}
-use Rattle.md_outline.specs.LeafStates.{LeafIsText, LeafState, leaf_entries, noted}
+use Rattle.md_outline.specs.HeadingDepths.{are_shallow, fits}
 use Rattle.md_outline.specs.Outlined.{IsOutlined, are_parted, begins_line, has_plain_name, is_unparted, parts_by, span_by, tells_between}
-use Rattle.md_outline.specs.OutlineSteps.{BeginsBetween, IsCut, OutlineState, before_all, leaf_ended, parted_at, state_after, state_by, state_enter, state_exit, told_at, told_leaf}
-use Rattle.md_outline.specs.ParagraphState.{begin_entries}
-use Rattle.md_outline.specs.Roles.{is_plain, is_told, shown_as}
+use Rattle.md_outline.specs.OutlineSteps.{BeginsBetween, IsCutAt, OutlineState, before_all, leaf_ended, parted_at, state_after, state_by, state_enter, state_exit, told_at, told_leaf}
+use Rattle.md_outline.specs.ParagraphState.{begin_entries, text_block}
+use Rattle.md_outline.specs.Roles.{is_plain, is_told, leaf_entries, noted, shown_as}
 use Rattle.md_outline.specs.TextLines.{full_entries, text_entries}
+use Rattle.md_outline.specs.declared.outline.role.Note.{Note}
 use Rattle.md_outline.specs.declared.outline.role.Purpose.{Purpose}
 use Rattle.md_outline.specs.declared.outline.role.Purpose.TheVariants as purpose
 use Rattle.md_outline.specs.declared.outline.role.Role.{Role}
 use Rattle.md_outline.specs.declared.outline.role.Role.TheVariants as role
 use Rattle.md_outline.specs.declared.outline.Span.{Span}
-use Rattle.md_outline.proofs.HeadingDepths.{IsShallow, outer_shallow, shallow-all, shallow-last}
-use Rattle.md_outline.proofs.LeafLemmas.{LeafIs, leaf-is_text, leaf-line, leaf-shown}
+use Rattle.md_outline.proofs.BlocksStay.{AllHold, blocks-stay, outer_hold}
+use Rattle.md_outline.proofs.HeadingLemmas.{fitted-same}
 use Rattle.md_outline.proofs.OutlineDepths.{all-closed, depth_of}
 use Rattle.md_outline.proofs.ParagraphPieces.{Pieces, pieces-from, pieces-last, pieces-next, pieces-none}
-use Rattle.md_outline.proofs.RoleLemmas.{ByRole, IsNote, IsShownBy, by-role}
+use Rattle.md_outline.proofs.RoleLemmas.{ByRole, IsBlock, IsNote, IsShownBy, Knows, by-ending, by-role, knows-line, knows-noted}
 use Rattle.md_outline.proofs.TextCuts.{utf8-part}
 
 -- a block that is added last is shown last
@@ -81,11 +82,9 @@ AreShown (around ∷ outer) = ((w : Word) × IsShownBy around.shape w) × AreSho
 
 -- The leaf and the text.
 
-abbrev SameLeaf : Option LeafState → Option OpenLeaf → Type 0
-SameLeaf None None = Unit {0}
-SameLeaf (Some state) (Some leaf) = LeafIs state leaf
-SameLeaf None (Some leaf) = ⊥
-SameLeaf (Some state) None = ⊥
+abbrev KnowsOpen : Option OpenLeaf → Type 0
+KnowsOpen None = Unit {0}
+KnowsOpen (Some leaf) = Knows leaf
 
 -- the text that is read, by where it begins or goes on
 abbrev TextIs : List Entry → ℕ → List Entry → Option Span → Option Text → Type 0
@@ -98,7 +97,8 @@ TextIs before depth lines (Some span) None = ⊥
 record Agrees (s : OutlineState) (r : Reading) : Type 0 where
   pub depth : s.depth ≡ depth_of r.outer
   pub containers : AreShown r.outer
-  pub leaf : SameLeaf s.leaf r.leaf
+  pub leaf : s.leaf ≡ r.leaf
+  pub known : KnowsOpen r.leaf
   pub text : TextIs (shown r.outer r.here) s.depth s.lines s.text r.text
 
 -- where no text is parted, the lines are those of the tree
@@ -121,43 +121,37 @@ text-stays before before' depth depth' lines lines' None (Some text) h f k = abs
 text-stays before before' depth depth' lines lines' (Some span) None h f k = absurd k
 
 -- a leaf ends
-agrees-leaf : (s : OutlineState) (r : Reading) (x : Option LeafState) (leaf : Option OpenLeaf) → SameLeaf x leaf →
-    is_unparted s.text ≡ true → are_shallow (finished leaf r).here ≡ true → Agrees s r →
-    Agrees (leaf_ended x s) (finished leaf r)
-agrees-leaf s r None None h k d is = is
-agrees-leaf s r None (Some leaf) h k d is = absurd h
-agrees-leaf s r (Some x) None h k d is = absurd h
-agrees-leaf s r (Some x) (Some leaf) h k d is =
+agrees-leaf : (s : OutlineState) (r : Reading) (leaf : Option OpenLeaf) → is_unparted s.text ≡ true →
+    are_shallow (finished leaf r).here ≡ true → Agrees s r →
+    Agrees (leaf_ended leaf s) (finished leaf r)
+agrees-leaf s r None k d is = is
+agrees-leaf s r (Some leaf) k d is =
     let b : Block = block_of leaf in
-    let es : List Entry = leaf_entries s.depth x in
+    let fit = fitted-same b (all-then fits r.here b d).1 in
     record {
       depth = is.depth;
       containers = is.containers;
-      leaf = tt;
+      leaf = refl;
+      known = tt;
       text =
-          text-stays (shown r.outer r.here) (shown r.outer (then_block r.here b)) s.depth s.depth s.lines (s.lines ++ es) s.text r.text k
+          text-stays (shown r.outer r.here) (shown r.outer (then_block r.here b)) s.depth s.depth s.lines
+          (s.lines ++ leaf_entries s.depth leaf) s.text r.text k
           (λ same.
-          ap (λ all. all ++ es) same
-          ∙ ap (λ x. shown r.outer r.here ++ x) (leaf-shown s.depth x leaf h (shallow-last r.here b d) ∙ ap (λ d. block_entries d b) is.depth)
+          ap (λ all. all ++ leaf_entries s.depth leaf) same
+          ∙ ap (λ x. shown r.outer r.here ++ x) (ap (block_entries s.depth) fit ∙ ap (λ d. block_entries d b) is.depth)
           ∙ sym (shown-then r.outer r.here b))
           is.text;
     }
 
--- a leaf is told of a text
-same-noted : (x : spelled.Purpose) (y : Purpose) (state : Option LeafState) (leaf : Option OpenLeaf) (line : Line) (text : List ℕ) →
-    IsNote x y → line.text ≡ text → SameLeaf state leaf →
-    SameLeaf (option_map (noted y text) state) (option_map (spelled.noted x line) leaf)
-same-noted x y None None line text by e h = tt
-same-noted x y None (Some leaf) line text by e h = absurd h
-same-noted x y (Some state) None line text by e h = absurd h
-same-noted x y (Some state) (Some leaf) line text by e h = subst (λ t. LeafIs (noted y t state) (spelled.noted x line leaf)) e (by.same state leaf line h)
+-- a leaf that an outline knows is told of a text, and meets a line ending
+known-noted : (y : Note) (text : List ℕ) (leaf : Option OpenLeaf) → KnowsOpen leaf →
+    KnowsOpen (option_map (noted y text) leaf)
+known-noted y text None k = tt
+known-noted y text (Some leaf) k = knows-noted y text leaf k
 
--- a line ending opens no line of such a leaf
-same-line : (x : Option LeafState) (leaf : Option OpenLeaf) → SameLeaf x leaf → option_map next_line leaf ≡ leaf
-same-line None None h = refl
-same-line None (Some leaf) h = absurd h
-same-line (Some x) None h = absurd h
-same-line (Some x) (Some leaf) h = ap Some (leaf-line x leaf h)
+known-line : (leaf : Option OpenLeaf) → KnowsOpen leaf → option_map next_line leaf ≡ leaf
+known-line None k = refl
+known-line (Some leaf) k = ap Some (knows-line leaf k)
 
 -- a text that has no prefix in it is one piece
 whole-piece : (bytes : List ℕ) (p : Point) (before : List Entry) (depth : ℕ) (lines : List Entry) (span : Span) (text : Text) →
@@ -166,53 +160,66 @@ whole-piece : (bytes : List ℕ) (p : Point) (before : List Entry) (depth : ℕ)
 whole-piece bytes p before depth lines span text h k =
     ap (λ f. f ++ slice_range bytes text.from p.index) (pieces-none before depth lines span.is_parted text.front h k.1).1 ∙ ap (λ i. slice_range bytes i p.index) k.0
 
--- what an outline shows of a text that ends
-agrees-paragraph : (bytes : List ℕ) (p : Point) (s : OutlineState) (r : Reading) (span : Option Span) (text : Option Text) →
-    TextIs (shown r.outer r.here) s.depth s.lines span text → parts_by bytes Exit (Tells AsParagraph) p span ≡ true →
-    Agrees s r →
-    Agrees (told_at bytes purpose.Paragraph p.index span s) (spelled.told_at bytes AsParagraph p text r)
-agrees-paragraph bytes p s r None None h k is = is
-agrees-paragraph bytes p s r None (Some text) h k is = absurd h
-agrees-paragraph bytes p s r (Some span) None h k is = absurd h
-agrees-paragraph bytes p s r (Some span) (Some text) h k is =
+-- a text that is a block of its own
+agrees-block : (bytes : List ℕ) (x : spelled.Purpose) (p : Point) (s : OutlineState) (r : Reading) (span : Option Span)
+    (text : Option Text) → IsBlock x → TextIs (shown r.outer r.here) s.depth s.lines span text →
+    parts_by bytes Exit (Tells x) p span ≡ true → Agrees s r →
+    Agrees (told_at bytes purpose.Block p.index span s) (spelled.told_at bytes x p text r)
+agrees-block bytes x p s r None None by h k is = is
+agrees-block bytes x p s r None (Some text) by h k is = absurd h
+agrees-block bytes x p s r (Some span) None by h k is = absurd h
+agrees-block bytes x p s r (Some span) (Some text) by h k is =
     let piece : List ℕ = slice_range bytes span.from p.index in
-    let block : List ℕ → Block = λ t. Paragraph (trim_each (split_lines t)) in
-    record {
+    let line : Line = record { spaces = text.spaces; text = text_to bytes p.index text } in
+    subst (Agrees (told_at bytes purpose.Block p.index (Some span) s)) (sym (by.tree line (record r { text = None })))
+    (record {
       depth = is.depth;
       containers = is.containers;
       leaf = is.leaf;
+      known = is.known;
       text =
-          pieces-last (shown r.outer r.here) s.depth s.lines span.is_parted text.front piece k h.1
-          ∙ ap (λ i. shown r.outer r.here ++ block_entries s.depth (block (text.front ++ slice_range bytes i p.index))) (sym h.0)
-          ∙ ap (λ d. shown r.outer r.here ++ block_entries d (block (text_to bytes p.index text))) is.depth
-          ∙ sym (shown-then r.outer r.here (block (text_to bytes p.index text)));
-    }
+          pieces-last (shown r.outer r.here) s.depth s.lines span.is_parted text.front piece
+          (sym (by.parted bytes p span) ∙ k) h.1
+          ∙ ap
+          (λ i. shown r.outer r.here ++ block_entries s.depth (text_block (text.front ++ slice_range bytes i p.index)))
+          (sym h.0)
+          ∙ ap (λ d. shown r.outer r.here ++ block_entries d (text_block line.text)) is.depth
+          ∙ sym (shown-then r.outer r.here (text_block line.text));
+    })
 
 -- a text that says something of a leaf
-agrees-note : (bytes : List ℕ) (x : spelled.Purpose) (y : Purpose) (p : Point) (s : OutlineState) (r : Reading) (span : Option Span) (text : Option Text) →
-    IsNote x y → TextIs (shown r.outer r.here) s.depth s.lines span text → is_unparted span ≡ true →
-    Agrees s r → Agrees (told_at bytes y p.index span s) (spelled.told_at bytes x p text r)
+agrees-note : (bytes : List ℕ) (x : spelled.Purpose) (y : Note) (p : Point) (s : OutlineState) (r : Reading)
+    (span : Option Span) (text : Option Text) → IsNote x y →
+    TextIs (shown r.outer r.here) s.depth s.lines span text → is_unparted span ≡ true →
+    Agrees s r → Agrees (told_at bytes (purpose.Note y) p.index span s) (spelled.told_at bytes x p text r)
 agrees-note bytes x y p s r None None by h k is = is
 agrees-note bytes x y p s r None (Some text) by h k is = absurd h
 agrees-note bytes x y p s r (Some span) None by h k is = absurd h
 agrees-note bytes x y p s r (Some span) (Some text) by h k is =
     let piece : List ℕ = slice_range bytes span.from p.index in
     let line : Line = record { spaces = text.spaces; text = text_to bytes p.index text } in
-    subst (λ t. Agrees t (spelled.told_at bytes x p (Some text) r)) (sym (by.shown span.is_parted piece (record s { text = None })))
-    (subst (Agrees (told_leaf y piece (record s { text = None }))) (sym (by.tree line (record r { text = None })))
+    let whole : line.text ≡ piece = whole-piece bytes p (shown r.outer r.here) s.depth s.lines span text k h in
+    subst (Agrees (told_leaf y piece (record s { text = None }))) (sym (by.tree line (record r { text = None })))
     (record {
       depth = is.depth;
       containers = is.containers;
-      leaf = same-noted x y s.leaf r.leaf line piece by (whole-piece bytes p (shown r.outer r.here) s.depth s.lines span text k h) is.leaf;
+      leaf = ap (option_map (noted y piece)) is.leaf ∙ ap (λ t. option_map (noted y t) r.leaf) (sym whole);
+      known = known-noted y line.text r.leaf is.known;
       text = text-lines (shown r.outer r.here) s.depth s.lines (Some span) (Some text) k h;
-    }))
+    })
 
 -- a prefix begins
 agrees-prefix : (bytes : List ℕ) (p : Point) (s : OutlineState) (r : Reading) (span : Option Span) (text : Option Text) →
     s.text ≡ span → TextIs (shown r.outer r.here) s.depth s.lines span text →
     parts_by bytes Enter IsPrefix p span ≡ true → Agrees s r →
     Agrees (parted_at bytes p.index span s) (record r { text = option_map (before_prefix bytes p) text })
-agrees-prefix bytes p s r None None e h k is = record { depth = is.depth; containers = is.containers; leaf = is.leaf; text = subst (λ x. TextIs (shown r.outer r.here) s.depth s.lines x None) (sym e) h }
+agrees-prefix bytes p s r None None e h k is = record {
+  depth = is.depth;
+  containers = is.containers;
+  leaf = is.leaf;
+  known = is.known;
+  text = subst (λ x. TextIs (shown r.outer r.here) s.depth s.lines x None) (sym e) h;
+}
 agrees-prefix bytes p s r None (Some text) e h k is = absurd h
 agrees-prefix bytes p s r (Some span) None e h k is = absurd h
 agrees-prefix bytes p s r (Some span) (Some text) e h k is =
@@ -223,6 +230,7 @@ agrees-prefix bytes p s r (Some span) (Some text) e h k is =
       depth = is.depth;
       containers = is.containers;
       leaf = is.leaf;
+      known = is.known;
       text = (
         h.0,
         subst (λ i. Pieces (shown r.outer r.here) s.depth lines true (text.front ++ slice_range bytes i p.index)) (sym h.0)
@@ -248,6 +256,7 @@ agrees-left s r [] e h is =
       depth = ap (λ d. d - 1) (is.depth ∙ none) ∙ sym none;
       containers = is.containers;
       leaf = is.leaf;
+      known = is.known;
       text = text-stays (shown r.outer r.here) (shown r.outer r.here) s.depth (s.depth - 1) s.lines s.lines s.text r.text h (λ same. same) is.text;
     }
 agrees-left s r (around ∷ outer) e h is =
@@ -257,53 +266,31 @@ agrees-left s r (around ∷ outer) e h is =
       depth = omega (arith, depth);
       containers = containers.1;
       leaf = is.leaf;
+      known = is.known;
       text =
           text-stays (shown r.outer r.here) (shown outer (then_block around.before (block_around around.shape r.here))) s.depth (s.depth - 1) s.lines s.lines s.text r.text h
           (λ same. same ∙ ap (λ o. shown o r.here) e ∙ shown-left around outer r.here containers.0.0 containers.0.1)
           is.text;
     }
 
-agrees-ending : (bytes : List ℕ) (p : Point) (s : OutlineState) (r : Reading) (text : Option Text) → Agrees s r →
-    Agrees s (at_ending bytes p text r)
-agrees-ending bytes p s r (Some text) is = is
-agrees-ending bytes p s r None is = go (nat_lt p.index (length bytes))
-  where
-    go : (x : Bool) → Agrees s (cond x (on_leaf next_line r) r)
-    go true = record { depth = is.depth; containers = is.containers; leaf = subst (SameLeaf s.leaf) (sym (same-line s.leaf r.leaf is.leaf)) is.leaf; text = is.text }
-    go false = is
+-- a line ending opens no line of a leaf that an outline knows
+agrees-line : (s : OutlineState) (r : Reading) → Agrees s r → Agrees s (on_leaf next_line r)
+agrees-line s r is =
+    let same = known-line r.leaf is.known in
+    record {
+      depth = is.depth;
+      containers = is.containers;
+      leaf = is.leaf ∙ sym same;
+      known = subst KnowsOpen (sym same) is.known;
+      text = is.text;
+    }
 
 -- What stands in no text that is parted.
-
-abbrev StandsApart : spelled.Role → Type 0
-StandsApart (Holds shape) = Unit {0}
-StandsApart (Opens kind) = Unit {0}
-StandsApart (Tells x) = Unit {0}
-StandsApart _ = ⊥
-
-apart-enter : (bytes : List ℕ) (x : spelled.Role) (p : Point) (span : Option Span) → StandsApart x →
-    parts_by bytes Enter x p span ≡ true → is_unparted span ≡ true
-apart-enter bytes x p None a h = refl
-apart-enter bytes (Holds shape) p (Some span) a h = h
-apart-enter bytes (Opens kind) p (Some span) a h = h
-apart-enter bytes (Tells x) p (Some span) a h = h
-apart-enter bytes _ p (Some span) a h = absurd a
-
-abbrev EndsApart : spelled.Role → Type 0
-EndsApart (Holds shape) = Unit {0}
-EndsApart (Opens kind) = Unit {0}
-EndsApart _ = ⊥
-
-apart-exit : (bytes : List ℕ) (x : spelled.Role) (p : Point) (span : Option Span) → EndsApart x →
-    parts_by bytes Exit x p span ≡ true → is_unparted span ≡ true
-apart-exit bytes x p None a h = refl
-apart-exit bytes (Holds shape) p (Some span) a h = h
-apart-exit bytes (Opens kind) p (Some span) a h = h
-apart-exit bytes _ p (Some span) a h = absurd a
-
-apart-note : (bytes : List ℕ) (x : spelled.Purpose) (y : Purpose) (p : Point) (span : Option Span) → IsNote x y →
-    parts_by bytes Exit (Tells x) p span ≡ true → is_unparted span ≡ true
-apart-note bytes x y p None by h = refl
-apart-note bytes x y p (Some span) by h = sym (by.whole bytes p span) ∙ h
+apart : (bytes : List ℕ) (kind : Kind) (x : spelled.Role) (p : Point) (span : Option Span) →
+    ((t : Span) → parts_by bytes kind x p (Some t) ≡ not t.is_parted) → parts_by bytes kind x p span ≡ true →
+    is_unparted span ≡ true
+apart bytes kind x p None by h = refl
+apart bytes kind x p (Some span) by h = sym (by span) ∙ h
 
 -- the step of one event, by what it means
 agrees-begun : (p : Point) (s : OutlineState) (r : Reading) → is_unparted s.text ≡ true → Agrees s r →
@@ -312,6 +299,7 @@ agrees-begun p s r k is = record {
   depth = is.depth;
   containers = is.containers;
   leaf = is.leaf;
+  known = is.known;
   text = (refl, (text-lines (shown r.outer r.here) s.depth s.lines s.text r.text k is.text, refl));
 }
 
@@ -323,6 +311,7 @@ agrees-container bytes shape w p s r by k is = record {
   depth = ap (λ d. d + 1) is.depth;
   containers = ((w, by), is.containers);
   leaf = is.leaf;
+  known = is.known;
   text =
       text-stays (shown r.outer r.here) ((shown r.outer r.here ++ block_entries (depth_of r.outer) (block_around shape End)) ++ []) s.depth (s.depth + 1) s.lines (s.lines ++ entry s.depth w ∷ []) s.text r.text
       k
@@ -340,11 +329,13 @@ AgreesBehind bytes p x y = (s : OutlineState) (r : Reading) → parts_by bytes E
 
 agrees-enter : (bytes : List ℕ) (p : Point) → ByRole (AgreesBehind bytes p)
 agrees-enter bytes p = record {
-  container = λ shape w by s r k is. agrees-container bytes shape w p s r by (apart-enter bytes (Holds shape) p s.text tt k) is;
+  container = λ shape w by s r k is.
+      agrees-container bytes shape w p s r by (apart bytes Enter (Holds shape) p s.text (λ t. refl) k) is;
   prefix = λ s r k is. agrees-prefix bytes p s r s.text r.text refl is.text k is;
-  begins = λ kind l by s r k is. record { depth = is.depth; containers = is.containers; leaf = by.same; text = is.text };
-  paragraph = λ s r k is. agrees-begun p s r (apart-enter bytes (Tells AsParagraph) p s.text tt k) is;
-  note = λ x y by s r k is. agrees-begun p s r (apart-enter bytes (Tells x) p s.text tt k) is;
+  begins = λ kind l by s r k is.
+      record { depth = is.depth; containers = is.containers; leaf = ap Some by.same; known = by.known; text = is.text };
+  block = λ x by s r k is. agrees-begun p s r (apart bytes Enter (Tells x) p s.text (λ t. refl) k) is;
+  note = λ x y by s r k is. agrees-begun p s r (apart bytes Enter (Tells x) p s.text (λ t. refl) k) is;
   ending = λ s r k is. is;
   quiet = λ s r k is. is;
 }
@@ -354,12 +345,22 @@ AgreesEnded bytes p x y = (s : OutlineState) (r : Reading) → parts_by bytes Ex
 
 agrees-exit : (bytes : List ℕ) (p : Point) → ByRole (AgreesEnded bytes p)
 agrees-exit bytes p = record {
-  container = λ shape w by s r k d is. agrees-left s r r.outer refl (apart-exit bytes (Holds shape) p s.text tt k) is;
-  prefix = λ s r k d is. record { depth = is.depth; containers = is.containers; leaf = is.leaf; text = agrees-gone_on p (shown r.outer r.here) s.depth s.lines s.text r.text is.text };
-  begins = λ kind l by s r k d is. agrees-leaf s r s.leaf r.leaf is.leaf (apart-exit bytes (Opens kind) p s.text tt k) d is;
-  paragraph = λ s r k d is. agrees-paragraph bytes p s r s.text r.text is.text k is;
-  note = λ x y by s r k d is. agrees-note bytes x y p s r s.text r.text by is.text (apart-note bytes x y p s.text by k) is;
-  ending = λ s r k d is. agrees-ending bytes p s r r.text is;
+  container = λ shape w by s r k d is.
+      agrees-left s r r.outer refl (apart bytes Exit (Holds shape) p s.text (λ t. refl) k) is;
+  prefix = λ s r k d is. record {
+    depth = is.depth;
+    containers = is.containers;
+    leaf = is.leaf;
+    known = is.known;
+    text = agrees-gone_on p (shown r.outer r.here) s.depth s.lines s.text r.text is.text;
+  };
+  begins = λ kind l by s r k d is.
+      subst (λ leaf. Agrees (leaf_ended leaf s) (finished r.leaf r)) (sym is.leaf)
+      (agrees-leaf s r r.leaf (apart bytes Exit (Opens kind) p s.text (λ t. refl) k) d is);
+  block = λ x by s r k d is. agrees-block bytes x p s r s.text r.text by is.text k is;
+  note = λ x y by s r k d is.
+      agrees-note bytes x y p s r s.text r.text by is.text (apart bytes Exit (Tells x) p s.text (by.whole bytes p) k) is;
+  ending = λ s r k d is. by-ending (Agrees s) bytes p r.text r is (agrees-line s r is);
   quiet = λ s r k d is. is;
 }
 
@@ -378,17 +379,13 @@ span-parted : (bytes : List ℕ) (i : ℕ) (span : Option Span) (s : OutlineStat
 span-parted bytes i None s e = e
 span-parted bytes i (Some span) s e = refl
 
-span-paragraph : (bytes : List ℕ) (i : ℕ) (span : Option Span) (s : OutlineState) → s.text ≡ span →
-    (told_at bytes purpose.Paragraph i span s).text ≡ None
-span-paragraph bytes i None s e = e
-span-paragraph bytes i (Some span) s e = refl
+span-told : (bytes : List ℕ) (y : Purpose) (i : ℕ) (span : Option Span) (s : OutlineState) → s.text ≡ span →
+    (told_at bytes y i span s).text ≡ None
+span-told bytes y i None s e = e
+span-told bytes purpose.Block i (Some span) s e = refl
+span-told bytes (purpose.Note y) i (Some span) s e = refl
 
-span-note : (bytes : List ℕ) (x : spelled.Purpose) (y : Purpose) (i : ℕ) (span : Option Span) (s : OutlineState) →
-    IsNote x y → s.text ≡ span → (told_at bytes y i span s).text ≡ None
-span-note bytes x y i None s by e = e
-span-note bytes x y i (Some span) s by e = ap (λ (t : OutlineState). t.text) (by.shown span.is_parted (slice_range bytes span.from i) (record s { text = None }))
-
-span-leaf : (leaf : Option LeafState) (s : OutlineState) → (leaf_ended leaf s).text ≡ s.text
+span-leaf : (leaf : Option OpenLeaf) (s : OutlineState) → (leaf_ended leaf s).text ≡ s.text
 span-leaf None s = refl
 span-leaf (Some leaf) s = refl
 
@@ -400,7 +397,7 @@ span-enter bytes p s = record {
   container = λ shape w by. refl;
   prefix = span-parted bytes p.index s.text s refl;
   begins = λ kind l by. refl;
-  paragraph = refl;
+  block = λ x by. refl;
   note = λ x y by. refl;
   ending = refl;
   quiet = refl;
@@ -411,8 +408,8 @@ span-exit bytes p s = record {
   container = λ shape w by. refl;
   prefix = refl;
   begins = λ kind l by. span-leaf s.leaf s;
-  paragraph = span-paragraph bytes p.index s.text s refl;
-  note = λ x y by. span-note bytes x y p.index s.text s by refl;
+  block = λ x by. span-told bytes purpose.Block p.index s.text s refl;
+  note = λ x y by. span-told bytes (purpose.Note y) p.index s.text s refl;
   ending = refl;
   quiet = refl;
 }
@@ -432,7 +429,7 @@ parted-step bytes e events s h k =
 
 -- all events: then no text is parted
 agrees-all : (bytes : List ℕ) (events : List Event) (s : OutlineState) (r : Reading) →
-    list_all has_plain_name events ≡ true → are_parted bytes s.text events ≡ true → IsShallow (read bytes r events) →
+    list_all has_plain_name events ≡ true → are_parted bytes s.text events ≡ true → AllHold fits (read bytes r events) →
     Agrees s r →
     Agrees (state_after bytes s events) (read bytes r events) × (is_unparted (state_after bytes s events).text ≡ true)
 agrees-all bytes [] s r h k d is = (is, k)
@@ -441,7 +438,8 @@ agrees-all bytes (e ∷ events) s r h k d is =
     let parts = parted-step bytes e events s names.0 k in
     let next : Reading = read_by bytes e.kind (spelled.role e.name) e.point r in
     agrees-all bytes events (state_by bytes e.kind (shown_as (spelled.role e.name)) e.point s) next names.1 parts.1 d
-    (agrees-step bytes e.kind (spelled.role e.name) e.point s r names.0 parts.0 (shallow-all bytes events next d).0 is)
+    (agrees-step bytes e.kind (spelled.role e.name) e.point s r names.0 parts.0
+    (blocks-stay fits bytes events next d).0 is)
 
 -- the lines that all events add are those of the tree that they spell out
 pub outline-spelled : (bytes : List ℕ) (events : List Event) → IsOutlined events bytes →
@@ -449,7 +447,8 @@ pub outline-spelled : (bytes : List ℕ) (events : List Event) → IsOutlined ev
 unfolding spelled
 outline-spelled bytes events out =
     let closed : (read bytes unread events).outer ≡ [] = all-closed bytes events out.balanced in
-    let all = agrees-all bytes events before_all unread out.names out.parted (out.depths, ap outer_shallow closed) (record { depth = refl; containers = tt; leaf = tt; text = refl }) in
+    let all = agrees-all bytes events before_all unread out.names out.parted (out.depths, ap (outer_hold fits) closed)
+    (record { depth = refl; containers = tt; leaf = refl; known = tt; text = refl }) in
     text-lines (shown (read bytes unread events).outer (read bytes unread events).here) (state_after bytes before_all events).depth (state_after bytes before_all events).lines (state_after bytes before_all events).text (read bytes unread events).text all.1 all.0.text
     ∙ ap (λ outer. shown outer (read bytes unread events).here) closed
 
@@ -458,115 +457,88 @@ pub on_ok-map : {A E P Q : Type 0} (r : Result A E) → (P → Q) → OnOk r P �
 on_ok-map (Ok x) f h = f h
 on_ok-map (Err e) f h = h
 
--- a paragraph's text has ended
-pub paragraph-end : (bytes part : List ℕ) (span : Span) (end : ℕ) (text : Option Span) (x : Purpose) (s : OutlineState) (lines : List Entry) →
-    text ≡ Some span → x ≡ purpose.Paragraph → IsUtf8 bytes → BeginsBetween bytes text → is_between bytes end ≡ true →
-    part ≡ slice_range bytes span.from end → (IsUtf8 part → lines ≡ s.lines ++ begin_entries s.depth span.is_parted ++ text_entries (s.depth + 1) part) →
+-- A text is cut.
+
+part-is_text : (bytes part : List ℕ) (span : Span) (end : ℕ) (text : Option Span) → text ≡ Some span →
+    IsCutAt bytes text end → part ≡ slice_range bytes span.from end → IsUtf8 part
+part-is_text bytes part span end text is cut epart =
+    subst IsUtf8 (sym epart)
+    (utf8-part bytes span.from end cut.utf8 (subst (BeginsBetween bytes) is cut.begins) cut.ends)
+
+-- its lines, or those that have an ending, are shown behind the begin of the block
+part-shown : (bytes part : List ℕ) (span : Span) (end : ℕ) (text : Option Span) (s : OutlineState) (lines : List Entry)
+    (shows : ℕ → List ℕ → List Entry) → text ≡ Some span → IsCutAt bytes text end →
+    part ≡ slice_range bytes span.from end →
+    (IsUtf8 part → lines ≡ s.lines ++ begin_entries s.depth span.is_parted ++ shows (s.depth + 1) part) →
+    lines ≡ s.lines ++ begin_entries s.depth span.is_parted ++ shows (s.depth + 1) (slice_range bytes span.from end)
+part-shown bytes part span end text s lines shows is cut epart elines =
+    elines (part-is_text bytes part span end text is cut epart)
+    ∙ ap (λ t. s.lines ++ begin_entries s.depth span.is_parted ++ shows (s.depth + 1) t) epart
+
+-- a block of its own ends
+pub block-end : (bytes part : List ℕ) (span : Span) (end : ℕ) (text : Option Span) (x : Purpose) (s : OutlineState)
+    (lines : List Entry) → text ≡ Some span → x ≡ purpose.Block → IsCutAt bytes text end →
+    part ≡ slice_range bytes span.from end →
+    (IsUtf8 part → lines ≡ s.lines ++ begin_entries s.depth span.is_parted ++ text_entries (s.depth + 1) part) →
     record s { text = None; lines = lines } ≡ told_at bytes x end text s
-paragraph-end bytes part span end text x s lines is same u begins between epart elines =
-    let begins' : is_between bytes span.from ≡ true = subst (BeginsBetween bytes) is begins in
-    let whole : IsUtf8 part = subst IsUtf8 (sym epart) (utf8-part bytes span.from end u begins' between) in
+block-end bytes part span end text x s lines is same cut epart elines =
     let with_lines : List Entry → OutlineState = λ es. record s { text = None; lines = es } in
-    ap with_lines (elines whole ∙ ap (λ t. s.lines ++ begin_entries s.depth span.is_parted ++ text_entries (s.depth + 1) t) epart)
+    ap with_lines (part-shown bytes part span end text s lines text_entries is cut epart elines)
     ∙ sym (ap (λ t. told_at bytes x end t s) is ∙ ap (λ y. told_at bytes y end (Some span) s) same)
 
+-- a note for a leaf ends
+pub note-end : (bytes part lent : List ℕ) (span : Span) (end : ℕ) (text : Option Span) (x : Purpose) (y : Note)
+    (s next : OutlineState) → text ≡ Some span → x ≡ purpose.Note y → IsCutAt bytes text end →
+    part ≡ slice_range bytes span.from end → (IsUtf8 part → lent ≡ part) →
+    next ≡ told_leaf y lent (record s { text = None }) → next ≡ told_at bytes x end text s
+note-end bytes part lent span end text x y s next is same cut epart elent reads =
+    reads
+    ∙ ap (λ t. told_leaf y t (record s { text = None }))
+    (elent (part-is_text bytes part span end text is cut epart) ∙ epart)
+    ∙ sym (ap (λ t. told_at bytes x end t s) is ∙ ap (λ z. told_at bytes z end (Some span) s) same)
+
 -- a prefix has begun in a text
-pub piece-end : (bytes part : List ℕ) (span : Span) (end : ℕ) (text : Option Span) (s : OutlineState) (lines : List Entry) →
-    text ≡ Some span → IsUtf8 bytes → BeginsBetween bytes text → is_between bytes end ≡ true →
-    part ≡ slice_range bytes span.from end → (IsUtf8 part → lines ≡ s.lines ++ begin_entries s.depth span.is_parted ++ full_entries (s.depth + 1) part) →
+pub piece-end : (bytes part : List ℕ) (span : Span) (end : ℕ) (text : Option Span) (s : OutlineState)
+    (lines : List Entry) → text ≡ Some span → IsCutAt bytes text end → part ≡ slice_range bytes span.from end →
+    (IsUtf8 part → lines ≡ s.lines ++ begin_entries s.depth span.is_parted ++ full_entries (s.depth + 1) part) →
     record s { text = Some (record span { is_parted = true }); lines = lines } ≡ parted_at bytes end text s
-piece-end bytes part span end text s lines is u begins between epart elines =
-    let begins' : is_between bytes span.from ≡ true = subst (BeginsBetween bytes) is begins in
-    let whole : IsUtf8 part = subst IsUtf8 (sym epart) (utf8-part bytes span.from end u begins' between) in
+piece-end bytes part span end text s lines is cut epart elines =
     let with_lines : List Entry → OutlineState = λ es. record s { text = Some (record span { is_parted = true }); lines = es } in
-    ap with_lines (elines whole ∙ ap (λ t. s.lines ++ begin_entries s.depth span.is_parted ++ full_entries (s.depth + 1) t) epart)
+    ap with_lines (part-shown bytes part span end text s lines full_entries is cut epart elines)
     ∙ sym (ap (λ t. parted_at bytes end t s) is)
 
 -- The loop over the events.
 
-cut-leaf : (bytes : List ℕ) (leaf : Option LeafState) (s : OutlineState) → IsCut bytes s →
-    IsCut bytes (leaf_ended leaf s)
-cut-leaf bytes None s h = h
-cut-leaf bytes (Some leaf) s h = record { text = h.text; leaf = tt }
-
-leaf-told : (x : Purpose) (text : List ℕ) (leaf : Option LeafState) → IsUtf8 text → LeafIsText leaf →
-    LeafIsText (option_map (noted x text) leaf)
-leaf-told x text None u h = tt
-leaf-told x text (Some leaf) u h = leaf-is_text x text leaf u h
-
-cut-paragraph : (bytes : List ℕ) (end : ℕ) (span : Option Span) (s : OutlineState) → IsCut bytes s →
-    IsCut bytes (told_at bytes purpose.Paragraph end span s)
-cut-paragraph bytes end None s h = h
-cut-paragraph bytes end (Some span) s h = record { text = tt; leaf = h.leaf }
-
-cut-note : (bytes : List ℕ) (x : spelled.Purpose) (y : Purpose) (end : ℕ) (span : Option Span) (s : OutlineState) →
-    IsNote x y → IsUtf8 bytes → is_between bytes end ≡ true → BeginsBetween bytes span → IsCut bytes s →
-    IsCut bytes (told_at bytes y end span s)
-cut-note bytes x y end None s by u between begins h = h
-cut-note bytes x y end (Some span) s by u between begins h =
-    let piece : List ℕ = slice_range bytes span.from end in
-    subst (IsCut bytes) (sym (by.shown span.is_parted piece (record s { text = None })))
-    (record { text = tt; leaf = leaf-told y piece s.leaf (utf8-part bytes span.from end u begins between) h.leaf })
-
-cut-parted : (bytes : List ℕ) (end : ℕ) (span : Option Span) (s : OutlineState) → BeginsBetween bytes span →
-    IsCut bytes s → IsCut bytes (parted_at bytes end span s)
-cut-parted bytes end None s begins h = h
-cut-parted bytes end (Some span) s begins h = record { text = begins; leaf = h.leaf }
-
-cut-gone_on : (bytes : List ℕ) (p : Point) (span : Option Span) → parts_by bytes Exit IsPrefix p span ≡ true →
-    BeginsBetween bytes (option_map (λ (t : Span). record t { from = byte_at p }) span)
-cut-gone_on bytes p None k = tt
-cut-gone_on bytes p (Some span) k = k
-
--- a text that begins at an event begins between characters, and so it ends
-abbrev CutBehind : List ℕ → Kind → Point → spelled.Role → Role → Type 0
-CutBehind bytes kind p x y = (s : OutlineState) → IsUtf8 bytes → is_between bytes p.index ≡ true → (not (is_told x) || is_between bytes (byte_at p)) ≡ true → parts_by bytes kind x p s.text ≡ true → IsCut bytes s →
-    IsCut bytes (state_by bytes kind y p s)
-
-cut-enter : (bytes : List ℕ) (p : Point) → ByRole (CutBehind bytes Enter p)
-cut-enter bytes p = record {
-  container = λ shape w by s u b t k h. record { text = h.text; leaf = h.leaf };
-  prefix = λ s u b t k h. cut-parted bytes p.index s.text s h.text h;
-  begins = λ kind l by s u b t k h. record { text = h.text; leaf = by.is_text };
-  paragraph = λ s u b t k h. record { text = t; leaf = h.leaf };
-  note = λ x y by s u b t k h. record { text = t; leaf = h.leaf };
-  ending = λ s u b t k h. h;
-  quiet = λ s u b t k h. h;
-}
-
-cut-exit : (bytes : List ℕ) (p : Point) → ByRole (CutBehind bytes Exit p)
-cut-exit bytes p = record {
-  container = λ shape w by s u b t k h. record { text = h.text; leaf = h.leaf };
-  prefix = λ s u b t k h. record { text = cut-gone_on bytes p s.text k; leaf = h.leaf };
-  begins = λ kind l by s u b t k h. cut-leaf bytes s.leaf s h;
-  paragraph = λ s u b t k h. cut-paragraph bytes p.index s.text s h;
-  note = λ x y by s u b t k h. cut-note bytes x y p.index s.text s by u b h.text h;
-  ending = λ s u b t k h. h;
-  quiet = λ s u b t k h. h;
-}
-
-cut-step : (bytes : List ℕ) (kind : Kind) (x : spelled.Role) (p : Point) (s : OutlineState) → is_plain x ≡ true →
-    IsUtf8 bytes → is_between bytes p.index ≡ true → (not (is_told x) || is_between bytes (byte_at p)) ≡ true →
-    parts_by bytes kind x p s.text ≡ true → IsCut bytes s →
-    IsCut bytes (state_by bytes kind (shown_as x) p s)
-cut-step bytes Enter x p s n u b t k h = by-role (CutBehind bytes Enter p) x (cut-enter bytes p) n s u b t k h
-cut-step bytes Exit x p s n u b t k h = by-role (CutBehind bytes Exit p) x (cut-exit bytes p) n s u b t k h
+-- a text that begins or goes on at an event does so between characters
+begins-step : (bytes : List ℕ) (kind : Kind) (x : spelled.Role) (p : Point) (span : Option Span) →
+    (not (is_told x) || is_between bytes (byte_at p)) ≡ true → parts_by bytes kind x p span ≡ true →
+    BeginsBetween bytes span → BeginsBetween bytes (span_by kind x p span)
+begins-step bytes Enter (Tells x) p span t k h = t
+begins-step bytes Enter IsPrefix p None t k h = tt
+begins-step bytes Enter IsPrefix p (Some span) t k h = h
+begins-step bytes Exit (Tells x) p span t k h = tt
+begins-step bytes Exit IsPrefix p None t k h = tt
+begins-step bytes Exit IsPrefix p (Some span) t k h = k
+begins-step bytes Enter _ p span t k h = h
+begins-step bytes Exit _ p span t k h = h
 
 -- what holds of all holds of each
 all-at : (p : Event → Bool) (events : List Event) (i : ℕ) (d : Event) → i < length events → list_all p events ≡ true →
     p (get_or events i d) ≡ true
 all-at p events i d lt h = All-get_or (λ (e : Event). p e ≡ true) events i d lt (AllPass-from_list_all p events h)
 
--- what is known before each event: where texts are cut, that the events to come stand where they may, and what they come to
+-- what is known before each event: where the text begins, that the events to come stand where they may, and what they
+-- come to
 pub record Goes (bytes : List ℕ) (events : List Event) (s all : OutlineState) : Type 0 where
-  pub cut : IsCut bytes s
+  pub begins : BeginsBetween bytes s.text
   pub parted : are_parted bytes s.text events ≡ true
   pub comes : state_after bytes s events ≡ all
 
 -- one event was read
 pub state-next : (bytes : List ℕ) (events : List Event) (i : ℕ) (d : Event) (s next all : OutlineState) →
     IsOutlined events bytes → i < length events → Goes bytes (drop i events) s all →
-    (IsUtf8 bytes → IsCut bytes s → is_between bytes (get_or events i d).point.index ≡ true → next ≡ state_by bytes (get_or events i d).kind (shown_as (spelled.role (get_or events i d).name)) (get_or events i d).point s) →
+    (IsCutAt bytes s.text (get_or events i d).point.index →
+    next ≡ state_by bytes (get_or events i d).kind (shown_as (spelled.role (get_or events i d).name)) (get_or events i d).point s) →
     Goes bytes (drop (i + 1) events) next all
 state-next bytes events i d s next all is lt goes reads =
     let e : Event = get_or events i d in
@@ -575,9 +547,13 @@ state-next bytes events i d s next all is lt goes reads =
     let tells : tells_between bytes e ≡ true = all-at (tells_between bytes) events i d lt is.texts in
     let name : has_plain_name e ≡ true = all-at has_plain_name events i d lt is.names in
     let parts = parted-step bytes e (drop (i + 1) events) s name (sym (at_drop_more (are_parted bytes s.text) events i d lt) ∙ goes.parted) in
-    let read : next ≡ state_by bytes e.kind (shown_as x) e.point s = reads is.text goes.cut between in
+    let read : next ≡ state_by bytes e.kind (shown_as x) e.point s =
+    reads (record { utf8 = is.text; begins = goes.begins; ends = between }) in
     record {
-      cut = subst (IsCut bytes) (sym read) (cut-step bytes e.kind x e.point s name is.text between tells parts.0 goes.cut);
+      begins =
+          subst (BeginsBetween bytes)
+          (sym (ap (λ (n : OutlineState). n.text) read ∙ span-step bytes e.kind x e.point s name))
+          (begins-step bytes e.kind x e.point s.text tells parts.0 goes.begins);
       parted = ap (λ (n : OutlineState). are_parted bytes n.text (drop (i + 1) events)) read ∙ parts.1;
       comes = ap (λ (n : OutlineState). state_after bytes n (drop (i + 1) events)) read ∙ sym (at_drop_more (state_after bytes s) events i d lt) ∙ goes.comes;
     }

@@ -1,17 +1,17 @@
--- The pieces of a paragraph, as an outline shows them.
+-- The pieces of a text that is a block of its own, as an outline shows them.
 use Rattle.std.proofs.Common.{◌≡◌, ℕ, ◌+◌, Bool, true, false, ◌||◌, not, List, [], ◌∷◌, ◌++◌, refl, sym, ◌∙◌, ap, append_assoc, append-nil}
 use Rattle.std.proofs.lemmas.Bool.{true≢false}
 use Rattle.md_seam.specs.declared.outline.Word.TheVariants as word
 use Rattle.md_seam.specs.Standard.Lines.{begins_with}
-use Rattle.md_seam.specs.Standard.Outline.{Entry, entry}
+use Rattle.md_seam.specs.Standard.Outline.{Entry, block_entries, entry}
 use Rattle.md_seam.specs.Events.Places.{last_line}
 use Rattle.md_seam.specs.Standard.Rest.{is_blank}
 use Rattle.md_seam.specs.Standard.Texts.{split_lines}
-use Rattle.md_outline.specs.ParagraphState.{begin_entries}
+use Rattle.md_outline.specs.ParagraphState.{begin_entries, text_block}
 use Rattle.md_outline.specs.TextLines.{full_entries, text_entries}
 use Rattle.md_outline.proofs.TextCuts.{piece-entries}
 
--- What was shown of a text: nothing before the first prefix in it, and then the begin of the paragraph and the lines in
+-- What was shown of a text: nothing before the first prefix in it, and then the begin of the block and the lines in
 -- front of the last prefix; what follows will be shown by its own lines.
 abbrev pub Pieces : List Entry → ℕ → List Entry → Bool → List ℕ → Type 0
 Pieces before depth lines false front = (lines ≡ before) × (front ≡ [])
@@ -67,7 +67,8 @@ pieces-next before depth lines true front piece h blank k =
 -- the last piece is shown
 pub pieces-last : (before : List Entry) (depth : ℕ) (lines : List Entry) (x : Bool) (front piece : List ℕ) →
     (not x || not (begins_with 10 piece)) ≡ true → Pieces before depth lines x front →
-    (lines ++ begin_entries depth x) ++ text_entries (depth + 1) piece ≡ before ++ entry depth word.Paragraph ∷ text_entries (depth + 1) (front ++ piece)
+    (lines ++ begin_entries depth x) ++ text_entries (depth + 1) piece
+    ≡ before ++ block_entries depth (text_block (front ++ piece))
 pieces-last before depth lines false front piece h k =
     ap (λ es. (es ++ entry depth word.Paragraph ∷ []) ++ text_entries (depth + 1) piece) k.0
     ∙ append_assoc before (entry depth word.Paragraph ∷ []) (text_entries (depth + 1) piece)

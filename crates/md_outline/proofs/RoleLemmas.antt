@@ -1,41 +1,71 @@
--- What an outline shows, role by role: what is proved by these needs to name no block.
-use Rattle.std.proofs.Common.{◌≡◌, ℕ, ◌+◌, Bool, true, not, List, ◌∷◌, refl, sym}
-use Rattle.std.specs.Prelude.{None}
+-- What is needed of the blocks that an outline shows, by the kinds of their roles.
+--
+-- What is proved by these names no block.
+use Rattle.std.proofs.Common.{◌≡◌, ℕ, ◌+◌, Bool, true, not, List, ◌∷◌, refl, sym, false, cond, length}
+use Rattle.std.specs.Prelude.{Option, Some, None, nat_lt}
 use Rattle.std.proofs.lemmas.Bool.{true≢false}
 use Rattle.md_engine.specs.declared.event.Point.{Point}
 use Rattle.md_seam.specs.declared.outline.Word.{Word}
 use Rattle.md_seam.specs.declared.outline.Word.TheVariants as word
 use Rattle.md_seam.specs.Standard.Outline.{block_entries, entry, outline}
-use Rattle.md_seam.specs.Events.Spelled.{LeafKind, fresh, AsHeading, AsMarkers, AsParagraph, Holds, IsEnding, IsPrefix, IsQuiet, OfBreak, OfHeadingAtx, OpenLeaf, Opens, QuoteShape, Reading, Shape, Tells, block_around, on_leaf, spelled}
+use Rattle.md_seam.specs.Events.Spelled.{AsDigits, AsFootnoteLabel, AsHeading, AsItemMarker, AsMarkers, AsParagraph, BreakLeaf, HeadingAtxLeaf, Holds, IsEnding, IsPrefix, IsQuiet, LeafKind, OfBreak, OfHeadingAtx, OpenLeaf, Opens, QuoteShape, Reading, Shape, Tells, Text, add_block, at_ending, block_around, fresh, named, next_line, on_leaf, on_shape, spelled, text_to}
 use Rattle.md_seam.specs.Events.Spelled as spelled
-use Rattle.md_seam.specs.Standard.Tree.{Blocks, Line}
-use Rattle.md_outline.specs.LeafStates.{LeafState, StateIsText, leaf_state, noted}
-use Rattle.md_outline.specs.Roles.{is_plain, shown_as}
-use Rattle.md_outline.specs.Outlined.{parts_exit}
-use Rattle.md_outline.specs.OutlineSteps.{OutlineState, told, told_leaf}
-use Rattle.md_outline.specs.declared.outline.leaf.Leaf.{Leaf}
-use Rattle.md_outline.specs.declared.outline.leaf.Leaf.TheVariants as leaf
-use Rattle.md_outline.specs.declared.outline.role.Purpose.{Purpose}
+use Rattle.md_seam.specs.Standard.Tree.{Block, Blocks, Line}
+use Rattle.md_outline.specs.Outlined.{begins_line, parts_exit, piece_to}
+use Rattle.md_outline.specs.ParagraphState.{text_block}
+use Rattle.md_outline.specs.Roles.{is_plain, leaf_of, noted, shown_as}
+use Rattle.md_outline.specs.declared.outline.role.Leaf.{Leaf}
+use Rattle.md_outline.specs.declared.outline.role.Leaf.TheVariants as leaf
+use Rattle.md_outline.specs.declared.outline.role.Note.{Note}
+use Rattle.md_outline.specs.declared.outline.role.Note.TheVariants as note
 use Rattle.md_outline.specs.declared.outline.role.Purpose.TheVariants as purpose
 use Rattle.md_outline.specs.declared.outline.role.Role.{Role}
 use Rattle.md_outline.specs.declared.outline.role.Role.TheVariants as role
 use Rattle.md_outline.specs.declared.outline.Span.{Span}
-use Rattle.md_outline.proofs.LeafLemmas.{LeafIs, leaf-marked, leaf-titled}
+
+-- Leaf blocks.
+
+-- those that an outline shows
+abbrev pub Knows : OpenLeaf → Type 0
+Knows BreakLeaf = Unit {0}
+Knows (HeadingAtxLeaf heading) = Unit {0}
+Knows _ = ⊥
+
+-- they stay so, whatever they are told
+pub knows-noted : (x : Note) (text : List ℕ) (leaf : OpenLeaf) → Knows leaf → Knows (noted x text leaf)
+knows-noted note.Markers text BreakLeaf k = tt
+knows-noted note.Markers text (HeadingAtxLeaf heading) k = tt
+knows-noted note.Title text BreakLeaf k = tt
+knows-noted note.Title text (HeadingAtxLeaf heading) k = tt
+knows-noted _ text _ k = absurd k
+
+-- and a line ending opens no line of them
+pub knows-line : (leaf : OpenLeaf) → Knows leaf → next_line leaf ≡ leaf
+knows-line BreakLeaf k = refl
+knows-line (HeadingAtxLeaf heading) k = refl
+knows-line _ k = absurd k
+
+-- Roles.
 
 -- A container that is shown by a word, and then by its blocks.
 pub record IsShownBy (shape : Shape) (w : Word) : Type 0 where
-  pub lines : (depth : ℕ) (here : Blocks) → block_entries depth (block_around shape here) ≡ entry depth w ∷ outline (depth + 1) here
+  pub lines : (depth : ℕ) (here : Blocks) →
+      block_entries depth (block_around shape here) ≡ entry depth w ∷ outline (depth + 1) here
 
 -- A leaf block, as it begins.
 pub record IsBegun (kind : LeafKind) (l : Leaf) : Type 0 where
-  pub same : LeafIs (leaf_state l) (fresh kind)
-  pub is_text : StateIsText (leaf_state l)
+  pub same : leaf_of l ≡ fresh kind
+  pub known : Knows (fresh kind)
 
--- A text that says something of a leaf block, and is never parted.
-pub record IsNote (x : spelled.Purpose) (y : Purpose) : Type 0 where
-  pub tree : (line : Line) (r : Reading) → spelled.told x line r ≡ on_leaf (spelled.noted x line) r
-  pub shown : (is_shown : Bool) (text : List ℕ) (s : OutlineState) → told y is_shown text s ≡ told_leaf y text s
-  pub same : (state : LeafState) (leaf : OpenLeaf) (line : Line) → LeafIs state leaf → LeafIs (noted y line.text state) (spelled.noted x line leaf)
+-- A text that is a block of its own, and may be parted.
+pub record IsBlock (x : spelled.Purpose) : Type 0 where
+  pub tree : (line : Line) (r : Reading) → spelled.told x line r ≡ add_block (text_block line.text) r
+  pub parted : (bytes : List ℕ) (p : Point) (text : Span) →
+      parts_exit bytes (Tells x) p text ≡ begins_line text (piece_to bytes p text)
+
+-- A text that tells a leaf block something, and is never parted.
+pub record IsNote (x : spelled.Purpose) (y : Note) : Type 0 where
+  pub tree : (line : Line) (r : Reading) → spelled.told x line r ≡ on_leaf (noted y line.text) r
   pub whole : (bytes : List ℕ) (p : Point) (text : Span) → parts_exit bytes (Tells x) p text ≡ not text.is_parted
 
 -- What is known of each role that an outline shows.
@@ -43,8 +73,8 @@ pub record ByRole (P : spelled.Role → Role → Type 0) : Type 0 where
   pub container : (shape : Shape) (w : Word) → IsShownBy shape w → P (Holds shape) (role.Container w)
   pub prefix : P IsPrefix role.Prefix
   pub begins : (kind : LeafKind) (l : Leaf) → IsBegun kind l → P (Opens kind) (role.Leaf l)
-  pub paragraph : P (Tells AsParagraph) (role.Text purpose.Paragraph)
-  pub note : (x : spelled.Purpose) (y : Purpose) → IsNote x y → P (Tells x) (role.Text y)
+  pub block : (x : spelled.Purpose) → IsBlock x → P (Tells x) (role.Text purpose.Block)
+  pub note : (x : spelled.Purpose) (y : Note) → IsNote x y → P (Tells x) (role.Text (purpose.Note y))
   pub ending : P IsEnding role.Quiet
   pub quiet : P IsQuiet role.Quiet
 
@@ -52,12 +82,48 @@ pub record ByRole (P : spelled.Role → Role → Type 0) : Type 0 where
 pub by-role : (P : spelled.Role → Role → Type 0) (x : spelled.Role) → ByRole P → is_plain x ≡ true → P x (shown_as x)
 by-role P (Holds QuoteShape) by h = by.container QuoteShape word.Quote (record { lines = λ depth here. refl })
 by-role P IsPrefix by h = by.prefix
-by-role P (Opens OfBreak) by h = by.begins OfBreak leaf.Break (record { same = tt; is_text = tt })
+by-role P (Opens OfBreak) by h = by.begins OfBreak leaf.Break (record { same = refl; known = tt })
 by-role P (Opens OfHeadingAtx) by h =
-    by.begins OfHeadingAtx (leaf.Heading (record { markers = 0; text = None })) (record { same = record { markers_are = refl; text_is = refl }; is_text = tt })
-by-role P (Tells AsParagraph) by h = by.paragraph
-by-role P (Tells AsMarkers) by h = by.note AsMarkers purpose.Markers (record { tree = λ line r. refl; shown = λ is_shown text s. refl; same = leaf-marked; whole = λ bytes p text. refl })
-by-role P (Tells AsHeading) by h = by.note AsHeading purpose.Title (record { tree = λ line r. refl; shown = λ is_shown text s. refl; same = leaf-titled; whole = λ bytes p text. refl })
+    by.begins OfHeadingAtx (leaf.Heading (record { markers = None; text = None })) (record { same = refl; known = tt })
+by-role P (Tells AsParagraph) by h =
+    by.block AsParagraph (record { tree = λ line r. refl; parted = λ bytes p text. refl })
+by-role P (Tells AsMarkers) by h =
+    by.note AsMarkers note.Markers (record { tree = λ line r. refl; whole = λ bytes p text. refl })
+by-role P (Tells AsHeading) by h =
+    by.note AsHeading note.Title (record { tree = λ line r. refl; whole = λ bytes p text. refl })
 by-role P IsEnding by h = by.ending
 by-role P IsQuiet by h = by.quiet
 by-role P _ by h = absurd (true≢false (sym h))
+
+-- Texts and line endings, of all roles.
+
+-- What is known of a half-read tree when it has one block more, when its innermost container is named, and when its
+-- leaf block is told something: so it is behind each text.
+pub record ByTold (P : Reading → Type 0) (r : Reading) : Type 0 where
+  pub block : (b : Block) → P (add_block b r)
+  pub named : (f : Shape → Shape) → P (record r { outer = on_shape f r.outer })
+  pub noted : (f : OpenLeaf → OpenLeaf) → P (on_leaf f r)
+
+by-told : (P : Reading → Type 0) (x : spelled.Purpose) (line : Line) (r : Reading) → ByTold P r →
+    P (spelled.told x line r)
+by-told P AsParagraph line r by = by.block (text_block line.text)
+by-told P AsDigits line r by = by.named (named AsDigits line.text)
+by-told P AsItemMarker line r by = by.named (named AsItemMarker line.text)
+by-told P AsFootnoteLabel line r by = by.named (named AsFootnoteLabel line.text)
+by-told P x line r by = by.noted (spelled.noted x line)
+
+pub by-told_at : (P : Reading → Type 0) (bytes : List ℕ) (x : spelled.Purpose) (p : Point) (text : Option Text)
+    (r : Reading) → P r → ByTold P (record r { text = None }) → P (spelled.told_at bytes x p text r)
+by-told_at P bytes x p None r none by = none
+by-told_at P bytes x p (Some text) r none by =
+    by-told P x (record { spaces = text.spaces; text = text_to bytes p.index text }) (record r { text = None }) by
+
+-- and behind a line ending, which may open a line of the leaf block
+pub by-ending : (P : Reading → Type 0) (bytes : List ℕ) (p : Point) (text : Option Text) (r : Reading) → P r →
+    P (on_leaf next_line r) → P (at_ending bytes p text r)
+by-ending P bytes p (Some text) r same next = same
+by-ending P bytes p None r same next = go (nat_lt p.index (length bytes))
+  where
+    go : (x : Bool) → P (cond x (on_leaf next_line r) r)
+    go true = next
+    go false = same

@@ -1,17 +1,25 @@
 -- How deep the headings of a tree are.
-use Rattle.std.specs.Prelude.{Bool, true, ◌&&◌, nat_le}
-use Rattle.md_seam.specs.Standard.Tree.{Block, Blocks, End, Footnote, Heading, Item, ListOf, More, Quote}
+use Rattle.std.specs.Prelude.{ℕ, Bool, true, if◌then◌else◌, nat_le, nat_lt}
+use Rattle.md_seam.specs.Events.Throughout.{all_blocks, all_within}
+use Rattle.md_seam.specs.Standard.Tree.{Block, Blocks, Heading}
 
--- whether no heading is deeper than 6 (CommonMark 4.2)
-abbrev mutual
-  pub is_shallow : Block → Bool
-  is_shallow (Heading depth lines) = nat_le depth 6
-  is_shallow (Quote blocks) = are_shallow blocks
-  is_shallow (ListOf marker items) = are_shallow items
-  is_shallow (Item marker digits blocks) = are_shallow blocks
-  is_shallow (Footnote label blocks) = are_shallow blocks
-  is_shallow _ = true
+-- whether a block is no heading deeper than 6 (CommonMark 4.2)
+abbrev pub fits : Block → Bool
+fits (Heading depth lines) = nat_le depth 6
+fits _ = true
 
-  pub are_shallow : Blocks → Bool
-  are_shallow End = true
-  are_shallow (More block blocks) = is_shallow block && are_shallow blocks
+-- so are all blocks, at any depth
+abbrev pub is_shallow : Block → Bool
+is_shallow block = all_within fits block
+
+abbrev pub are_shallow : Blocks → Bool
+are_shallow blocks = all_blocks fits blocks
+
+-- a depth as a byte has it
+abbrev pub byte_depth : ℕ → ℕ
+byte_depth depth = if nat_lt depth 256 then depth else 255
+
+-- a block as an outline shows it, whose depths are bytes
+abbrev pub fitted : Block → Block
+fitted (Heading depth lines) = Heading (byte_depth depth) lines
+fitted block = block

@@ -1,7 +1,6 @@
 pub mod Between
 pub mod HeadingDepths
 pub mod HeadingState
-pub mod LeafStates
 pub mod Outlined
 pub mod OutlineSteps
 pub mod ParagraphState

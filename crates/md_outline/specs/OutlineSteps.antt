@@ -1,18 +1,20 @@
 -- What an outline has read between two events.
 use Rattle.std.specs.Prelude.{◌≡◌, ℕ, ◌+◌, ◌-◌, ◌++◌, Bool, true, false, List, [], ◌∷◌, slice_range, Option, Some, None, option_map}
+use Rattle.std.specs.Str.{IsUtf8}
 use Rattle.md_engine.specs.declared.event.Event.{Event}
 use Rattle.md_engine.specs.declared.event.Kind.{Kind}
 use Rattle.md_engine.specs.declared.event.Kind.TheVariants.{Enter, Exit}
 use Rattle.md_engine.specs.declared.event.Point.{Point}
 use Rattle.md_seam.specs.Standard.Outline.{Entry, entries_of, entry}
+use Rattle.md_seam.specs.Events.Spelled.{OpenLeaf}
 use Rattle.md_seam.specs.Events.Spelled as spelled
 use Rattle.md_outline.specs.Between.{is_between}
-use Rattle.md_outline.specs.LeafStates.{LeafIsText, LeafState, leaf_entries, leaf_state, noted}
 use Rattle.md_outline.specs.ParagraphState.{begin_entries}
-use Rattle.md_outline.specs.Roles.{shown_as}
+use Rattle.md_outline.specs.Roles.{leaf_entries, leaf_of, noted, shown_as}
 use Rattle.md_outline.specs.TextLines.{full_entries, text_entries}
 use Rattle.md_outline.specs.declared.outline.Reading.{Reading}
 use Rattle.md_outline.specs.declared.outline.Span.{Span}
+use Rattle.md_outline.specs.declared.outline.role.Note.{Note}
 use Rattle.md_outline.specs.declared.outline.role.Purpose.{Purpose}
 use Rattle.md_outline.specs.declared.outline.role.Purpose.TheVariants as purpose
 use Rattle.md_outline.specs.declared.outline.role.Role.{Role}
@@ -21,29 +23,35 @@ use Rattle.md_outline.specs.declared.outline.role.Role.TheVariants as role
 -- What was read between two events: how many containers are open, the leaf that is, the text that is read, and the lines so far.
 pub record OutlineState : Type 0 where
   pub depth : ℕ
-  pub leaf : Option LeafState
+  pub leaf : Option OpenLeaf
   pub text : Option Span
   pub lines : List Entry
 
 abbrev pub state_of : Reading → OutlineState
-state_of r = record { depth = r.depth; leaf = option_map leaf_state r.leaf; text = r.text; lines = entries_of r.lines.items }
+state_of r = record {
+  depth = r.depth;
+  leaf = option_map leaf_of r.leaf;
+  text = r.text;
+  lines = entries_of r.lines.items;
+}
 
 -- before the first event
 abbrev pub before_all : OutlineState
 before_all = record { depth = 0; leaf = None; text = None; lines = [] }
 
-abbrev pub leaf_ended : Option LeafState → OutlineState → OutlineState
+abbrev pub leaf_ended : Option OpenLeaf → OutlineState → OutlineState
 leaf_ended None s = s
 leaf_ended (Some leaf) s = record s { leaf = None; lines = s.lines ++ leaf_entries s.depth leaf }
 
 -- an open leaf is told of a text
-abbrev pub told_leaf : Purpose → List ℕ → OutlineState → OutlineState
+abbrev pub told_leaf : Note → List ℕ → OutlineState → OutlineState
 told_leaf x text s = record s { leaf = option_map (noted x text) s.leaf }
 
 -- a text has ended, with this piece
 abbrev pub told : Purpose → Bool → List ℕ → OutlineState → OutlineState
-told purpose.Paragraph is_shown text s = record s { lines = s.lines ++ begin_entries s.depth is_shown ++ text_entries (s.depth + 1) text }
-told x is_shown text s = told_leaf x text s
+told purpose.Block is_shown text s =
+    record s { lines = s.lines ++ begin_entries s.depth is_shown ++ text_entries (s.depth + 1) text }
+told (purpose.Note x) is_shown text s = told_leaf x text s
 
 abbrev pub told_at : List ℕ → Purpose → ℕ → Option Span → OutlineState → OutlineState
 told_at bytes purpose end None s = s
@@ -60,7 +68,7 @@ parted_at bytes end (Some text) s = record s {
 abbrev pub state_enter : List ℕ → Role → Point → OutlineState → OutlineState
 state_enter bytes (role.Container word) p s = record s { depth = s.depth + 1; lines = s.lines ++ entry s.depth word ∷ [] }
 state_enter bytes role.Prefix p s = parted_at bytes p.index s.text s
-state_enter bytes (role.Leaf leaf) p s = record s { leaf = Some (leaf_state leaf) }
+state_enter bytes (role.Leaf leaf) p s = record s { leaf = Some (leaf_of leaf) }
 state_enter bytes (role.Text purpose) p s = record s { text = Some (record { from = spelled.byte_at p; is_parted = false }) }
 state_enter bytes role.Quiet p s = s
 
@@ -84,7 +92,8 @@ abbrev pub BeginsBetween : List ℕ → Option Span → Type 0
 BeginsBetween bytes None = Unit {0}
 BeginsBetween bytes (Some text) = is_between bytes text.from ≡ true
 
--- texts are cut between characters
-pub record IsCut (bytes : List ℕ) (s : OutlineState) : Type 0 where
-  pub text : BeginsBetween bytes s.text
-  pub leaf : LeafIsText s.leaf
+-- and it may be cut here: each part is UTF-8
+pub record IsCutAt (bytes : List ℕ) (text : Option Span) (end : ℕ) : Type 0 where
+  pub utf8 : IsUtf8 bytes
+  pub begins : BeginsBetween bytes text
+  pub ends : is_between bytes end ≡ true

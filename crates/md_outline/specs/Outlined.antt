@@ -1,5 +1,5 @@
--- What an outline shows: the blocks that the events of paragraphs, headings, breaks and block quotes spell out.
-use Rattle.std.specs.Prelude.{◌≡◌, ℕ, Bool, true, false, ◌||◌, ◌&&◌, not, List, [], ◌∷◌, slice_range, Option, Some, None, option_map}
+-- What an outline shows: the blocks that events of the roles that it knows (`is_plain`) spell out.
+use Rattle.std.specs.Prelude.{◌≡◌, ℕ, Bool, true, false, ◌||◌, ◌&&◌, not, if◌then◌else◌, List, [], ◌∷◌, slice_range, Option, Some, None, option_map}
 use Rattle.std.specs.List.{list_all}
 use Rattle.std.specs.Str.{IsUtf8}
 use Rattle.md_engine.specs.declared.event.Event.{Event}
@@ -12,11 +12,11 @@ use Rattle.md_seam.specs.Events.Nested.{Balanced}
 use Rattle.md_seam.specs.Standard.Outline.{entries_of, outline}
 use Rattle.md_seam.specs.Events.Places.{last_line}
 use Rattle.md_seam.specs.Standard.Rest.{is_blank}
-use Rattle.md_seam.specs.Events.Spelled.{AsParagraph, IsEnding, IsPrefix, IsQuiet, Role, Tells, byte_at, role, spelled}
+use Rattle.md_seam.specs.Events.Spelled.{IsEnding, IsPrefix, IsQuiet, Role, Tells, byte_at, role, spelled}
 use Rattle.md_seam.specs.Standard.Texts.{split_lines}
 use Rattle.md_outline.specs.Between.{is_between}
 use Rattle.md_outline.specs.HeadingDepths.{are_shallow}
-use Rattle.md_outline.specs.Roles.{is_plain, is_told}
+use Rattle.md_outline.specs.Roles.{is_block, is_plain, is_told}
 use Rattle.md_outline.specs.declared.outline.Span.{Span}
 
 -- whether an event is of such a block (`is_plain`), or of what the tree does not show
@@ -63,8 +63,8 @@ is_unparted None = true
 is_unparted (Some text) = not text.is_parted
 
 -- whether an event may stand in a text: a prefix begins where a line does, with nothing but spaces and tabs in front of it,
--- and ends between characters; no text but that of a paragraph is parted, and from its first prefix to its end nothing else
--- begins or ends that the tree shows
+-- and ends between characters; no text is parted but one that is a block, and from its first prefix to its end nothing
+-- else begins or ends that the tree shows
 abbrev pub parts_enter : List ℕ → Role → Point → Span → Bool
 parts_enter bytes IsPrefix p text = begins_line text (piece_to bytes p text) && is_blank (last_line (split_lines (piece_to bytes p text)))
 parts_enter bytes IsEnding p text = true
@@ -73,7 +73,7 @@ parts_enter bytes _ p text = not text.is_parted
 
 abbrev pub parts_exit : List ℕ → Role → Point → Span → Bool
 parts_exit bytes IsPrefix p text = is_between bytes (byte_at p)
-parts_exit bytes (Tells AsParagraph) p text = begins_line text (piece_to bytes p text)
+parts_exit bytes (Tells x) p text = if is_block x then begins_line text (piece_to bytes p text) else not text.is_parted
 parts_exit bytes IsEnding p text = true
 parts_exit bytes IsQuiet p text = true
 parts_exit bytes _ p text = not text.is_parted
@@ -88,9 +88,9 @@ abbrev pub are_parted : List ℕ → Option Span → List Event → Bool
 are_parted bytes text [] = is_unparted text
 are_parted bytes text (e ∷ es) = parts_by bytes e.kind (role e.name) e.point text && are_parted bytes (span_by e.kind (role e.name) e.point text) es
 
--- the events of breaks, headings, paragraphs and block quotes, between characters of a text
+-- events of such roles, between characters of a text
 pub record IsOutlined (events : List Event) (bytes : List ℕ) : Type 0 where
-  -- so each quote that begins ends
+  -- so each container that begins ends
   pub balanced : Balanced events
   pub names : list_all has_plain_name events ≡ true
   pub text : IsUtf8 bytes

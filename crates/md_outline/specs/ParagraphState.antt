@@ -1,8 +1,14 @@
--- What an outline shows of a paragraph in front of its lines.
+-- A text that is a block of its own, and what an outline shows of it in front of its lines.
 use Rattle.std.specs.Prelude.{ℕ, Bool, if◌then◌else◌, List, [], ◌∷◌}
 use Rattle.md_seam.specs.declared.outline.Word.TheVariants as word
 use Rattle.md_seam.specs.Standard.Outline.{Entry, entry}
+use Rattle.md_seam.specs.Standard.Texts.{split_lines, trim_each}
+use Rattle.md_seam.specs.Standard.Tree.{Block, Paragraph}
 
--- the begin of a paragraph, if it is not shown yet
+-- the block that a text is
+abbrev pub text_block : List ℕ → Block
+text_block text = Paragraph (trim_each (split_lines text))
+
+-- its begin, if it is not shown yet
 abbrev pub begin_entries : ℕ → Bool → List Entry
 begin_entries depth is_shown = if is_shown then [] else entry depth word.Paragraph ∷ []

@@ -1,9 +1,24 @@
--- The blocks that an outline shows, by what the events of their names mean.
-use Rattle.std.specs.Prelude.{Bool, true, false, None}
+-- How an outline meets blocks: what the roles of event names mean to it, and what it knows of an open leaf block.
+--
+-- A new block has its clauses in three files, here, in `outline/role.rt` and in `RoleLemmas`; what an outline knows and
+-- shows of it stands in files of its own (as `HeadingState`).
+--
+-- - A container that is shown by a word: `is_plain` and `shown_as` here, `role_of` in code, `by-role` in the lemmas.
+-- - A leaf block: the same three, and what is known of it: `leaf_of` here, `Leaf` with `noted` and `push_leaf` in code,
+--   `Knows` with its two laws in the lemmas.
+-- - A text that tells a leaf block something: the same three, and `told_as` here, `Note` in code, `knows-noted` in the
+--   lemmas.
+use Rattle.std.specs.Prelude.{ℕ, Bool, true, false, List, None}
 use Rattle.md_seam.specs.declared.outline.Word.TheVariants as word
-use Rattle.md_seam.specs.Events.Spelled.{AsHeading, AsMarkers, AsParagraph, Holds, IsEnding, IsPrefix, IsQuiet, OfBreak, OfHeadingAtx, Opens, QuoteShape, Tells}
+use Rattle.md_seam.specs.Standard.Outline.{Entry, block_entries}
+use Rattle.md_seam.specs.Events.Spelled.{AsHeading, AsMarkers, AsParagraph, BreakLeaf, HeadingAtxLeaf, Holds, IsEnding, IsPrefix, IsQuiet, OfBreak, OfHeadingAtx, OpenLeaf, Opens, QuoteShape, Tells, block_of}
 use Rattle.md_seam.specs.Events.Spelled as spelled
-use Rattle.md_outline.specs.declared.outline.leaf.Leaf.TheVariants as leaf
+use Rattle.md_outline.specs.HeadingDepths.{fitted}
+use Rattle.md_outline.specs.HeadingState.{heading_of}
+use Rattle.md_outline.specs.declared.outline.role.Leaf.{Leaf}
+use Rattle.md_outline.specs.declared.outline.role.Leaf.TheVariants as leaf
+use Rattle.md_outline.specs.declared.outline.role.Note.{Note}
+use Rattle.md_outline.specs.declared.outline.role.Note.TheVariants as note
 use Rattle.md_outline.specs.declared.outline.role.Purpose.TheVariants as purpose
 use Rattle.md_outline.specs.declared.outline.role.Role.{Role}
 use Rattle.md_outline.specs.declared.outline.role.Role.TheVariants as role
@@ -26,13 +41,35 @@ abbrev pub is_told : spelled.Role → Bool
 is_told (Tells purpose) = true
 is_told _ = false
 
+-- the texts that are blocks of their own
+abbrev pub is_block : spelled.Purpose → Bool
+is_block AsParagraph = true
+is_block _ = false
+
 -- what the events of a name mean to an outline
 abbrev pub shown_as : spelled.Role → Role
 shown_as (Holds QuoteShape) = role.Container word.Quote
 shown_as IsPrefix = role.Prefix
 shown_as (Opens OfBreak) = role.Leaf leaf.Break
-shown_as (Opens OfHeadingAtx) = role.Leaf (leaf.Heading (record { markers = 0; text = None }))
-shown_as (Tells AsParagraph) = role.Text purpose.Paragraph
-shown_as (Tells AsMarkers) = role.Text purpose.Markers
-shown_as (Tells AsHeading) = role.Text purpose.Title
+shown_as (Opens OfHeadingAtx) = role.Leaf (leaf.Heading (record { markers = None; text = None }))
+shown_as (Tells AsParagraph) = role.Text purpose.Block
+shown_as (Tells AsMarkers) = role.Text (purpose.Note note.Markers)
+shown_as (Tells AsHeading) = role.Text (purpose.Note note.Title)
 shown_as _ = role.Quiet
+
+-- what is known of a leaf block, as the tree has it
+abbrev pub leaf_of : Leaf → OpenLeaf
+leaf_of leaf.Break = BreakLeaf
+leaf_of (leaf.Heading heading) = HeadingAtxLeaf (heading_of heading)
+
+-- what a text tells a leaf block, as the tree reads it
+abbrev pub told_as : Note → spelled.Purpose
+told_as note.Markers = AsMarkers
+told_as note.Title = AsHeading
+
+abbrev pub noted : Note → List ℕ → OpenLeaf → OpenLeaf
+noted x text leaf = spelled.noted (told_as x) (record { spaces = 0; text = text }) leaf
+
+-- the lines of a leaf block that ends here
+abbrev pub leaf_entries : ℕ → OpenLeaf → List Entry
+leaf_entries depth leaf = block_entries depth (fitted (block_of leaf))

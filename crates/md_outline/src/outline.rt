@@ -1,25 +1,20 @@
 // The outline of a text: its blocks and their lines, from the first to the last.
 
 ghost use Rattle.std.specs.Prelude.{◌≡◌, true, Option, option_map, IfOk, OnOk};
-ghost use Rattle.std.specs.Str.{IsUtf8};
 ghost use Rattle.md_seam.specs.Events.Spelled as spelled;
-ghost use Rattle.md_outline.specs.Between.{is_between};
-ghost use Rattle.md_outline.specs.LeafStates.{LeafIsText};
 ghost use Rattle.md_outline.specs.Outlined.{Outlines};
-ghost use Rattle.md_outline.specs.OutlineSteps.{BeginsBetween, IsCut, leaf_ended, parted_at, state_by, state_enter, state_exit, state_of, told_at, told_leaf};
+ghost use Rattle.md_outline.specs.OutlineSteps.{IsCutAt, leaf_ended, parted_at, state_by, state_enter, state_exit, state_of, told_at, told_leaf};
 ghost use Rattle.md_outline.specs.Roles.{shown_as};
 ghost use Rattle.md_outline.specs.declared.outline.Span.{Span};
 
 mod heading;
-mod leaf;
 mod lines;
 mod paragraph;
 mod role;
 
-use crate::outline::leaf::{Leaf, push_leaf};
-use crate::outline::lines::{next, part, push};
-use crate::outline::paragraph::{push_paragraph, push_piece};
-use crate::outline::role::{Purpose, Role, role_of};
+use crate::outline::lines::{next, part, push, text_of};
+use crate::outline::paragraph::{push_block, push_piece};
+use crate::outline::role::{Leaf, Note, Purpose, Role, push_leaf, role_of};
 use md_engine::event::{Event, Kind, Point};
 use md_engine::message::Message;
 use md_engine::parse_state::ParseState;
@@ -59,19 +54,19 @@ fn byte_at(point: Point) -> Result<usize, Message>
 
 impl<'a> Reading<'a> {
     /// Tells an open leaf of a text.
-    fn note(&mut self, purpose: Purpose, text: &'a [u8])
+    fn note(&mut self, note: Note, text: &'a str)
         ensures bytes { self.new.bytes ≡ self.old.bytes }
-        ensures read { state_of self.new ≡ told_leaf purpose text.now (state_of self.old) }
+        ensures read { state_of self.new ≡ told_leaf note text.now (state_of self.old) }
     {
         if let Some(leaf) = self.leaf {
-            self.leaf = Some(leaf.noted(purpose, text));
+            self.leaf = Some(leaf.noted(note, text));
         }
     }
 
     /// Adds the leaf that ends here, if one is open.
     fn end_leaf(&mut self) -> Result<(), Message>
         ensures bytes { self.new.bytes ≡ self.old.bytes }
-        ensures read { OnOk result (LeafIsText (state_of self.old).leaf → state_of self.new ≡ leaf_ended (state_of self.old).leaf (state_of self.old)) }
+        ensures read { OnOk result (state_of self.new ≡ leaf_ended (state_of self.old).leaf (state_of self.old)) }
     {
         let Some(leaf) = self.leaf else {
             return Ok(());
@@ -83,7 +78,7 @@ impl<'a> Reading<'a> {
     /// Reads the text that ends here, if one is read.
     fn end_text(&mut self, purpose: Purpose, end: usize) -> Result<(), Message>
         ensures bytes { self.new.bytes ≡ self.old.bytes }
-        ensures read { OnOk result (IsUtf8 self.old.bytes.now → BeginsBetween self.old.bytes.now self.old.text → is_between self.old.bytes.now end ≡ true →
+        ensures read { OnOk result (IsCutAt self.old.bytes.now self.old.text end →
             state_of self.new ≡ told_at self.old.bytes.now purpose end self.old.text (state_of self.old)) }
     {
         let Some(span) = self.text else {
@@ -92,11 +87,9 @@ impl<'a> Reading<'a> {
         self.text = None;
         let text = part(self.bytes, span.from, end);
         match purpose {
-            Purpose::Paragraph => {
-                push_paragraph(&mut self.lines, self.depth, span.is_parted, text)
-            }
-            _ => {
-                self.note(purpose, text);
+            Purpose::Block => push_block(&mut self.lines, self.depth, span.is_parted, text),
+            Purpose::Note(note) => {
+                self.note(note, text_of(text));
                 Ok(())
             }
         }
@@ -105,7 +98,7 @@ impl<'a> Reading<'a> {
     /// Shows what stands in front of a prefix in the text that is read, if one is.
     fn part_text(&mut self, end: usize) -> Result<(), Message>
         ensures bytes { self.new.bytes ≡ self.old.bytes }
-        ensures read { OnOk result (IsUtf8 self.old.bytes.now → BeginsBetween self.old.bytes.now self.old.text → is_between self.old.bytes.now end ≡ true →
+        ensures read { OnOk result (IsCutAt self.old.bytes.now self.old.text end →
             state_of self.new ≡ parted_at self.old.bytes.now end self.old.text (state_of self.old)) }
     {
         let Some(span) = self.text else {
@@ -135,7 +128,7 @@ impl<'a> Reading<'a> {
     /// Reads an event that begins a part.
     fn enter(&mut self, role: Role<'a>, point: Point) -> Result<(), Message>
         ensures bytes { self.new.bytes ≡ self.old.bytes }
-        ensures read { OnOk result (IsUtf8 self.old.bytes.now → IsCut self.old.bytes.now (state_of self.old) → is_between self.old.bytes.now point.index ≡ true →
+        ensures read { OnOk result (IsCutAt self.old.bytes.now self.old.text point.index →
             state_of self.new ≡ state_enter self.old.bytes.now role.entry point (state_of self.old)) }
     {
         match role {
@@ -159,7 +152,7 @@ impl<'a> Reading<'a> {
     /// Reads an event that ends a part.
     fn exit(&mut self, role: Role<'a>, point: Point) -> Result<(), Message>
         ensures bytes { self.new.bytes ≡ self.old.bytes }
-        ensures read { OnOk result (IsUtf8 self.old.bytes.now → IsCut self.old.bytes.now (state_of self.old) → is_between self.old.bytes.now point.index ≡ true →
+        ensures read { OnOk result (IsCutAt self.old.bytes.now self.old.text point.index →
             state_of self.new ≡ state_exit self.old.bytes.now role.entry point (state_of self.old)) }
     {
         match role {
@@ -180,7 +173,7 @@ impl<'a> Reading<'a> {
     /// Reads the next event.
     fn read(&mut self, event: &Event) -> Result<(), Message>
         ensures bytes { self.new.bytes ≡ self.old.bytes }
-        ensures read { OnOk result (IsUtf8 self.old.bytes.now → IsCut self.old.bytes.now (state_of self.old) → is_between self.old.bytes.now event.now.point.index ≡ true →
+        ensures read { OnOk result (IsCutAt self.old.bytes.now self.old.text event.now.point.index →
             state_of self.new ≡ state_by self.old.bytes.now event.now.kind (shown_as (spelled.role event.now.name)) event.now.point (state_of self.old)) }
     {
         let role = role_of(event.name);

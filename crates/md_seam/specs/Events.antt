@@ -15,4 +15,5 @@ pub mod Endings
 pub mod Prefix
 pub mod Tiles
 pub mod Spelled
+pub mod Throughout
 pub mod On

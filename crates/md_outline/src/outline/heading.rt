@@ -1,8 +1,9 @@
 // What an outline knows of a heading that is open, and what it shows of it.
 
-ghost use Rattle.std.specs.Prelude.{◌≡◌, ◌++◌, OnOk};
+ghost use Rattle.std.specs.Prelude.{◌≡◌, ◌++◌, length, OnOk};
 ghost use Rattle.md_seam.specs.Standard.Outline.{entries_of};
-ghost use Rattle.md_outline.specs.HeadingState.{IsText, heading_entries, heading_state, marked, titled};
+ghost use Rattle.md_seam.specs.Events.Spelled.{with_text};
+ghost use Rattle.md_outline.specs.HeadingState.{heading_entries, heading_of, with_markers};
 
 use crate::outline::lines::{next, push, push_lines};
 use md_engine::message::Message;
@@ -11,38 +12,46 @@ use md_seam::outline::{OutlineLine, Word};
 /// A heading that is open.
 #[derive(Clone, Copy)]
 pub struct Heading<'a> {
-    /// How many markers the first run has; 0 before it.
-    pub markers: usize,
-    pub text: Option<&'a [u8]>,
+    /// The first run of its markers.
+    pub markers: Option<&'a str>,
+    pub text: Option<&'a str>,
 }
 
 impl<'a> Heading<'a> {
-    /// Takes a run of so many markers: the first gives it its depth.
-    pub fn marked(self, count: usize) -> Heading<'a>
-        ensures { heading_state result ≡ marked count (heading_state self.entry) }
+    /// How many markers it has.
+    pub fn level(self) -> usize
+        ensures { result ≡ length (heading_of self.entry).markers }
     {
-        match self {
-            Heading { markers: 0, text } => Heading {
-                markers: count,
-                text,
-            },
-            _ => self,
+        match self.markers {
+            Some(markers) => markers.len(),
+            None => 0,
+        }
+    }
+
+    /// Takes a run of markers: the first gives it its depth.
+    pub fn marked(self, run: &'a str) -> Heading<'a>
+        ensures { heading_of result ≡ with_markers run.now (heading_of self.entry) }
+    {
+        if self.level() == 0 {
+            Heading {
+                markers: Some(run),
+                text: self.text,
+            }
+        } else {
+            self
         }
     }
 
     /// Takes a text: the heading has the first.
-    pub fn titled(self, text: &'a [u8]) -> Heading<'a>
-        ensures { heading_state result ≡ titled text.now (heading_state self.entry) }
+    pub fn titled(self, text: &'a str) -> Heading<'a>
+        ensures { heading_of result ≡ with_text text.now (heading_of self.entry) }
     {
-        match self {
-            Heading {
-                markers,
-                text: None,
-            } => Heading {
-                markers,
+        match self.text {
+            None => Heading {
+                markers: self.markers,
                 text: Some(text),
             },
-            _ => self,
+            Some(_) => self,
         }
     }
 }
@@ -53,12 +62,12 @@ pub fn push_heading<'a>(
     depth: usize,
     heading: Heading<'a>,
 ) -> Result<(), Message>
-    ensures { OnOk result (IsText (heading_state heading.entry).text → entries_of lines.new.items ≡ entries_of lines.old.items ++ heading_entries depth (heading_state heading.entry)) }
+    ensures { OnOk result (entries_of lines.new.items ≡ entries_of lines.old.items ++ heading_entries depth (heading_of heading.entry)) }
 {
-    let level = u8::try_from(heading.markers).unwrap_or(u8::MAX);
+    let level = u8::try_from(heading.level()).unwrap_or(u8::MAX);
     push(lines, depth, Word::Heading(level), "")?;
     match heading.text {
-        Some(text) => push_lines(lines, next(depth)?, text),
+        Some(text) => push_lines(lines, next(depth)?, text.as_bytes()),
         None => Ok(()),
     }
 }

@@ -67,13 +67,19 @@ pub fn part(bytes: &[u8], first: usize, end: usize) -> &[u8]
     if first < end { &bytes[first..end] } else { &[] }
 }
 
-/// The text of a line after the spaces and tabs in front of it. A text is cut only beside bytes of ASCII, so that each line
-/// is UTF-8.
+/// The text that these bytes are. A text is cut only beside bytes of ASCII, so that each part of it is UTF-8.
+pub fn text_of(bytes: &[u8]) -> &str
+    ensures { IsUtf8 bytes.now → result.now ≡ bytes.now }
+{
+    str::from_utf8(bytes).unwrap_or("")
+}
+
+/// The text of a line after the spaces and tabs in front of it.
 pub fn line_text(line: &[u8]) -> &str
     ensures { IsUtf8 line.now → result.now ≡ trim_start line.now }
 {
     let (_, rest) = line.split_at(white_len(line));
-    str::from_utf8(rest).unwrap_or("")
+    text_of(rest)
 }
 
 /// Adds a line to an outline.

@@ -1,4 +1,4 @@
-// What an outline shows of a paragraph.
+// A text that is a block of its own, a paragraph: what an outline shows of it.
 
 ghost use Rattle.std.specs.Prelude.{◌≡◌, ◌+◌, ◌++◌, OnOk};
 ghost use Rattle.std.specs.Str.{IsUtf8};
@@ -10,7 +10,7 @@ use crate::outline::lines::{next, push, push_full_lines, push_lines};
 use md_engine::message::Message;
 use md_seam::outline::{OutlineLine, Word};
 
-/// Adds the begin of a paragraph, if it is not shown yet.
+/// Adds the begin of the block, if it is not shown yet.
 pub fn push_begin<'a>(
     lines: &mut Vec<OutlineLine<'a>>,
     depth: usize,
@@ -25,8 +25,8 @@ pub fn push_begin<'a>(
     }
 }
 
-/// Adds what a paragraph ends with.
-pub fn push_paragraph<'a>(
+/// Adds what it ends with.
+pub fn push_block<'a>(
     lines: &mut Vec<OutlineLine<'a>>,
     depth: usize,
     is_shown: bool,
@@ -38,7 +38,7 @@ pub fn push_paragraph<'a>(
     push_lines(lines, next(depth)?, text)
 }
 
-/// Adds what stands in a paragraph in front of a prefix.
+/// Adds what stands in it in front of a prefix.
 pub fn push_piece<'a>(
     lines: &mut Vec<OutlineLine<'a>>,
     depth: usize,

@@ -1,22 +1,38 @@
-// What the events of a name mean to an outline: the blocks that it shows.
+// How an outline meets blocks: what the events of a name mean to it, and what it knows and shows of a leaf block.
 
-ghost use Rattle.std.specs.Prelude.{◌≡◌};
+ghost use Rattle.std.specs.Prelude.{◌≡◌, ◌++◌, OnOk};
+ghost use Rattle.md_seam.specs.Standard.Outline.{entries_of};
 ghost use Rattle.md_seam.specs.Events.Spelled as spelled;
-ghost use Rattle.md_outline.specs.Roles.{shown_as};
+ghost use Rattle.md_outline.specs.Roles.{leaf_entries, leaf_of, noted, shown_as};
 
-use crate::outline::heading::Heading;
-use crate::outline::leaf::Leaf;
+use crate::outline::heading::{Heading, push_heading};
+use crate::outline::lines::push;
 use md_engine::event::Name;
-use md_seam::outline::Word;
+use md_engine::message::Message;
+use md_seam::outline::{OutlineLine, Word};
 
-/// What a text is read as.
+/// What a text tells the leaf block that it stands in.
 #[derive(Clone, Copy)]
-pub enum Purpose {
-    Paragraph,
+pub enum Note {
     /// A run of markers.
     Markers,
     /// The text of a heading.
     Title,
+}
+
+/// What a text is read as.
+#[derive(Clone, Copy)]
+pub enum Purpose {
+    /// A block of its own, shown with its lines as they come.
+    Block,
+    Note(Note),
+}
+
+/// A leaf block that is open, with what it was told.
+#[derive(Clone, Copy)]
+pub enum Leaf<'a> {
+    Break,
+    Heading(Heading<'a>),
 }
 
 /// What the events of a name mean to an outline.
@@ -41,16 +57,43 @@ pub fn role_of<'a>(name: Name) -> Role<'a>
         Name::BlockQuotePrefix => Role::Prefix,
         Name::ThematicBreak => Role::Leaf(Leaf::Break),
         Name::HeadingAtx => Role::Leaf(Leaf::Heading(Heading {
-            markers: 0,
+            markers: None,
             text: None,
         })),
-        Name::Paragraph => Role::Text(Purpose::Paragraph),
+        Name::Paragraph => Role::Text(Purpose::Block),
         Name::FrontmatterSequence
         | Name::HeadingAtxSequence
         | Name::HeadingSetextUnderlineSequence
         | Name::CodeFencedFenceSequence
-        | Name::MathFlowFenceSequence => Role::Text(Purpose::Markers),
-        Name::HeadingAtxText | Name::HeadingSetextText => Role::Text(Purpose::Title),
+        | Name::MathFlowFenceSequence => Role::Text(Purpose::Note(Note::Markers)),
+        Name::HeadingAtxText | Name::HeadingSetextText => Role::Text(Purpose::Note(Note::Title)),
         _ => Role::Quiet,
+    }
+}
+
+impl<'a> Leaf<'a> {
+    /// The leaf behind a text that tells it this.
+    pub fn noted(self, note: Note, text: &'a str) -> Leaf<'a>
+        ensures { leaf_of result ≡ noted note text.now (leaf_of self.entry) }
+    {
+        match (self, note) {
+            (Leaf::Heading(heading), Note::Markers) => Leaf::Heading(heading.marked(text)),
+            (Leaf::Heading(heading), Note::Title) => Leaf::Heading(heading.titled(text)),
+            (Leaf::Break, _) => Leaf::Break,
+        }
+    }
+}
+
+/// Adds a leaf block.
+pub fn push_leaf<'a>(
+    lines: &mut Vec<OutlineLine<'a>>,
+    depth: usize,
+    leaf: Leaf<'a>,
+) -> Result<(), Message>
+    ensures { OnOk result (entries_of lines.new.items ≡ entries_of lines.old.items ++ leaf_entries depth (leaf_of leaf.entry)) }
+{
+    match leaf {
+        Leaf::Break => push(lines, depth, Word::Break, ""),
+        Leaf::Heading(heading) => push_heading(lines, depth, heading),
     }
 }

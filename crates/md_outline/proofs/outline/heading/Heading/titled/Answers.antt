@@ -1,0 +1,15 @@
+use Rattle.std.proofs.Common.{◌∙◌, ℕ, List, ap, sym}
+use Rattle.md_seam.specs.Events.Spelled.{HeadingSoFar, first_told}
+use Rattle.md_seam.specs.Standard.Texts.{split_lines, trim_each}
+use Rattle.md_outline.specs.HeadingState.{heading_of, title_lines}
+use Rattle.md_outline.proofs.HeadingLemmas.{title-stands}
+use Rattle.md_outline.proofs.outline.heading.Heading.titled.Goals as goal
+
+pub returns-in-Some : goal.returns-in-Some
+returns-in-Some c =
+    let now : List (List ℕ) = trim_each (split_lines c.args.text.now) in
+    let with_lines : List (List ℕ) → HeadingSoFar = λ lines. record (heading_of c.args.self) { text = lines } in
+    ap with_lines
+    (ap title_lines c.in-Some.is
+    ∙ sym (title-stands c.in-Some.field-0.now now)
+    ∙ sym (ap (λ t. first_told (title_lines t) now) c.in-Some.is))
