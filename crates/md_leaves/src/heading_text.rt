@@ -262,6 +262,3 @@ pub fn put_texts(alloc: Global, events: &[Event]) -> Result<Vec<Event>, Message>
     }
     walk.finish()
 }
-
-#[cfg(test)]
-mod tests;

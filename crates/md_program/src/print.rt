@@ -136,6 +136,3 @@ fn push_labels(text: &mut String, name: &str, labels: &[String]) -> Result<(), A
     }
     Ok(())
 }
-
-#[cfg(test)]
-mod tests;

@@ -71,6 +71,3 @@ fn whole_output<P: Printing, R: Read>(
     let output = P::output(alloc, text, options(set))?;
     Ok(output)
 }
-
-#[cfg(test)]
-mod tests;

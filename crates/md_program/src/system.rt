@@ -22,6 +22,3 @@ pub fn arguments<S: Env + AllocGlobal>(system: &S) -> Result<Vec<String>, Failur
         Err(_) => Err(Failure::UnknownArgument),
     }
 }
-
-#[cfg(test)]
-mod tests;

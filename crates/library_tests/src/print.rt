@@ -1,6 +1,6 @@
 // The printed form of each word, of virtual spaces and of labels.
-use super::print;
-use crate::body::Outlined;
+use md_program::body::Outlined;
+use md_program::print::print;
 use md_seam::outline::{OutlineLine, Word};
 use std::test::Fail;
 
@@ -46,17 +46,24 @@ fn prints_each_word(rt: HostRuntime) -> Result<(), Fail> {
         (Word::Cell, "cell | \n"),
     ];
     for (word, printed) in cases {
-        let mut text = String::new(rt.alloc());
-        super::push_line(
-            &mut text,
-            &OutlineLine {
+        let lines = vec![in rt.alloc();
+            OutlineLine {
                 depth: 0,
                 word,
                 spaces: 0,
                 text: "",
             },
-        )?;
-        assert_eq!(rt; text.as_str(), printed);
+        ]?;
+        let outlined = Outlined {
+            lines,
+            definitions: Vec::new(rt.alloc()),
+            footnotes: Vec::new(rt.alloc()),
+        };
+        let text = print(rt.alloc(), &outlined)?;
+        assert_eq!(rt;
+            text.as_str().strip_prefix(printed),
+            Some("\ndefinitions 0\nfootnotes 0\n")
+        );
     }
     Ok(())
 }

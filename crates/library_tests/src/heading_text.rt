@@ -1,8 +1,8 @@
 // The text of a heading, on events as the states add them.
 
-use super::put_texts;
 use md_engine::event::{Content, Event, Kind, Link, Name, Point};
 use md_engine::message::Message;
+use md_leaves::heading_text::put_texts;
 use std::alloc::{AllocError, Global};
 use std::process::Abort;
 

@@ -1,6 +1,6 @@
 // Arguments of a system that is made up.
-use super::arguments;
-use crate::failure::Failure;
+use md_program::failure::Failure;
+use md_program::system::arguments;
 use std::env::{Env, FillError};
 use std::test::Fail;
 

@@ -1,11 +1,11 @@
 // Runs over readers and writers that fail, and over a body that takes every line as a line of one paragraph.
 ghost use Rattle.std.specs.Prelude.{◌≤◌};
 
-use super::run;
-use crate::body::{Body, Outlined};
-use crate::printing::OutlineOf;
 use md_engine::configuration::ParseOptions;
 use md_engine::message::Message;
+use md_program::body::{Body, Outlined};
+use md_program::printing::OutlineOf;
+use md_program::run::run;
 use md_seam::outline::{OutlineLine, Word};
 use std::alloc::{AllocError, Global};
 use std::io;
