@@ -13,6 +13,7 @@ pub mod Pieces
 pub mod Places
 pub mod Plain
 pub mod Registers
+pub mod Runs
 pub mod Spelled
 pub mod Texts
 pub mod Tiled

@@ -21,6 +21,7 @@ pub mod RestFacts
 pub mod ChunkFacts
 pub mod LeafFacts
 pub mod LeafLaws
+pub mod LeafStarts
 pub mod FrontFacts
 pub mod ContainerNames
 pub mod CollectFacts

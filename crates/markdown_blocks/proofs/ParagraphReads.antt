@@ -240,21 +240,23 @@ skip-here w p e = go (w.point.line == p.line) (nat_le w.point.index p.index)
 skip-later : (w : World) (p : Point) → w.point.line < p.line → (skipping w p).point ≡ w.point
 skip-later w p lt = let other : (w.point.line == p.line) ≡ false = grind (arith, nat_tests) in rw other refl
 
-skips-later : (options : ParseOptions) (bytes : List ℕ) (w : World) (row : Row) (rows : List Row) → AreLines options bytes row rows → w.point.line < row.first.line → (skipping_all w (chunks_of row rows)).point ≡ w.point
-skips-later options bytes w row [] h lt = skip-later w row.first lt
-skips-later options bytes w row (next ∷ rows) h lt =
-    let stays = skip-later w row.first lt in
-    let same = ap (λ (p : Point). p.line) stays in
+-- the lines of a text are skipped as its first is
+skips-first : (options : ParseOptions) (bytes : List ℕ) (w : World) (row : Row) (rows : List Row) → AreLines options bytes row rows →
+    (skipping w row.first).point.line ≤ row.first.line → (skipping_all w (chunks_of row rows)).point ≡ (skipping w row.first).point
+skips-first options bytes w row [] h le = refl
+skips-first options bytes w row (next ∷ rows) h le =
     let number = next-line options bytes row next rows h in
-    skips-later options bytes (skipping w row.first) next rows h.7 (omega arith) ∙ stays
+    let v : World = skipping w row.first in
+    let stays : (skipping v next.first).point ≡ v.point = skip-later v next.first (omega (arith, le, number)) in
+    let lines : (skipping v next.first).point.line ≤ next.first.line = subst (λ (p : Point). p.line ≤ next.first.line) (sym stays) (omega (arith, le, number)) in
+    skips-first options bytes v next rows h.7 lines ∙ stays
 
-skips-here : (options : ParseOptions) (bytes : List ℕ) (w : World) (row : Row) (rows : List Row) → AreLines options bytes row rows → w.point ≡ row.first → (skipping_all w (chunks_of row rows)).point ≡ row.first
-skips-here options bytes w row [] h e = skip-here w row.first e
-skips-here options bytes w row (next ∷ rows) h e =
-    let stays = skip-here w row.first e in
-    let same = ap (λ (p : Point). p.line) stays in
-    let number = next-line options bytes row next rows h in
-    skips-later options bytes (skipping w row.first) next rows h.7 (omega arith) ∙ stays
+skips-here : (options : ParseOptions) (bytes : List ℕ) (w : World) (row : Row) (rows : List Row) → AreLines options bytes row rows → w.point ≡ row.first →
+    (skipping_all w (chunks_of row rows)).point ≡ row.first
+skips-here options bytes w row rows h e =
+    let here = skip-here w row.first e in
+    let line = ap (λ (p : Point). p.line) here in
+    skips-first options bytes w row rows h (omega (arith, line)) ∙ here
 
 abbrev begins : List Chunk → List Point
 begins [] = []

@@ -16,6 +16,7 @@ use Rattle.md_seam.specs.declared.inline.Chunk.{Chunk}
 use Rattle.md_seam.specs.Events.Nested.{around, enter, enter_link, exit}
 use Rattle.md_seam.specs.Substituted.{Readings, belongs, Substituted, chunk_of, chunks_behind, share, wanted, wanted_at}
 use Rattle.md_seam.specs.Events.Prefix.{is_prefix}
+use Rattle.md_seam.proofs.SubstitutedLemmas.{SubstitutedBy}
 use Rattle.markdown_blocks.specs.Rows.{Row, behind_row, chunks_of}
 use Rattle.markdown_blocks.specs.Unread.{linked_lines}
 use Rattle.markdown_blocks.proofs.EachEvent.{Each, each-append, each-drop, each-take}
@@ -38,21 +39,6 @@ no_link-unwanted wants e h = go e.kind e.link h
 pub no_links-unwanted : (wants : Content → Bool) (es : List Event) → NoLinks es → Unwanted wants es
 no_links-unwanted wants [] h = tt
 no_links-unwanted wants (e ∷ es) h = (no_link-unwanted wants e h.0, no_links-unwanted wants es h.1)
-
--- what stands in the places of parts, by what the first event begins
-abbrev SubstitutedBy : (Content → Bool) → Readings → List Event → ℕ → Event → Event → List Event → List Event → Option Content → Type 0
-SubstitutedBy wants reads left chunks e f es out x = elim x [
-  | None ↦ (rest : List Event) × (is : out ≡ e ∷ rest) × Substituted wants reads left chunks (f ∷ es) rest
-  | Some content ↦ elim chunks [
-    | zero ↦
-        (answer rest : List Event) × (read : reads content (chunk_of e f ∷ chunks_behind wants es) answer)
-        × (is : out ≡ take (share (length (chunks_behind wants es)) answer f.point.index) answer ++ rest)
-        × Substituted wants reads (drop (share (length (chunks_behind wants es)) answer f.point.index) answer) (length (chunks_behind wants es)) es rest
-    | suc more ↦
-        (rest : List Event) × (is : out ≡ take (share more left f.point.index) left ++ rest)
-        × Substituted wants reads (drop (share more left f.point.index) left) more es rest
-  ]
-]
 
 passes-one : (wants : Content → Bool) (reads : Readings) (left : List Event) (chunks : ℕ) (e : Event) (es out : List Event) → wanted wants e ≡ None → Substituted wants reads left chunks (e ∷ es) out →
     (rest : List Event) × (is : out ≡ e ∷ rest) × Substituted wants reads left chunks es rest

@@ -10,24 +10,27 @@ use Rattle.md_engine.specs.World.{Setting, World, looks}
 use Rattle.md_engine.proofs.Falls.{later, later_at, seen_grows}
 use Rattle.md_engine.proofs.Local.{accepts, consumes, refuses, turns}
 use Rattle.md_engine.proofs.Points.{cells-grow, stays, takes}
-use Rattle.md_leaves.specs.Break.{at_break_code, before_code, break_ready, break_scheme, break_transition, is_marker, sequence_code, start_code, without_marker}
-use Rattle.md_seam.specs.Spaces.{IsRest, calmed, is_current, rest_ready, sees_white, small_indent, any_size}
+use Rattle.md_leaves.specs.Break.{at_break_code, before_code, break_ready, break_scheme, break_transition, is_marker, sequence_code, without_marker}
+use Rattle.md_seam.specs.Spaces.{IsRest, calmed, is_current, rest_ready, sees_white, any_size}
 use Rattle.md_seam.specs.Transition.{entered, exited}
-use Rattle.md_seam.proofs.SpacesGoods.{Does, WhiteFits, rest-calm, rest-none, rest-size, seen-in, white_try}
+use Rattle.md_leaves.proofs.LeafStart.{FitsStart, good-start}
+use Rattle.md_seam.proofs.SpacesGoods.{Does, WhiteFits, rest-size, seen-in, white_try}
 
 pub record BreakFits (T : Scheme) : Type 1 where
   pub white : WhiteFits T
   pub each : (state : BreakState) → Fits T break_scheme (n.ThematicBreak state)
 
-good_start : (T : Scheme) (w : World) (x y : Bool) → BreakFits T → rest_ready (spot w) (after_all T w.frames) →
-    Does T (n.ThematicBreak its.Start) w (start_code w x y)
-good_start T w false y has r =
-    (refuses T _ w _ _ w.events w.scratch r.1 r.0, refl)
-good_start T w true true has r =
-    white_try T break_scheme _ (n.ThematicBreak its.Before) w (entered w parts.ThematicBreak).events w.scratch 0 (small_indent w.setting.options) IsRest IsRest has.white (has.each its.Start) (has.each its.Before) (rest-none w.scratch r.0) (λ some. rest-calm w.scratch r.0) r.1
-    (λ q t up way. (rest-calm w.scratch r.0, later_at _ _ (spot w) _ q t _ up way r.1)) (omega arith) (omega arith) (λ t up. omega arith) (omega arith)
-good_start T w true false has r =
-    (turns T break_scheme _ _ w (entered w parts.ThematicBreak).events w.scratch (has.each its.Start) (has.each its.Before) r (omega arith) (omega arith), refl)
+break-starts : (T : Scheme) → BreakFits T → FitsStart T break_scheme (n.ThematicBreak its.Start) (n.ThematicBreak its.Before)
+break-starts T has = record {
+  white = has.white;
+  start_fits = has.each its.Start;
+  next_fits = has.each its.Before;
+  ready = λ x K r. r;
+  level = omega arith;
+  some = omega arith;
+  falls = λ x. omega arith;
+  tries = λ x. omega arith;
+}
 
 -- with a marker taken back a scratch at rest is at rest
 marked-rest : (s : Scratch) (b : ℕ) → IsRest s → IsRest (without_marker (record s { marker = b }))
@@ -101,7 +104,7 @@ good_sequence T w false false has r e k =
 pub break_does : (T : Scheme) (state : BreakState) (w : World) → BreakFits T → w.current ≡ looks w →
     break_ready (n.ThematicBreak state) (spot w) (after_all T w.frames) →
     Does T (n.ThematicBreak state) w (break_transition state w)
-break_does T its.Start w has c r = good_start T w _ _ has r
+break_does T its.Start w has c r = good-start T break_scheme parts.ThematicBreak _ _ w _ _ (break-starts T has) r
 break_does T its.Before w has c r = good_before T w w.current has r
 break_does T its.AtBreak w has c r = good_at_break T w _ _ has r (ap (is_current w.scratch.marker) (sym c))
 break_does T its.Sequence w has c r =

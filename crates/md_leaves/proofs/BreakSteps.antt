@@ -15,17 +15,17 @@ use Rattle.md_engine.specs.Meaning.{Accepts, Behaviour, Cell, Feed, Here, Refuse
 use Rattle.md_engine.specs.Scheme.{After, spot}
 use Rattle.md_engine.specs.World.{World, after}
 use Rattle.md_engine.proofs.StepOf.{Sees, ahead, begins, cell_here, moves, passes}
-use Rattle.md_leaves.specs.Break.{at_break_code, before_code, break_ready, break_transition, is_marker, sequence_code, start_code, without_marker}
-use Rattle.md_leaves.specs.BreakRule.{Apart, HasBreak, Marks, White, at_break, before_marker, break_at, in_break}
+use Rattle.md_leaves.specs.Break.{at_break_code, before_code, break_ready, break_transition, is_marker, sequence_code, without_marker}
+use Rattle.md_leaves.specs.BreakRule.{Apart, HasBreak, Marks, White, at_break, before_marker, in_break}
 use Rattle.md_leaves.proofs.BreakLemmas.{apart-mark, before-mark, before-other, in_break-mark, in_break-other, marker-no_ending, marker-no_white, marks-at_none, marks-end, marks-none, marks-white, takes-white}
 use Rattle.md_leaves.proofs.BreakGoods.{marked-calm}
+use Rattle.md_leaves.proofs.LeafStart.{HasStart, start-steps}
 use Rattle.md_leaves.proofs.LeafSteps.{sees-one, white_frame, behind-joined, white-run}
-use Rattle.md_seam.specs.Ahead.{begins_white, white_rest}
+use Rattle.md_seam.specs.Ahead.{white_rest}
 use Rattle.md_seam.specs.Events.Nested.{enter, exit}
 use Rattle.md_seam.specs.Standard.Rest.{is_white}
-use Rattle.md_seam.specs.Spaces.{IsRest, any_size, ends_line, is_current, sees_white, small_indent}
-use Rattle.md_seam.proofs.AheadLemmas.{small-some}
-use Rattle.md_seam.proofs.WhiteSteps.{begins-seen, behind_white, white-tried}
+use Rattle.md_seam.specs.Spaces.{IsRest, any_size, ends_line, is_current, sees_white}
+use Rattle.md_seam.proofs.WhiteSteps.{begins-seen, white-tried}
 
 sees-other_white : (feed : Feed) (w : World) (m : ℕ) → Sees feed w → is_current m w.current ≡ false → sees_white w.current ≡ true →
     (b : ℕ) × (feed w.point ≡ cell_here feed w b ∷ feed (after w.setting w.point)) × (nat_eq b m ≡ false) × (is_white b ≡ true)
@@ -156,44 +156,16 @@ before_steps B options feed w has s r = go w.current s.next
             ∙ at_break-apart c cs h k ∙ ap (λ (x : List Cell). at_break x h) (sym e) ∙ sym (has.each its.AtBreak _ _)))
         by false k = rw k (refused (ap (λ (x : List Cell). before_marker x (here w)) e ∙ before-other (cell_here feed w b) (feed (after w.setting w.point)) (here w) k))
 
--- where a break has begun
-abbrev pub entered_here : Here → Here
-entered_here h = record h { events = h.events ++ enter ThematicBreak h.point ∷ [] }
-
-pub at-off : (options : ParseOptions) (cells : List Cell) (h : Here) → options.constructs.thematic_break ≡ false → break_at options cells h ≡ Refuses h.scratch h.flags
-unfolding break_at
-at-off options cells h off = rw off refl
-
-pub at-white : (options : ParseOptions) (cells : List Cell) (h : Here) → options.constructs.thematic_break ≡ true → begins_white cells ≡ true →
-    break_at options cells h ≡ before_marker (white_rest (small_indent options) cells) (behind_white (small_indent options) cells (entered_here h))
-unfolding break_at
-at-white options cells h on s = rw (on, s) refl
-
-pub at-none : (options : ParseOptions) (cells : List Cell) (h : Here) → options.constructs.thematic_break ≡ true → begins_white cells ≡ false → break_at options cells h ≡ before_marker cells (entered_here h)
-unfolding break_at
-at-none options cells h on s = rw (on, s) refl
-
-start_steps : (B : Behaviour) (feed : Feed) (w : World) (x y : Bool) → HasBreak B w.setting.options → Sees feed w →
-    w.setting.options.constructs.thematic_break ≡ x → sees_white w.current ≡ y →
-    Steps B feed (Next (n.ThematicBreak its.Start)) w (start_code w x y).to (start_code w x y).world
-start_steps B feed w false y has s e f =
-    passes B feed _ _ w w refl refl (has.each its.Start _ _ ∙ at-off _ (feed w.point) (here w) e)
-start_steps B feed w true true has s e f =
-    let h : Here = entered_here (here w) in
-    let frame : Frame = white_frame (Next (n.ThematicBreak its.Before)) w h.events in
-    let white : begins_white (feed w.point) ≡ true = begins-seen feed w s ∙ f in
-    begins B feed _ _ w (start_code w true true).world (enter ThematicBreak w.point ∷ []) frame refl refl
-    (has.each its.Start _ _ ∙ at-white _ (feed w.point) (here w) e white ∙ sym (has.each its.Before _ _)
-    ∙ white-tried B feed frame h.events (feed w.point) h 0 (small_indent w.setting.options) has.white white (small-some w.setting.options) (omega arith) refl)
-start_steps B feed w true false has s e f =
-    moves B feed _ _ w (start_code w true false).world (enter ThematicBreak w.point ∷ []) refl refl
-    (has.each its.Start _ _ ∙ at-none _ (feed w.point) (here w) e (begins-seen feed w s ∙ f) ∙ sym (has.each its.Before _ _))
+has_start : (B : Behaviour) (options : ParseOptions) → HasBreak B options →
+    HasStart B options parts.ThematicBreak options.constructs.thematic_break before_marker (n.ThematicBreak its.Start) (n.ThematicBreak its.Before)
+has_start B options has = record { white = has.white; start_is = has.each its.Start; next_is = has.each its.Before }
 
 -- each state of a break takes one step of what it means
 pub break_steps : (B : Behaviour) (feed : Feed) (state : BreakState) (w : World) (K : After) →
     HasBreak B w.setting.options → Sees feed w → break_ready (n.ThematicBreak state) (spot w) K →
     Steps B feed (Next (n.ThematicBreak state)) w (break_transition state w).to (break_transition state w).world
-break_steps B feed its.Start w K has s at = start_steps B feed w _ _ has s refl refl
+break_steps B feed its.Start w K has s at =
+    start-steps B feed parts.ThematicBreak _ before_marker _ _ w _ _ (has_start B _ has) s refl refl
 break_steps B feed its.Before w K has s at = before_steps B _ feed w has s at.0
 break_steps B feed its.AtBreak w K has s at = at_break_steps B _ feed w _ _ has s at.0.marker refl refl
 break_steps B feed its.Sequence w K has s at = sequence_steps B _ feed w _ _ has s at.0.rest at.0.marker refl refl

@@ -15,10 +15,11 @@ use Rattle.md_engine.specs.World.{Setting, World, looks}
 use Rattle.md_engine.proofs.Falls.{later, later_at, seen_grows}
 use Rattle.md_engine.proofs.Local.{accepts, consumes, refuses, turns}
 use Rattle.md_engine.proofs.Points.{stays, takes}
-use Rattle.md_leaves.specs.Heading.{at_break_code, before_code, behind_part, data_code, heading_link, heading_ready, heading_scheme, heading_transition, sees_text, sequence_further_code, sequence_open_code, start_code, without_size}
+use Rattle.md_leaves.specs.Heading.{at_break_code, before_code, behind_part, data_code, heading_link, heading_ready, heading_scheme, heading_transition, sees_text, sequence_further_code, sequence_open_code, without_size}
 use Rattle.md_leaves.proofs.BreakGoods.{low-rank}
-use Rattle.md_seam.specs.Spaces.{IsRest, calmed, is_current, rest_ready, sees_white, small_indent, any_size}
+use Rattle.md_seam.specs.Spaces.{IsRest, calmed, is_current, rest_ready, sees_white, any_size}
 use Rattle.md_seam.specs.Transition.{entered, entered_link, exited}
+use Rattle.md_leaves.proofs.LeafStart.{FitsStart, good-start}
 use Rattle.md_seam.proofs.SpacesGoods.{Does, WhiteFits, rest-calm, rest-none, rest-size, seen-in, white_try}
 
 pub record HeadingFits (T : Scheme) : Type 1 where
@@ -28,15 +29,17 @@ pub record HeadingFits (T : Scheme) : Type 1 where
 pub rest-without : (s : Scratch) → IsRest s → IsRest (without_size s)
 rest-without s e = ap without_size e
 
-good_heading_start : (T : Scheme) (w : World) (x y : Bool) → HeadingFits T →
-    rest_ready (spot w) (after_all T w.frames) → Does T (n.HeadingAtx its.Start) w (start_code w x y)
-good_heading_start T w false y has r =
-    (refuses T _ w _ _ w.events w.scratch r.1 r.0, refl)
-good_heading_start T w true true has r =
-    white_try T heading_scheme _ (n.HeadingAtx its.Before) w (entered w parts.HeadingAtx).events w.scratch 0 (small_indent w.setting.options) IsRest IsRest has.white (has.each its.Start) (has.each its.Before) (rest-none w.scratch r.0) (λ some. rest-calm w.scratch r.0) r.1
-    (λ q t up way. (rest-calm w.scratch r.0, later_at _ _ (spot w) _ q t _ up way r.1)) (omega arith) (omega arith) (λ t up. omega arith) (omega arith)
-good_heading_start T w true false has r =
-    (turns T heading_scheme _ _ w (entered w parts.HeadingAtx).events w.scratch (has.each its.Start) (has.each its.Before) r (omega arith) (omega arith), refl)
+heading-starts : (T : Scheme) → HeadingFits T → FitsStart T heading_scheme (n.HeadingAtx its.Start) (n.HeadingAtx its.Before)
+heading-starts T has = record {
+  white = has.white;
+  start_fits = has.each its.Start;
+  next_fits = has.each its.Before;
+  ready = λ x K r. r;
+  level = omega arith;
+  some = omega arith;
+  falls = λ x. omega arith;
+  tries = λ x. omega arith;
+}
 
 good_heading_before : (T : Scheme) (w : World) (x : Bool) → HeadingFits T → rest_ready (spot w) (after_all T w.frames) →
     Does T (n.HeadingAtx its.Before) w (before_code w x)
@@ -130,7 +133,8 @@ pub heading_does : (T : Scheme) (is_name : ResolveName → Bool) (state : Headin
     w.current ≡ looks w →
     heading_ready (n.HeadingAtx state) (spot w) (after_all T w.frames) →
     Does T (n.HeadingAtx state) w (heading_transition is_name state w)
-heading_does T is_name its.Start w has c r = good_heading_start T w _ _ has r
+heading_does T is_name its.Start w has c r =
+    good-start T heading_scheme parts.HeadingAtx _ _ w _ _ (heading-starts T has) r
 heading_does T is_name its.Before w has c r = good_heading_before T w _ has r
 heading_does T is_name its.SequenceOpen w has c r =
     good_sequence_open T w _ _ _ has r (ap (λ (o : Option ℕ). is_current 35 o && nat_lt w.scratch.size 6) (sym c)) (ap sees_text (sym c)) (ap sees_white (sym c))

@@ -20,17 +20,17 @@ use Rattle.md_engine.specs.Meaning.{Accepts, Behaviour, Cell, Feed, Here, Refuse
 use Rattle.md_engine.specs.Scheme.{After, spot}
 use Rattle.md_engine.specs.World.{World, after}
 use Rattle.md_engine.proofs.StepOf.{Sees, ahead, begins, cell_here, moves, passes}
-use Rattle.md_leaves.specs.Heading.{at_break_code, before_code, behind_part, data_code, heading_link, heading_ready, heading_transition, sees_text, sequence_further_code, sequence_open_code, start_code, without_size}
-use Rattle.md_leaves.specs.HeadingRule.{Apart, HasHeading, Hashes, Run, Text, White, at_break, before_opening, begun, closes, goes_on, heading_at, in_heading, in_opening, opens}
+use Rattle.md_leaves.specs.Heading.{at_break_code, before_code, behind_part, data_code, heading_link, heading_ready, heading_transition, sees_text, sequence_further_code, sequence_open_code, without_size}
+use Rattle.md_leaves.specs.HeadingRule.{Apart, HasHeading, Hashes, Run, Text, White, at_break, before_opening, begun, closes, goes_on, in_heading, in_opening, opens}
+use Rattle.md_leaves.proofs.LeafStart.{HasStart, start-steps}
 use Rattle.md_leaves.proofs.LeafSteps.{sees-one, white_frame, behind-joined, white-run}
 use Rattle.md_leaves.proofs.HeadingLemmas.{apart-none, apart-white, before-hash, before-other, opening-ends, opening-full, opening-more, opening-none, opening-text, opening-white, run-begins, run-ends, run-ends_line, run-ends_none, run-more, white-no_hash, takes-white}
-use Rattle.md_seam.specs.Ahead.{begins_white, white_rest}
+use Rattle.md_seam.specs.Ahead.{white_rest}
 use Rattle.md_seam.specs.Events.Nested.{enter, exit}
 use Rattle.md_seam.specs.Standard.Rest.{is_white}
-use Rattle.md_seam.specs.Spaces.{IsRest, any_size, calmed, ends_line, is_current, sees_white, small_indent}
-use Rattle.md_seam.proofs.AheadLemmas.{small-some}
+use Rattle.md_seam.specs.Spaces.{IsRest, any_size, calmed, ends_line, is_current, sees_white}
 use Rattle.md_seam.specs.Transition.{Transition}
-use Rattle.md_seam.proofs.WhiteSteps.{begins-seen, behind_white, white-tried}
+use Rattle.md_seam.proofs.WhiteSteps.{begins-seen, white-tried}
 
 not-or : (a b : Bool) → not (a || b) ≡ true → (a ≡ false) × (b ≡ false)
 not-or true b e = cc
@@ -44,37 +44,9 @@ or-left false false e k = cc
 
 -- The start.
 
-abbrev entered_here : Here → Here
-entered_here h = record h { events = h.events ++ enter parts.HeadingAtx h.point ∷ [] }
-
-pub at-off : (options : ParseOptions) (cells : List Cell) (h : Here) → options.constructs.heading_atx ≡ false → heading_at options cells h ≡ Refuses h.scratch h.flags
-unfolding heading_at
-at-off options cells h off = rw off refl
-
-pub at-white : (options : ParseOptions) (cells : List Cell) (h : Here) → options.constructs.heading_atx ≡ true → begins_white cells ≡ true →
-    heading_at options cells h ≡ before_opening (white_rest (small_indent options) cells) (behind_white (small_indent options) cells (entered_here h))
-unfolding heading_at
-at-white options cells h on s = rw (on, s) refl
-
-pub at-none : (options : ParseOptions) (cells : List Cell) (h : Here) → options.constructs.heading_atx ≡ true → begins_white cells ≡ false → heading_at options cells h ≡ before_opening cells (entered_here h)
-unfolding heading_at
-at-none options cells h on s = rw (on, s) refl
-
-heading_start_steps : (B : Behaviour) (feed : Feed) (w : World) (x y : Bool) → HasHeading B w.setting.options →
-    Sees feed w → w.setting.options.constructs.heading_atx ≡ x → sees_white w.current ≡ y →
-    Steps B feed (Next (n.HeadingAtx its.Start)) w (start_code w x y).to (start_code w x y).world
-heading_start_steps B feed w false y has s e f =
-    passes B feed _ _ w w refl refl (has.each its.Start _ _ ∙ at-off _ (feed w.point) (here w) e)
-heading_start_steps B feed w true true has s e f =
-    let h : Here = entered_here (here w) in
-    let frame : Frame = white_frame (Next (n.HeadingAtx its.Before)) w h.events in
-    let white : begins_white (feed w.point) ≡ true = begins-seen feed w s ∙ f in
-    begins B feed _ _ w (start_code w true true).world (enter parts.HeadingAtx w.point ∷ []) frame refl refl
-    (has.each its.Start _ _ ∙ at-white _ (feed w.point) (here w) e white ∙ sym (has.each its.Before _ _)
-    ∙ white-tried B feed frame h.events (feed w.point) h 0 (small_indent w.setting.options) has.white white (small-some w.setting.options) (omega arith) refl)
-heading_start_steps B feed w true false has s e f =
-    moves B feed _ _ w (start_code w true false).world (enter parts.HeadingAtx w.point ∷ []) refl refl
-    (has.each its.Start _ _ ∙ at-none _ (feed w.point) (here w) e (begins-seen feed w s ∙ f) ∙ sym (has.each its.Before _ _))
+has_start : (B : Behaviour) (options : ParseOptions) → HasHeading B options →
+    HasStart B options parts.HeadingAtx options.constructs.heading_atx before_opening (n.HeadingAtx its.Start) (n.HeadingAtx its.Before)
+has_start B options has = record { white = has.white; start_is = has.each its.Start; next_is = has.each its.Before }
 
 -- Behind the indent.
 
@@ -261,7 +233,8 @@ pub heading_steps : (B : Behaviour) (feed : Feed) (is_name : ResolveName → Boo
     HasHeading B w.setting.options → Sees feed w →
     heading_ready (n.HeadingAtx state) (spot w) K →
     Steps B feed (Next (n.HeadingAtx state)) w (heading_transition is_name state w).to (heading_transition is_name state w).world
-heading_steps B feed is_name its.Start w K has s at = heading_start_steps B feed w _ _ has s refl refl
+heading_steps B feed is_name its.Start w K has s at =
+    start-steps B feed parts.HeadingAtx _ before_opening _ _ w _ _ (has_start B _ has) s refl refl
 heading_steps B feed is_name its.Before w K has s at = heading_before_steps B _ feed w _ has s at.0 refl
 heading_steps B feed is_name its.SequenceOpen w K has s at =
     sequence_open_steps B _ feed w _ _ _ has s at.0.rest at.0.size refl refl refl

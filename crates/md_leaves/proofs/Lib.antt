@@ -16,4 +16,5 @@ pub mod TitleRuns
 pub mod TitleTexts
 pub mod TitleLemmas
 pub mod HeadingGrammar
+pub mod LeafStart
 pub mod LeafSteps

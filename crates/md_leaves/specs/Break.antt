@@ -9,7 +9,8 @@ use Rattle.md_engine.specs.declared.state.State.TheVariants.{Ok, Nok, Next, Retr
 use Rattle.md_engine.specs.declared.tokenizer.Scratch.{Scratch}
 use Rattle.md_engine.specs.Scheme.{After, Ends, Rank, Scheme, Spot, cells_before, ranked, seen}
 use Rattle.md_engine.specs.World.{World}
-use Rattle.md_seam.specs.Spaces.{any_size, ends_line, IsRest, is_current, rest_ready, sees_white, small_indent, white_then}
+use Rattle.md_leaves.specs.LeafStart as leaf
+use Rattle.md_seam.specs.Spaces.{any_size, ends_line, IsRest, is_current, rest_ready, sees_white, white_then}
 use Rattle.md_seam.specs.Transition.{Transition, entered, exited, taken}
 
 -- a marker of a break (CommonMark 4.1)
@@ -18,13 +19,6 @@ is_marker b = (b == 42) || (b == 45) || (b == 95)
 
 abbrev pub without_marker : Scratch → Scratch
 without_marker s = record s { marker = 0; size = 0 }
-
--- by whether breaks are on, and whether whitespace stands here
-abbrev pub start_code : World → Bool → Bool → Transition
-start_code w false white = record { to = Nok; world = w }
-start_code w true true =
-    white_then (entered w ThematicBreak) 0 (small_indent w.setting.options) (Next (n.ThematicBreak its.Before)) Nok
-start_code w true false = record { to = Retry (n.ThematicBreak its.Before); world = entered w ThematicBreak }
 
 -- by what stands here
 abbrev pub before_code : World → Option ℕ → Transition
@@ -50,7 +44,7 @@ sequence_code w false false =
 
 -- each state with what it does, where there is memory
 abbrev pub start_transition : World → Transition
-start_transition w = start_code w w.setting.options.constructs.thematic_break (sees_white w.current)
+start_transition w = leaf.start_transition ThematicBreak (n.ThematicBreak its.Before) w.setting.options.constructs.thematic_break w
 
 abbrev pub before_transition : World → Transition
 before_transition w = before_code w w.current

@@ -1,5 +1,5 @@
 -- The rule of a thematic break, as what is left of it at each state (CommonMark 4.1).
-use Rattle.std.specs.Prelude.{◌≡◌, ℕ, ◌+◌, false, ◌&&◌, ◌||◌, ◌==◌, not, nat_le, if◌then◌else◌, List, [], ◌∷◌, ◌++◌, count_by}
+use Rattle.std.specs.Prelude.{◌≡◌, ℕ, ◌+◌, false, ◌&&◌, ◌||◌, ◌==◌, nat_le, if◌then◌else◌, List, [], ◌∷◌, ◌++◌, count_by}
 use Rattle.std.specs.List.{list_all}
 use Rattle.md_engine.specs.declared.configuration.ParseOptions.{ParseOptions}
 use Rattle.md_engine.specs.declared.event.Event.{Event}
@@ -9,12 +9,12 @@ use Rattle.md_engine.specs.declared.state.Name.TheVariants as n
 use Rattle.md_engine.specs.declared.state.thematic_break.State.{State as BreakState}
 use Rattle.md_engine.specs.declared.state.thematic_break.State.TheVariants as its
 use Rattle.md_engine.specs.Meaning.{Accepts, Behaviour, Cell, Here, Outcome, Refuses}
+use Rattle.md_leaves.specs.LeafStart.{start_at}
 use Rattle.md_leaves.specs.Break.{without_marker}
-use Rattle.md_seam.specs.Ahead.{HasWhite, begins_white, from_ending, line_bytes, line_cells, line_end, white_end, white_rest}
+use Rattle.md_seam.specs.Ahead.{HasWhite, begins_white, from_ending, line_bytes, line_cells, line_end}
 use Rattle.md_seam.specs.Standard.Leaves.{is_rule}
 use Rattle.md_seam.specs.Events.Nested.{enter, exit}
 use Rattle.md_seam.specs.Standard.Rest.{is_white}
-use Rattle.md_seam.specs.Spaces.{calmed, small_indent}
 
 -- in which run of a line a place lies
 pub data Run : Type 0 where
@@ -66,15 +66,8 @@ before_marker [] h = Refuses (without_marker h.scratch) h.flags
 before_marker (c ∷ cs) h = if is_rule (line_bytes (c ∷ cs)) then broken Apart c.byte (c ∷ cs) h else Refuses (without_marker h.scratch) h.flags
 
 -- the whole rule, if breaks are on: a small indent, and a rule behind it
-unfoldable pub break_at : ParseOptions → List Cell → Here → Outcome
-break_at options cells h =
-    let entered = h.events ++ enter ThematicBreak h.point ∷ [] in
-    let room = small_indent options in
-    let p = white_end room cells h.point in
-    if not options.constructs.thematic_break then Refuses h.scratch h.flags
-    else if begins_white cells
-    then before_marker (white_rest room cells) (record h { events = entered ++ enter SpaceOrTab h.point ∷ exit SpaceOrTab p ∷ []; point = p; scratch = calmed h.scratch })
-    else before_marker cells (record h { events = entered })
+abbrev pub break_at : ParseOptions → List Cell → Here → Outcome
+break_at options cells h = start_at ThematicBreak options.constructs.thematic_break before_marker options cells h
 
 -- what is left at each state
 abbrev pub break_behaves : ParseOptions → BreakState → List Cell → Here → Outcome

@@ -13,8 +13,9 @@ use Rattle.md_engine.specs.declared.state.State.TheVariants.{Ok, Nok, Next, Retr
 use Rattle.md_engine.specs.declared.tokenizer.Scratch.{Scratch}
 use Rattle.md_engine.specs.Scheme.{After, Ends, Rank, Scheme, Spot, ranked, seen}
 use Rattle.md_engine.specs.World.{World, registered}
+use Rattle.md_leaves.specs.LeafStart as leaf
 use Rattle.md_seam.specs.Standard.Rest.{is_white}
-use Rattle.md_seam.specs.Spaces.{any_size, ends_line, IsRest, is_current, rest_ready, sees_white, small_indent, white_then}
+use Rattle.md_seam.specs.Spaces.{any_size, ends_line, IsRest, is_current, rest_ready, sees_white, white_then}
 use Rattle.md_seam.specs.Transition.{Transition, entered, entered_link, exited, taken}
 
 -- whether something other than whitespace and the line's end stands here
@@ -27,13 +28,6 @@ without_size s = record s { size = 0 }
 
 abbrev pub heading_link : Link
 heading_link = record { previous = None; next = None; content = content.Text }
-
--- by whether headings are on, and whether whitespace stands here
-abbrev pub start_code : World → Bool → Bool → Transition
-start_code w false white = record { to = Nok; world = w }
-start_code w true true =
-    white_then (entered w HeadingAtx) 0 (small_indent w.setting.options) (Next (n.HeadingAtx its.Before)) Nok
-start_code w true false = record { to = Retry (n.HeadingAtx its.Before); world = entered w HeadingAtx }
 
 -- by whether `#` stands here
 abbrev pub before_code : World → Bool → Transition
@@ -73,7 +67,7 @@ data_code w false white = behind_part (exited w Data) white
 
 -- each state with what it does, where there is memory
 abbrev pub start_transition : World → Transition
-start_transition w = start_code w w.setting.options.constructs.heading_atx (sees_white w.current)
+start_transition w = leaf.start_transition HeadingAtx (n.HeadingAtx its.Before) w.setting.options.constructs.heading_atx w
 
 abbrev pub before_transition : World → Transition
 before_transition w = before_code w (is_current 35 w.current)

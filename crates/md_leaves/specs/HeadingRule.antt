@@ -9,11 +9,12 @@ use Rattle.md_engine.specs.declared.state.Name.TheVariants as n
 use Rattle.md_engine.specs.declared.state.heading_atx.State.{State as HeadingState}
 use Rattle.md_engine.specs.declared.state.heading_atx.State.TheVariants as its
 use Rattle.md_engine.specs.Meaning.{Accepts, Behaviour, Cell, Here, Outcome, Refuses}
+use Rattle.md_leaves.specs.LeafStart.{start_at}
 use Rattle.md_leaves.specs.Heading.{heading_link, without_size}
 use Rattle.md_seam.specs.Ahead.{HasWhite, begins_white, from_ending, line_bytes, line_cells, line_end, white_end, white_rest}
 use Rattle.md_seam.specs.Events.Nested.{enter, exit, pair}
 use Rattle.md_seam.specs.Standard.Rest.{is_parted, is_white, run_len}
-use Rattle.md_seam.specs.Spaces.{calmed, small_indent}
+use Rattle.md_seam.specs.Spaces.{small_indent}
 
 -- in which run of a line a place lies
 pub data Run : Type 0 where
@@ -82,15 +83,8 @@ unfoldable pub before_opening : List Cell → Here → Outcome
 before_opening cells h = if is_heading (line_bytes cells) then in_heading Apart cells h else Refuses h.scratch h.flags
 
 -- the whole rule, if headings are on: a small indent, and a heading behind it
-unfoldable pub heading_at : ParseOptions → List Cell → Here → Outcome
-heading_at options cells h =
-    let entered = h.events ++ enter HeadingAtx h.point ∷ [] in
-    let room = small_indent options in
-    let p = white_end room cells h.point in
-    if not options.constructs.heading_atx then Refuses h.scratch h.flags
-    else if begins_white cells
-    then before_opening (white_rest room cells) (record h { events = entered ++ enter SpaceOrTab h.point ∷ exit SpaceOrTab p ∷ []; point = p; scratch = calmed h.scratch })
-    else before_opening cells (record h { events = entered })
+abbrev pub heading_at : ParseOptions → List Cell → Here → Outcome
+heading_at options cells h = start_at HeadingAtx options.constructs.heading_atx before_opening options cells h
 
 -- what is left at each state
 abbrev pub heading_behaves : ParseOptions → HeadingState → List Cell → Here → Outcome

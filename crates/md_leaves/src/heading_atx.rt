@@ -19,6 +19,7 @@ ghost use Rattle.md_seam.specs.Spaces.{sees_white};
 ghost use Rattle.md_seam.specs.Transition.{IsAt, NeedsNothing};
 
 use crate::heading_text::put_texts;
+use crate::leaf_start::start_leaf;
 use md_engine::event::{Content, Link, Name};
 use md_engine::message::Message;
 use md_engine::or_error;
@@ -50,22 +51,13 @@ pub fn start(tokenizer: &mut Tokenizer) -> State
     ensures to { result ≢ State.Error → result ≡ (start_transition (world tokenizer.old)).to }
     ensures world { result ≢ State.Error → world tokenizer.new ≡ (start_transition (world tokenizer.old)).world }
 {
-    if !tokenizer.options.constructs.heading_atx {
-        return State::Nok;
-    }
-    or_error!(tokenizer.enter(Name::HeadingAtx));
-    if is_space_or_tab(tokenizer.current) {
-        let max = small_indent(tokenizer);
-        space_or_tab_min_max(
-            tokenizer,
-            0,
-            max,
-            State::Next(StateName::HeadingAtx(HeadingState::Before)),
-            State::Nok,
-        )
-    } else {
-        State::Retry(StateName::HeadingAtx(HeadingState::Before))
-    }
+    let is_on = tokenizer.options.constructs.heading_atx;
+    start_leaf(
+        tokenizer,
+        is_on,
+        Name::HeadingAtx,
+        StateName::HeadingAtx(HeadingState::Before),
+    )
 }
 
 /// Behind the indent, at `#`.

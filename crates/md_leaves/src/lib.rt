@@ -4,6 +4,7 @@
 pub mod blank_line;
 pub mod heading_atx;
 mod heading_text;
+mod leaf_start;
 pub mod partial_bom;
 pub mod partial_non_lazy_continuation;
 pub mod thematic_break;

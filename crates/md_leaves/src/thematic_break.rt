@@ -14,6 +14,7 @@ ghost use Rattle.md_engine.specs.declared.state.thematic_break.State.{State as B
 ghost use Rattle.md_leaves.specs.Break.{BreakNeeds, at_break_transition, before_transition, break_transition, sequence_transition, start_transition};
 ghost use Rattle.md_seam.specs.Transition.{IsAt};
 
+use crate::leaf_start::start_leaf;
 use md_engine::event::Name;
 use md_engine::or_error;
 use md_engine::state::thematic_break::State as BreakState;
@@ -35,22 +36,13 @@ pub fn start(tokenizer: &mut Tokenizer) -> State
     ensures to { result ≢ State.Error → result ≡ (start_transition (world tokenizer.old)).to }
     ensures world { result ≢ State.Error → world tokenizer.new ≡ (start_transition (world tokenizer.old)).world }
 {
-    if !tokenizer.options.constructs.thematic_break {
-        return State::Nok;
-    }
-    or_error!(tokenizer.enter(Name::ThematicBreak));
-    if is_space_or_tab(tokenizer.current) {
-        let max = small_indent(tokenizer);
-        space_or_tab_min_max(
-            tokenizer,
-            0,
-            max,
-            State::Next(StateName::ThematicBreak(BreakState::Before)),
-            State::Nok,
-        )
-    } else {
-        State::Retry(StateName::ThematicBreak(BreakState::Before))
-    }
+    let is_on = tokenizer.options.constructs.thematic_break;
+    start_leaf(
+        tokenizer,
+        is_on,
+        Name::ThematicBreak,
+        StateName::ThematicBreak(BreakState::Before),
+    )
 }
 
 /// Behind the indent, at a marker.

@@ -17,7 +17,7 @@ use Rattle.md_seam.specs.Parts.{ArePlaced}
 use Rattle.md_seam.specs.Events.Places.{are_placed, columns_before, columns_from, is_placed, last_line, past_byte, splits_pair}
 use Rattle.md_seam.specs.Standard.Rest.{tab_columns}
 use Rattle.md_seam.specs.Standard.Texts.{first_byte, split_lines}
-use Rattle.md_seam.proofs.PlacesLemmas.{Placed, apart-behind, placed-byte, placed-from}
+use Rattle.md_seam.proofs.PlacesLemmas.{Placed, Some_line, apart-behind, placed-byte, placed-from, some-split}
 use Rattle.md_seam.proofs.TextsLemmas.{Ending, Both, LineFeed, Return, ending_bytes}
 
 -- An ending at the end of a text.
@@ -39,25 +39,7 @@ StandsAfter text LineFeed = ends_return text ≡ false
 StandsAfter text Return = Unit {0}
 StandsAfter text Both = Unit {0}
 
--- there is a line
-abbrev HasLine : List (List ℕ) → Type 0
-HasLine [] = ⊥
-HasLine (line ∷ lines) = Unit {0}
-
-line-onto : (b : ℕ) (lines : List (List ℕ)) → HasLine (onto_first b lines)
-line-onto b [] = tt
-line-onto b (line ∷ lines) = tt
-
-line-split : (text : List ℕ) → HasLine (split_lines text)
-line-split [] = tt
-line-split (b ∷ bs) = go (ends_line b bs) (is_ending b) (line-split bs)
-  where
-    go : (x y : Bool) → HasLine (split_lines bs) → HasLine (cond x ([] ∷ split_lines bs) (cond y (split_lines bs) (onto_first b (split_lines bs))))
-    go true y s = tt
-    go false true s = s
-    go false false s = line-onto b (split_lines bs)
-
-onto_first-snoc : (b : ℕ) (lines : List (List ℕ)) → HasLine lines → onto_first b (lines ++ [] ∷ []) ≡ onto_first b lines ++ [] ∷ []
+onto_first-snoc : (b : ℕ) (lines : List (List ℕ)) → Some_line lines → onto_first b (lines ++ [] ∷ []) ≡ onto_first b lines ++ [] ∷ []
 onto_first-snoc b [] s = absurd s
 onto_first-snoc b (line ∷ lines) s = refl
 
@@ -89,7 +71,7 @@ split-ended (b ∷ bs) ending h =
         ≡ cond x ([] ∷ split_lines bs) (cond y (split_lines bs) (onto_first b (split_lines bs))) ++ [] ∷ []
     go true y = refl
     go false true = refl
-    go false false = onto_first-snoc b (split_lines bs) (line-split bs)
+    go false false = onto_first-snoc b (split_lines bs) (some-split bs)
 
 last-empty : (lines : List (List ℕ)) → last_line (lines ++ [] ∷ []) ≡ []
 last-empty [] = refl

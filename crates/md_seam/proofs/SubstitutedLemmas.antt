@@ -70,8 +70,8 @@ abbrev pub Leads : (Content → Bool) → Readings → List Event → List Event
 Leads wants reads events left chunks rest all = (out : List Event) → Substituted wants reads left chunks rest out → Substituted wants reads [] 0 events (all ++ out)
 
 -- what stands behind two events, by what a chunk that begins with the first holds
-abbrev Stands : (Content → Bool) → Readings → List Event → ℕ → Event → Event → List Event → List Event → Option Content → Type 0
-Stands wants reads left chunks e f es out o = elim o [
+abbrev pub SubstitutedBy : (Content → Bool) → Readings → List Event → ℕ → Event → Event → List Event → List Event → Option Content → Type 0
+SubstitutedBy wants reads left chunks e f es out o = elim o [
   | None ↦ (rest : List Event) × (is : out ≡ e ∷ rest) × Substituted wants reads left chunks (f ∷ es) rest
   | Some content ↦ elim chunks [
     | zero ↦
@@ -92,7 +92,7 @@ leads-event wants reads events left rest all chunks e stays leads out s =
   where
     go : (rest : List Event) → (wanted wants e ≡ None) ⊎ (rest ≡ []) → Substituted wants reads left chunks rest out → Substituted wants reads left chunks (e ∷ rest) (e ∷ out)
     go [] stays s = ap (λ (l : List Event). e ∷ l) s
-    go (f ∷ es) (inl none) s = subst (Stands wants reads left chunks e f es (e ∷ out)) (sym none) (out, refl, s)
+    go (f ∷ es) (inl none) s = subst (SubstitutedBy wants reads left chunks e f es (e ∷ out)) (sym none) (out, refl, s)
     go (f ∷ es) (inr none) s = cc
 
 -- a chunk, in the place of which stands what belongs there
@@ -103,17 +103,17 @@ pub leads-chunk : (wants : Content → Bool) (reads : Readings) (events left all
 leads-chunk wants reads events left all zero e f es content some leads now more begun out s =
     let placed : List Event = take (share more now f.point.index) now in
     let many : more ≡ length (chunks_behind wants es) = cc in
-    let stands : Stands wants reads left 0 e f es (placed ++ out) (Some content) =
+    let stands : SubstitutedBy wants reads left 0 e f es (placed ++ out) (Some content) =
     subst (λ (n : ℕ). (answer rest : List Event) × (read : reads content (chunk_of e f ∷ chunks_behind wants es) answer) × (is : placed ++ out ≡ take (share n answer f.point.index) answer ++ rest) × Substituted wants reads (drop (share n answer f.point.index) answer) n es rest) many (now, out, begun.0, refl, s) in
-    subst (Substituted wants reads [] 0 events) (sym (append_assoc all placed out)) (leads (placed ++ out) (subst (Stands wants reads left 0 e f es (placed ++ out)) (sym some) stands))
+    subst (Substituted wants reads [] 0 events) (sym (append_assoc all placed out)) (leads (placed ++ out) (subst (SubstitutedBy wants reads left 0 e f es (placed ++ out)) (sym some) stands))
 leads-chunk wants reads events left all (suc last) e f es content some leads now more begun out s =
     let placed : List Event = take (share more now f.point.index) now in
     let many : more ≡ last = cc in
-    let stands : Stands wants reads now (suc more) e f es (placed ++ out) (Some content) = (out, refl, s) in
-    let same : Stands wants reads left (suc last) e f es (placed ++ out) (Some content) =
-    subst (λ (l : List Event). Stands wants reads l (suc last) e f es (placed ++ out) (Some content)) begun.0
-    (subst (λ (n : ℕ). Stands wants reads now (suc n) e f es (placed ++ out) (Some content)) many stands) in
-    subst (Substituted wants reads [] 0 events) (sym (append_assoc all placed out)) (leads (placed ++ out) (subst (Stands wants reads left (suc last) e f es (placed ++ out)) (sym some) same))
+    let stands : SubstitutedBy wants reads now (suc more) e f es (placed ++ out) (Some content) = (out, refl, s) in
+    let same : SubstitutedBy wants reads left (suc last) e f es (placed ++ out) (Some content) =
+    subst (λ (l : List Event). SubstitutedBy wants reads l (suc last) e f es (placed ++ out) (Some content)) begun.0
+    (subst (λ (n : ℕ). SubstitutedBy wants reads now (suc n) e f es (placed ++ out) (Some content)) many stands) in
+    subst (Substituted wants reads [] 0 events) (sym (append_assoc all placed out)) (leads (placed ++ out) (subst (SubstitutedBy wants reads left (suc last) e f es (placed ++ out)) (sym some) same))
 
 -- At an index.
 

@@ -1,5 +1,5 @@
 -- No ending stands in a heading, and behind it its line is not blank.
-use Rattle.std.proofs.Common.{◌≡◌, ℕ, Bool, true, false, cond, List, [], ◌∷◌, ◌++◌, length, take, refl, ap, sym, ◌∙◌, subst}
+use Rattle.std.proofs.Common.{◌≡◌, ℕ, Bool, true, false, cond, List, [], ◌++◌, length, take, refl, ap, sym, ◌∙◌, subst}
 use Rattle.std.specs.Prelude.{◌==◌, Option, Some, None}
 use Rattle.md_engine.specs.declared.event.Event.{Event}
 use Rattle.md_engine.specs.declared.event.Name.TheVariants as n
@@ -12,16 +12,16 @@ use Rattle.md_seam.specs.declared.inline.Chunk.{Chunk}
 use Rattle.md_seam.specs.Events.Endings.{line_start}
 use Rattle.md_seam.specs.Events.Inline.{line_end, pair_unless_empty}
 use Rattle.md_seam.specs.Events.Nested.{around, pair}
-use Rattle.md_seam.specs.Events.Places.{past_byte, past_text, same_place}
+use Rattle.md_seam.specs.Events.Places.{past_text, same_place}
 use Rattle.md_seam.specs.Standard.Lines.{without_ending}
 use Rattle.md_seam.specs.Standard.Rest.{Rest}
 use Rattle.md_seam.proofs.EndingsLemmas.{AreOthers, Leads, behind_leaf, in_leaf, leaf-leads, others-append, others-lead}
 use Rattle.md_seam.proofs.InlineLemmas.{same-refl}
 use Rattle.markdown_blocks.specs.Leaf.HeadingAtx.{heading_around, read_text, read_title}
 use Rattle.markdown_blocks.proofs.HeadingAtx.Places.{IsTitle, back_bytes, text-end-is, text_begin, text_end, title-is}
+use Rattle.markdown_blocks.proofs.HeadingAtx.Runs.{runs-each}
 use Rattle.markdown_blocks.proofs.LeafFacts.{LineAt}
 use Rattle.markdown_blocks.proofs.LineTexts.{without-none}
-use Rattle.markdown_blocks.proofs.SpanLemmas.{either}
 
 -- what stands around the text of a heading
 closes-others : (run : heading.Run) (p : Point) → AreOthers (heading.closes run p)
@@ -37,12 +37,8 @@ opens-others heading.Hashes p = refl
 opens-others heading.Text p = refl
 
 runs-others : (run : heading.Run) (xs : List ℕ) (p : Point) → AreOthers (line_runs run xs p)
-runs-others run [] p = closes-others run p
-runs-others run (b ∷ xs) p =
-    let rest : List Event = line_runs (heading.begun b) xs (past_byte b p) in
-    either AreOthers (heading.goes_on run b) (line_runs run xs (past_byte b p)) ((heading.closes run p ++ heading.opens (heading.begun b) p) ++ rest) (runs-others run xs (past_byte b p))
-    (others-append (heading.closes run p ++ heading.opens (heading.begun b) p) rest
-    (others-append (heading.closes run p) (heading.opens (heading.begun b) p) (closes-others run p) (opens-others (heading.begun b) p)) (runs-others (heading.begun b) xs (past_byte b p)))
+runs-others run xs p =
+    runs-each (λ q. Unit {0}) AreOthers (record { append = others-append; closes = λ r q h. closes-others r q; opens = λ r q h. opens-others r q; next = λ b q h. tt }) run xs p tt
 
 -- what stands in a heading, with its text
 title-others : (line : List ℕ) (p : Point) (text : List Event) → AreOthers text →

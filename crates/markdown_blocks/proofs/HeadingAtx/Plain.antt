@@ -1,16 +1,17 @@
 -- A heading may be outlined.
-use Rattle.std.proofs.Common.{◌≡◌, ℕ, ◌+◌, Bool, true, false, cond, ◌==◌, List, [], ◌∷◌, ◌++◌, length, take, drop, refl}
+use Rattle.std.proofs.Common.{◌≡◌, ℕ, ◌+◌, Bool, true, false, cond, ◌==◌, List, [], ◌++◌, length, take, drop, refl}
 use Rattle.std.specs.Prelude.{Some, None}
 use Rattle.md_engine.specs.declared.event.Name.TheVariants as n
 use Rattle.md_engine.specs.declared.event.Point.{Point}
-use Rattle.md_leaves.specs.HeadingRule.{Apart, Hashes, Run, Text as TextRun, White, begun, closes, goes_on, opens}
+use Rattle.md_leaves.specs.HeadingRule.{Apart, Hashes, Run, Text as TextRun, White, closes, opens}
 use Rattle.md_leaves.specs.HeadingTitle.{Title, chunk_unless_empty, front_len, line_runs, text_of, title_of}
 use Rattle.md_seam.specs.declared.inline.Chunk.{Chunk}
 use Rattle.md_seam.specs.Events.Inline.{plain_chunk}
 use Rattle.md_seam.specs.Events.Nested.{enter, exit}
-use Rattle.md_seam.specs.Events.Places.{past_byte, past_text}
+use Rattle.md_seam.specs.Events.Places.{past_text}
 use Rattle.markdown_blocks.specs.Leaf.HeadingAtx.{heading_around, read_text, read_title}
 use Rattle.markdown_blocks.proofs.HeadingAtx.Places.{text_begin, text_end}
+use Rattle.markdown_blocks.proofs.HeadingAtx.Runs.{runs-each}
 use Rattle.markdown_blocks.proofs.PartedFacts.{clear}
 use Rattle.markdown_blocks.proofs.PlainFacts.{ArePlain, chunk-plain, past-clear, plain-append, plain-around, plain-cons, plain-nil}
 
@@ -30,17 +31,8 @@ plain-opens bytes TextRun p h = record { names = refl; texts = refl }
 -- what is left of runs
 plain-runs : (bytes : List ℕ) (run : Run) (xs : List ℕ) (p : Point) → clear bytes p ≡ true →
     ArePlain bytes (line_runs run xs p)
-plain-runs bytes run [] p h = plain-closes bytes run p h
-plain-runs bytes run (b ∷ xs) p h =
-    go (goes_on run b) (plain-runs bytes run xs (past_byte b p) refl) (plain-runs bytes (begun b) xs (past_byte b p) refl)
-  where
-    go : (more : Bool) → ArePlain bytes (line_runs run xs (past_byte b p)) →
-        ArePlain bytes (line_runs (begun b) xs (past_byte b p)) →
-        ArePlain bytes (cond more (line_runs run xs (past_byte b p)) ((closes run p ++ opens (begun b) p) ++ line_runs (begun b) xs (past_byte b p)))
-    go true same next = same
-    go false same next =
-        plain-append bytes (closes run p ++ opens (begun b) p) (line_runs (begun b) xs (past_byte b p))
-        (plain-append bytes (closes run p) (opens (begun b) p) (plain-closes bytes run p h) (plain-opens bytes (begun b) p h)) next
+plain-runs bytes run xs p h =
+    runs-each (λ q. clear bytes q ≡ true) (ArePlain bytes) (record { append = plain-append bytes; closes = plain-closes bytes; opens = plain-opens bytes; next = λ b q h. refl }) run xs p h
 
 -- the text of a heading
 plain-text : (bytes : List ℕ) (size : ℕ) (p q : Point) → clear bytes p ≡ true → clear bytes q ≡ true →

@@ -11,12 +11,8 @@ use Rattle.md_engine.specs.World.{World}
 use Rattle.md_leaves.specs.Heading as heading
 use Rattle.md_leaves.specs.Heading.{heading_link}
 use Rattle.md_seam.specs.Events.Nested.{enter_link, exit}
+use Rattle.markdown_blocks.proofs.LeafStarts.{start-registers}
 use Rattle.markdown_blocks.proofs.Registers.{Registers, adds, adds-own}
-
-heading-start : (w : World) (a b : Bool) → Registers w → Registers (heading.start_code w a b).world
-heading-start w false b h = h
-heading-start w true true h = adds w.events _ w.resolvers refl refl h
-heading-start w true false h = adds w.events _ w.resolvers refl refl h
 
 heading-before : (w : World) (b : Bool) → Registers w → Registers (heading.before_code w b).world
 heading-before w true h = adds w.events _ w.resolvers refl refl h
@@ -48,7 +44,7 @@ heading-data w false b h = heading-behind _ b (adds w.events _ w.resolvers refl 
 -- each of them
 pub heading-registers : (state : HeadingState) (w : World) → Registers w →
     Registers (heading.heading_transition (same_name r.HeadingAtx) state w).world
-heading-registers at.Start w h = heading-start w w.setting.options.constructs.heading_atx (sees_white w.current) h
+heading-registers at.Start w h = start-registers n.HeadingAtx _ w w.setting.options.constructs.heading_atx (sees_white w.current) h
 heading-registers at.Before w h = heading-before w (is_current 35 w.current) h
 heading-registers at.SequenceOpen w h = heading-open w (is_current 35 w.current && nat_lt w.scratch.size 6) (heading.sees_text w.current) (sees_white w.current) h
 heading-registers at.AtBreak w h = heading-at w (heading.sees_text w.current) (is_current 35 w.current) (ends_line w.current) h

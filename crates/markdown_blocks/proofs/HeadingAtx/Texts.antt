@@ -29,11 +29,11 @@ use Rattle.markdown_blocks.specs.Leaf.HeadingAtx.{read_text, read_title}
 use Rattle.markdown_blocks.specs.Unread.{linked}
 use Rattle.markdown_blocks.proofs.FillFacts.{Fill, fill-append, fill-part, fill-same, linked-filled}
 use Rattle.markdown_blocks.proofs.HeadingAtx.Places.{text-order, text_begin, text_end, title-lines}
+use Rattle.markdown_blocks.proofs.HeadingAtx.Runs.{runs-each}
 use Rattle.markdown_blocks.proofs.LeafFacts.{LineAt, ReadsText}
 use Rattle.markdown_blocks.proofs.LineTexts.{past-whole}
 use Rattle.markdown_blocks.proofs.PartFacts.{NoLinks, NoParts, no_parts-append}
 use Rattle.markdown_blocks.proofs.PartsStand.{Stands, inside-linked, stands-append, stands-outside, stands-part}
-use Rattle.markdown_blocks.proofs.SpanLemmas.{either}
 use Rattle.markdown_blocks.proofs.SubstitutedLemmas.{Becomes, becomes-append, becomes-same, no_links-unwanted, part-becomes}
 
 -- It is set.
@@ -109,12 +109,8 @@ closes-no_parts heading.Text p = (refl, tt)
 
 -- so it is in what is left of runs
 runs-no_parts : (run : heading.Run) (xs : List ℕ) (p : Point) → NoParts (line_runs run xs p)
-runs-no_parts run [] p = closes-no_parts run p
-runs-no_parts run (b ∷ xs) p =
-    let rest : List Event = line_runs (heading.begun b) xs (past_byte b p) in
-    either NoParts (heading.goes_on run b) (line_runs run xs (past_byte b p)) ((heading.closes run p ++ heading.opens (heading.begun b) p) ++ rest) (runs-no_parts run xs (past_byte b p))
-    (no_parts-append (heading.closes run p ++ heading.opens (heading.begun b) p) rest
-    (no_parts-append (heading.closes run p) (heading.opens (heading.begun b) p) (closes-no_parts run p) (opens-no_parts (heading.begun b) p)) (runs-no_parts (heading.begun b) xs (past_byte b p)))
+runs-no_parts run xs p =
+    runs-each (λ q. Unit {0}) NoParts (record { append = no_parts-append; closes = λ r q h. closes-no_parts r q; opens = λ r q h. opens-no_parts r q; next = λ b q h. tt }) run xs p tt
 
 -- The text is a chunk of one line.
 

@@ -1,17 +1,17 @@
 -- The trial of a heading takes a line to its end, or refuses it.
 use Rattle.std.proofs.Common.{◌≡◌, ℕ, ◌≤◌, true, false, List, length, sym, ◌∙◌, arith}
-use Rattle.std.specs.Prelude.{not}
 use Rattle.md_engine.specs.declared.configuration.ParseOptions.{ParseOptions}
+use Rattle.md_engine.specs.declared.event.Name.TheVariants.{HeadingAtx}
 use Rattle.md_engine.specs.Meaning.{Cell, Here, Refuses}
 use Rattle.md_leaves.specs.HeadingRule.{before_opening, heading_at, in_heading, is_heading, is_heading_line}
 use Rattle.md_leaves.proofs.HeadingWhole.{heading-refused, heading-taken}
-use Rattle.md_seam.specs.Ahead.{begins_white, line_bytes}
-use Rattle.md_seam.specs.Spaces.{IsRest, small_indent}
-use Rattle.md_seam.proofs.RestCells.{white-length}
+use Rattle.md_seam.specs.Ahead.{line_bytes}
+use Rattle.md_seam.specs.Spaces.{IsRest}
 use Rattle.md_seam.proofs.SpacesGoods.{rest-calm}
 use Rattle.markdown_blocks.specs.Leaf.HeadingAtx.{heading_leaf}
 use Rattle.markdown_blocks.proofs.FromEnding.{from_ending-again, from_ending-shrinks}
 use Rattle.markdown_blocks.proofs.LeafLaws.{Shrinks, cond-shrinks, shut_line}
+use Rattle.markdown_blocks.proofs.LeafStarts.{start-shrinks}
 
 -- a line that holds a heading is taken
 pub trial-took : (options : ParseOptions) (cells : List Cell) (h : Here) → IsRest h.scratch →
@@ -34,7 +34,5 @@ before_opening-shrinks n cells h le =
 
 pub trial-shrinks : (options : ParseOptions) (cells : List Cell) (h : Here) →
     Shrinks (length cells) (heading_at options cells h)
-unfolding heading_at
 trial-shrinks options cells h =
-    cond-shrinks _ (not options.constructs.heading_atx) _ _ tt
-    (cond-shrinks _ (begins_white cells) _ _ (before_opening-shrinks _ _ _ (white-length (small_indent options) cells)) (before_opening-shrinks _ cells _ (omega arith)))
+    start-shrinks HeadingAtx options.constructs.heading_atx before_opening options cells h before_opening-shrinks

@@ -4,14 +4,11 @@ use Rattle.md_engine.specs.declared.state.thematic_break.State.TheVariants as at
 use Rattle.std.proofs.Common.{◌&&◌, nat_le}
 use Rattle.md_seam.specs.Spaces.{ends_line, is_current, sees_white}
 use Rattle.std.proofs.Common.{◌≡◌, ℕ, Bool, true, false, Option, Some, None, refl}
+use Rattle.md_engine.specs.declared.event.Name.TheVariants as n
 use Rattle.md_engine.specs.World.{World}
 use Rattle.md_leaves.specs.Break as break
+use Rattle.markdown_blocks.proofs.LeafStarts.{start-registers}
 use Rattle.markdown_blocks.proofs.Registers.{Registers, adds}
-
-break-start : (w : World) (a b : Bool) → Registers w → Registers (break.start_code w a b).world
-break-start w false b h = h
-break-start w true true h = adds w.events _ w.resolvers refl refl h
-break-start w true false h = adds w.events _ w.resolvers refl refl h
 
 break-before : (w : World) (o : Option ℕ) → Registers w → Registers (break.before_code w o).world
 break-before w None h = h
@@ -33,7 +30,7 @@ break-sequence w false false h = adds w.events _ w.resolvers refl refl h
 
 -- each of them
 pub break-registers : (state : BreakState) (w : World) → Registers w → Registers (break.break_transition state w).world
-break-registers at.Start w h = break-start w w.setting.options.constructs.thematic_break (sees_white w.current) h
+break-registers at.Start w h = start-registers n.ThematicBreak _ w w.setting.options.constructs.thematic_break (sees_white w.current) h
 break-registers at.Before w h = break-before w w.current h
 break-registers at.AtBreak w h = break-at w (is_current w.scratch.marker w.current) (ends_line w.current && nat_le 3 w.scratch.size) h
 break-registers at.Sequence w h = break-sequence w (is_current w.scratch.marker w.current) (sees_white w.current) h

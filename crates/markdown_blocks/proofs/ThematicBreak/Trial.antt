@@ -1,6 +1,5 @@
 -- What a thematic break comes to, where it takes a line and where it refuses one.
 use Rattle.std.proofs.Common.{◌≡◌, ℕ, ◌≤◌, Bool, true, false, cond, List, [], ◌∷◌, ◌++◌, length, arith, refl, sym, ◌∙◌, ap, ap₂, append_assoc}
-use Rattle.std.specs.Prelude.{not}
 use Rattle.std.proofs.lemmas.Bool.{and_parts}
 use Rattle.md_engine.specs.declared.configuration.ParseOptions.{ParseOptions}
 use Rattle.md_engine.specs.declared.event.Event.{Event}
@@ -10,16 +9,17 @@ use Rattle.md_engine.specs.declared.tokenizer.Scratch.{Scratch}
 use Rattle.md_engine.specs.Meaning.{Accepts, Cell, Here, Outcome, Refuses}
 use Rattle.md_leaves.specs.Break.{without_marker}
 use Rattle.md_leaves.specs.BreakRule.{Apart, before_marker, break_at, broken, runs}
-use Rattle.md_leaves.proofs.BreakSteps.{at-none, at-off, at-white, entered_here}
+use Rattle.md_leaves.specs.LeafStart.{entered_here}
+use Rattle.md_leaves.proofs.LeafStart.{at-none, at-off, at-white}
 use Rattle.md_seam.specs.Ahead.{begins_white, from_ending, line_bytes, line_cells, line_end, white_end, white_rest}
 use Rattle.md_seam.specs.Standard.Leaves.{is_rule}
 use Rattle.md_seam.specs.Events.Nested.{around, enter, exit, pair}
 use Rattle.md_seam.specs.Spaces.{IsRest, calmed, small_indent}
 use Rattle.md_seam.proofs.AheadLemmas.{none-end, none-rest, white-ending, white-line_end}
-use Rattle.md_seam.proofs.RestCells.{white-length}
 use Rattle.md_seam.proofs.WhiteSteps.{behind_white}
 use Rattle.markdown_blocks.specs.Leaf.ThematicBreak.{break_inside, first_cell, is_break}
 use Rattle.markdown_blocks.proofs.FromEnding.{from_ending-again, from_ending-shrinks}
+use Rattle.markdown_blocks.proofs.LeafStarts.{start-shrinks}
 use Rattle.markdown_blocks.proofs.LeafLaws.{Shrinks, cond-shrinks, shut_line}
 
 -- what stands in a break with no indent, and with one
@@ -96,23 +96,23 @@ break-took options cells h is e = go (begins_white cells) refl
     go : (x : Bool) → begins_white cells ≡ x →
         break_at options cells h ≡ shut_line (around n.ThematicBreak h.point (line_end cells h.point) (break_inside options cells h.point)) cells h
     go true s =
-        let at : Here = behind_white room cells (entered_here h) in
+        let at : Here = behind_white room cells (entered_here n.ThematicBreak h) in
         let end : line_end left q ≡ p = white-line_end room cells h.point in
         let es : List Event = at.events ++ runs Apart (first_cell left) (line_cells left) q ++ exit n.ThematicBreak (line_end left q) ∷ [] in
         let same : es ≡ h.events ++ around n.ThematicBreak h.point p (break_inside options cells h.point) =
         regroup-white h.events (runs Apart (first_cell left) (line_cells left) q) (enter n.ThematicBreak h.point) (enter n.SpaceOrTab h.point) (exit n.SpaceOrTab q) (exit n.ThematicBreak (line_end left q))
         ∙ ap₂ (λ (x : Point) (es : List Event). h.events ++ (enter n.ThematicBreak h.point ∷ es ++ exit n.ThematicBreak x ∷ [])) end (sym (inside-white options cells h.point s)) in
-        at-white options cells h on s ∙ marked left at rule
+        at-white n.ThematicBreak _ before_marker options cells h on s ∙ marked left at rule
         ∙ ap₂ (λ (x : Point) (t : Scratch). new es x t (from_ending left)) end (rest-white h.scratch is)
         ∙ ap₂ (λ (xs : List Event) (rest : List Cell). new xs p h.scratch rest) same (white-ending room cells)
     go false s =
-        let at : Here = entered_here h in
+        let at : Here = entered_here n.ThematicBreak h in
         let here' : is_rule (line_bytes cells) ≡ true = sym (ap (λ (r : List Cell). is_rule (line_bytes r)) (none-rest room cells s)) ∙ rule in
         let es : List Event = at.events ++ runs Apart (first_cell cells) (line_cells cells) h.point ++ exit n.ThematicBreak p ∷ [] in
         let same : es ≡ h.events ++ around n.ThematicBreak h.point p (break_inside options cells h.point) =
         regroup h.events (runs Apart (first_cell cells) (line_cells cells) h.point) (enter n.ThematicBreak h.point) (exit n.ThematicBreak p)
         ∙ ap (λ (es : List Event). h.events ++ (enter n.ThematicBreak h.point ∷ es ++ exit n.ThematicBreak p ∷ [])) (sym (inside-none options cells h.point s)) in
-        at-none options cells h on s ∙ marked cells at here'
+        at-none n.ThematicBreak _ before_marker options cells h on s ∙ marked cells at here'
         ∙ ap₂ (λ (xs : List Event) (t : Scratch). new xs p t (from_ending cells)) same (rest-marker h.scratch is)
 
 -- and where none stands all is left as it was.
@@ -129,16 +129,16 @@ break-refused options cells h is e = by options.constructs.thematic_break refl
     go : options.constructs.thematic_break ≡ true → is_rule (line_bytes left) ≡ false → (x : Bool) →
         begins_white cells ≡ x → break_at options cells h ≡ Refuses h.scratch h.flags
     go on rule true s =
-        at-white options cells h on s ∙ unmarked left (behind_white room cells (entered_here h)) rule
+        at-white n.ThematicBreak _ before_marker options cells h on s ∙ unmarked left (behind_white room cells (entered_here n.ThematicBreak h)) rule
         ∙ ap (λ (t : Scratch). Refuses t h.flags) (rest-white h.scratch is)
     go on rule false s =
         let here' : is_rule (line_bytes cells) ≡ false = sym (ap (λ (r : List Cell). is_rule (line_bytes r)) (none-rest room cells s)) ∙ rule in
-        at-none options cells h on s ∙ unmarked cells (entered_here h) here'
+        at-none n.ThematicBreak _ before_marker options cells h on s ∙ unmarked cells (entered_here n.ThematicBreak h) here'
         ∙ ap (λ (t : Scratch). Refuses t h.flags) (rest-marker h.scratch is)
 
     by : (x : Bool) → options.constructs.thematic_break ≡ x → break_at options cells h ≡ Refuses h.scratch h.flags
     by true on = go on (rw on at e) (begins_white cells) refl
-    by false off = at-off options cells h off
+    by false off = at-off n.ThematicBreak _ before_marker options cells h off
 
 -- What is left of a line.
 
@@ -149,7 +149,5 @@ before_marker-shrinks n (c ∷ cs) h le = cond-shrinks n (is_rule (line_bytes (c
 
 pub break-shrinks : (options : ParseOptions) (cells : List Cell) (h : Here) →
     Shrinks (length cells) (break_at options cells h)
-unfolding break_at
 break-shrinks options cells h =
-    cond-shrinks (length cells) (not options.constructs.thematic_break) _ _ tt
-    (cond-shrinks (length cells) (begins_white cells) _ _ (before_marker-shrinks (length cells) _ _ (white-length (small_indent options) cells)) (before_marker-shrinks (length cells) cells _ (omega arith)))
+    start-shrinks n.ThematicBreak options.constructs.thematic_break before_marker options cells h before_marker-shrinks

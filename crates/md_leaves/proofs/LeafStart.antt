@@ -1,0 +1,90 @@
+-- The start of a leaf behind a small indent takes one step of its rule, and stands in any table that has its states.
+use Rattle.std.proofs.Common.{◌≡◌, ◌<◌, ◌≤◌, Bool, true, false, List, [], ◌∷◌, refl, sym, ◌∙◌, arith}
+use Rattle.md_engine.specs.declared.configuration.ParseOptions.{ParseOptions}
+use Rattle.md_engine.specs.declared.event.Name.{Name}
+use Rattle.md_engine.specs.declared.state.Name.{Name as StateName}
+use Rattle.md_engine.specs.declared.state.State.TheVariants.{Next}
+use Rattle.md_engine.specs.declared.tokenizer.Frame.{Frame}
+use Rattle.md_engine.specs.Meaning.{Behaviour, Cell, Feed, Here, Outcome, Refuses, Steps, here}
+use Rattle.md_engine.specs.Scheme.{After, Fits, Scheme, Spot, after_all, spot}
+use Rattle.md_engine.specs.World.{World}
+use Rattle.md_engine.proofs.Falls.{later_at}
+use Rattle.md_engine.proofs.Local.{refuses, turns}
+use Rattle.md_engine.proofs.StepOf.{Sees, begins, moves, passes}
+use Rattle.md_leaves.specs.LeafStart.{entered_here, start_at, start_code}
+use Rattle.md_leaves.proofs.LeafSteps.{white_frame}
+use Rattle.md_seam.specs.Ahead.{HasWhite, begins_white, white_rest}
+use Rattle.md_seam.specs.Events.Nested.{enter}
+use Rattle.md_seam.specs.Spaces.{IsRest, rest_ready, sees_white, small_indent}
+use Rattle.md_seam.specs.Transition.{entered}
+use Rattle.md_seam.proofs.AheadLemmas.{small-some}
+use Rattle.md_seam.proofs.SpacesGoods.{Does, WhiteFits, rest-calm, rest-none, white_try}
+use Rattle.md_seam.proofs.WhiteSteps.{begins-seen, behind_white, white-tried}
+
+-- What is left of it: where it is off,
+pub at-off : (name : Name) (on : Bool) (behind : List Cell → Here → Outcome) (options : ParseOptions) (cells : List Cell) (h : Here) →
+    on ≡ false → start_at name on behind options cells h ≡ Refuses h.scratch h.flags
+unfolding start_at
+at-off name on behind options cells h off = rw off refl
+
+-- behind whitespace,
+pub at-white : (name : Name) (on : Bool) (behind : List Cell → Here → Outcome) (options : ParseOptions) (cells : List Cell) (h : Here) →
+    on ≡ true → begins_white cells ≡ true →
+    start_at name on behind options cells h ≡
+    behind (white_rest (small_indent options) cells) (behind_white (small_indent options) cells (entered_here name h))
+unfolding start_at
+at-white name on behind options cells h is s = rw (is, s) refl
+
+-- and where there is none.
+pub at-none : (name : Name) (on : Bool) (behind : List Cell → Here → Outcome) (options : ParseOptions) (cells : List Cell) (h : Here) →
+    on ≡ true → begins_white cells ≡ false → start_at name on behind options cells h ≡ behind cells (entered_here name h)
+unfolding start_at
+at-none name on behind options cells h is s = rw (is, s) refl
+
+-- The rule has it at its first state, and what is left of it behind the indent at the next.
+pub record HasStart (B : Behaviour) (options : ParseOptions) (name : Name) (on : Bool) (behind : List Cell → Here → Outcome) (start next : StateName) : Type 0 where
+  pub white : HasWhite B
+  pub start_is : (cells : List Cell) (h : Here) → B start cells h ≡ start_at name on behind options cells h
+  pub next_is : (cells : List Cell) (h : Here) → B next cells h ≡ behind cells h
+
+pub start-steps : (B : Behaviour) (feed : Feed) (name : Name) (on : Bool) (behind : List Cell → Here → Outcome) (start next : StateName) (w : World) (x y : Bool) →
+    HasStart B w.setting.options name on behind start next → Sees feed w → on ≡ x → sees_white w.current ≡ y →
+    Steps B feed (Next start) w (start_code name next w x y).to (start_code name next w x y).world
+start-steps B feed name on behind start next w false y has s e f =
+    passes B feed _ _ w w refl refl (has.start_is _ _ ∙ at-off name on behind _ (feed w.point) (here w) e)
+start-steps B feed name on behind start next w true true has s e f =
+    let h : Here = entered_here name (here w) in
+    let frame : Frame = white_frame (Next next) w h.events in
+    let white : begins_white (feed w.point) ≡ true = begins-seen feed w s ∙ f in
+    begins B feed _ _ w (start_code name next w true true).world (enter name w.point ∷ []) frame refl refl
+    (has.start_is _ _ ∙ at-white name on behind _ (feed w.point) (here w) e white ∙ sym (has.next_is _ _)
+    ∙ white-tried B feed frame h.events (feed w.point) h 0 (small_indent w.setting.options) has.white white
+    (small-some w.setting.options) (omega arith) refl)
+start-steps B feed name on behind start next w true false has s e f =
+    moves B feed _ _ w (start_code name next w true false).world (enter name w.point ∷ []) refl refl
+    (has.start_is _ _ ∙ at-none name on behind _ (feed w.point) (here w) e (begins-seen feed w s ∙ f) ∙ sym (has.next_is _ _))
+
+-- A table has both states: the next one asks no more than the first, and ranks below it.
+pub record FitsStart (T own : Scheme) (start next : StateName) : Type 1 where
+  pub white : WhiteFits T
+  pub start_fits : Fits T own start
+  pub next_fits : Fits T own next
+  pub ready : (x : Spot) (K : After) → rest_ready x K → own.ready next x K
+  pub level : own.level next ≤ own.level start
+  pub some : 0 < own.level start
+  pub falls : (x : Spot) → (own.rank next x).number < (own.tries next).number
+  pub tries : (x : Spot) → (own.tries next).number < (own.rank start x).number
+
+pub good-start : (T own : Scheme) (name : Name) (start next : StateName) (w : World) (x y : Bool) → FitsStart T own start next →
+    rest_ready (spot w) (after_all T w.frames) → Does T start w (start_code name next w x y)
+good-start T own name start next w false y has r = (refuses T _ w _ _ w.events w.scratch r.1 r.0, refl)
+good-start T own name start next w true true has r =
+    white_try T own start next w (entered w name).events w.scratch 0 (small_indent w.setting.options) IsRest IsRest
+    has.white has.start_fits has.next_fits (rest-none w.scratch r.0) (λ some. rest-calm w.scratch r.0) r.1
+    (λ q t up way. has.ready _ _ (rest-calm w.scratch r.0, later_at _ _ (spot w) _ q t _ up way r.1)) has.level has.some
+    (λ t up. has.falls _) (has.tries _)
+good-start T own name start next w true false has r = (
+  turns T own start next w (entered w name).events w.scratch has.start_fits has.next_fits (has.ready _ _ r) has.level
+      (let a = has.falls (spot w) in let b = has.tries (spot w) in omega (arith, a, b)),
+  refl,
+)
