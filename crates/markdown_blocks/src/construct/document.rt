@@ -18,10 +18,11 @@ ghost use Rattle.md_engine.specs.declared.state.document.State.{State as Documen
 ghost use Rattle.markdown_blocks.specs.Flow.{containers_after_transition, existing_after_transition, existing_before_transition, flow_end_transition, new_after_transition, new_before_transition};
 ghost use Rattle.markdown_blocks.specs.LineFlags.{ending_name, next_container, stays};
 ghost use Rattle.markdown_blocks.specs.Document.{before_frontmatter_transition, document_own_transition, document_table_scheme, document_transition, start_transition};
-ghost use Rattle.markdown_blocks.specs.Registry.{goes_on_with};
+ghost use Rattle.markdown_blocks.specs.Registry.{goes_on_with, may_go_on, may_open};
 ghost use Rattle.md_seam.specs.Transition.{IsAt, NeedsNothing};
 
 use crate::resolve;
+use md_containers::block_quote;
 use md_engine::event::Name;
 use md_engine::message::Message;
 use md_engine::or_error;
@@ -84,6 +85,22 @@ fn goes_on_with(kind: ContainerKind) -> StateName
     }
 }
 
+/// Whether the prefix of a container on a further line may begin with what stands here.
+fn may_go_on(kind: ContainerKind, current: Option<u8>) -> bool
+    ensures { result ≡ may_go_on kind current }
+{
+    match kind {
+        ContainerKind::BlockQuote => block_quote::may_begin(current),
+    }
+}
+
+/// Whether a container may open with what stands here.
+fn may_open(current: Option<u8>) -> bool
+    ensures { result ≡ may_open current }
+{
+    block_quote::may_begin(current)
+}
+
 /// At the begin of a line, or behind the prefix of a container that went on: before the next one that is open.
 ///
 /// ```markdown
@@ -99,6 +116,9 @@ pub fn container_existing_before(tokenizer: &mut Tokenizer) -> State
     match next_container(tokenizer) {
         None => State::Retry(StateName::Document(DocumentState::ContainerNewBefore)),
         Some(container) => {
+            if !may_go_on(container.kind, tokenizer.current) {
+                return State::Retry(StateName::Document(DocumentState::ContainerNewBefore));
+            }
             or_error!(tokenizer.attempt(
                 State::Next(StateName::Document(DocumentState::ContainerExistingAfter)),
                 State::Next(StateName::Document(DocumentState::ContainerNewBefore))
@@ -137,6 +157,9 @@ pub fn container_new_before(tokenizer: &mut Tokenizer) -> State
     ensures to { result ≢ State.Error → result ≡ (new_before_transition (world tokenizer.old)).to }
     ensures world { result ≢ State.Error → world tokenizer.new ≡ (new_before_transition (world tokenizer.old)).world }
 {
+    if !may_open(tokenizer.current) {
+        return State::Retry(StateName::Document(DocumentState::ContainersAfter));
+    }
     or_error!(tokenizer.attempt(
         State::Next(StateName::Document(DocumentState::ContainerNewAfter)),
         State::Next(StateName::Document(DocumentState::ContainersAfter))
