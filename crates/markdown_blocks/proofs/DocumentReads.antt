@@ -37,7 +37,8 @@ use Rattle.md_seam.specs.Standard.Preamble.{has_mark}
 use Rattle.md_seam.specs.Spaces.{is_current}
 use Rattle.markdown_blocks.specs.Document.{DocumentStep, ReadsMark, body_point, document_table_scheme, document_transition, mark_end, mark_events}
 use Rattle.markdown_blocks.specs.DocumentRule.{document_at, document_behaves}
-use Rattle.markdown_blocks.specs.Flow.{existing_before_code, flow_end_code}
+use Rattle.markdown_blocks.specs.Flow.{existing_before_code, flow_end_code, trial_code}
+use Rattle.markdown_blocks.specs.Registry.{may_go_on, may_open}
 use Rattle.markdown_blocks.specs.FlowReads.{text_cells, text_setting}
 use Rattle.markdown_blocks.specs.FlowRule.{tried}
 use Rattle.markdown_blocks.specs.LineFlags.{next_container, stays}
@@ -171,9 +172,13 @@ bom-inside w true true = refl
 bom-inside w true false = refl
 bom-inside w false b = refl
 
+trial-resolvers : (start ok nok : StateName) (w : World) (b : Bool) → (trial_code start ok nok w b).world.resolvers ≡ w.resolvers
+trial-resolvers start ok nok w true = refl
+trial-resolvers start ok nok w false = refl
+
 existing-resolvers : (w : World) (o : Option Container) → (existing_before_code w o).world.resolvers ≡ w.resolvers
 existing-resolvers w None = refl
-existing-resolvers w (Some c) = refl
+existing-resolvers w (Some c) = trial-resolvers _ _ _ w (may_go_on c.kind w.current)
 
 end-resolvers : (w : World) (o : Option ℕ) → (flow_end_code w o).world.resolvers ≡ w.resolvers
 end-resolvers w None = refl
@@ -188,6 +193,7 @@ went-resolvers (s.Bom bom_state.Start) w = bom-start w (is_current 239 w.current
 went-resolvers (s.Bom bom_state.Inside) w =
     bom-inside w (is_current (mark_at w.scratch.size) w.current) (nat_lt w.scratch.size 2)
 went-resolvers (s.Document document.ContainerExistingBefore) w = existing-resolvers w (next_container w.flags)
+went-resolvers (s.Document document.ContainerNewBefore) w = trial-resolvers _ _ _ w (may_open w.current)
 went-resolvers (s.Document document.FlowEnd) w = end-resolvers (closed w (stays w.flags) w.flags.line_end) w.current
 went-resolvers _ w = refl
 

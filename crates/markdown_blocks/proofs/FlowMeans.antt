@@ -26,24 +26,28 @@ use Rattle.md_engine.specs.World.{Flags, World, after, closed}
 use Rattle.md_engine.proofs.StepOf.{Sees, ahead, begins_only, changes, outermost-frames, passes, sees, steps-as}
 use Rattle.md_content.specs.ChunkRule.{chunk_at}
 use Rattle.md_content.proofs.ContentSteps.{chunk_steps}
-use Rattle.md_leaves.specs.BlankRule.{blank_at}
+use Rattle.md_leaves.specs.Blank as blank
+use Rattle.md_leaves.proofs.BlankLook.{blank-refused}
 use Rattle.md_leaves.proofs.BlankSteps.{blank_steps}
 use Rattle.md_seam.specs.Events.Nested.{enter, exit, pair}
+use Rattle.md_seam.specs.Look.{first_seen}
+use Rattle.md_seam.specs.Spaces.{IsRest}
 use Rattle.md_seam.specs.Transition.{Transition, entered, exited, taken}
+use Rattle.md_seam.proofs.LookLemmas.{first-seen}
 use Rattle.md_seam.proofs.SpacesGoods.{does-stands}
 use Rattle.md_seam.proofs.WhiteSteps.{white_steps}
 use Rattle.markdown_blocks.specs.Document.{document_own_transition}
 use Rattle.markdown_blocks.specs.Fed.{feeds}
-use Rattle.markdown_blocks.specs.Flow.{after_transition, before_content_transition, before_transition, blank_line_after_transition, blank_line_before_transition, containers_after_transition, existing_after_transition, existing_before_code, flow_end_code, flow_end_transition, flow_own_transition, leaf_transition, new_after_transition, new_before_transition, start_transition}
-use Rattle.markdown_blocks.specs.FlowRule.{HasFlow, Rule, behind_containers, blank_ended, ended, ended_to, existing_by, flow_at, leaves_of, line_ended, line_then, new_of, opened, tried}
+use Rattle.markdown_blocks.specs.Flow.{after_transition, before_content_transition, before_transition, blank_line_after_transition, blank_line_before_transition, containers_after_transition, existing_after_transition, existing_before_code, flow_end_code, flow_end_transition, flow_own_transition, leaf_transition, new_after_transition, new_before_transition, start_transition, trial_code}
+use Rattle.markdown_blocks.specs.FlowRule.{HasFlow, Rule, behind_containers, blank_ended, ended, ended_to, existing_by, flow_at, leaves_of, line_ended, line_then, new_of, nonblank_of, opened, tried}
 use Rattle.markdown_blocks.specs.LineFlags as flags
 use Rattle.markdown_blocks.specs.LineFlags.{ending_name, next_container, next_line, went_on}
 use Rattle.markdown_blocks.specs.States.{FlowStep, flow_behaves, flow_behaves_by, flow_table_scheme, flow_transition, leaf_owner}
-use Rattle.markdown_blocks.specs.Registry.{behind, continues_at, front_of, leaf, LeafName, new_container_at, new_kind, next_of, trials, tried_at}
+use Rattle.markdown_blocks.specs.Registry.{behind, front_of, leaf, LeafName, may_go_on, may_open, new_kind, next_of, trials, tried_at}
 use Rattle.markdown_blocks.proofs.FlowLemmas.{flow_by_line, line_by_container, new_by_container}
 use Rattle.markdown_blocks.proofs.States.{flow_does}
 use Rattle.markdown_blocks.proofs.Trials.{left-before, left-next}
-use Rattle.markdown_blocks.proofs.Registry.{construct-steps, container-states, leaf-states, tried-before, white_has}
+use Rattle.markdown_blocks.proofs.Registry.{construct-steps, container-states, leaf-states, tried-before, white_has, container-laws, laws, leaf-starts, left-before, left-next}
 
 -- an attempt that was begun here
 abbrev frame_here : State → State → World → Frame
@@ -59,22 +63,54 @@ resumed B feed w ok nok (Refuses s g) y z a b =
     sym (ap (λ (x : List Event). goes B nok (feed w.point) (record { events = x; point = w.point; scratch = s; flags = g })) back ∙ b s g)
 resumed B feed w ok nok Fails y z a b = refl
 
+-- What is left at a state where a construct is tried, at the construct's first state, and at those behind it; it is refused where it
+-- may not begin.
+record IsTried (B : Behaviour) (feed : Feed) (w : World) (from start ok nok : StateName) (may : Bool) : Type 0 where
+  onward : Rule
+  otherwise : Scratch → Flags → Outcome
+  from_is : B from (feed w.point) (here w) ≡ tried (B start (feed w.point) (here w)) onward otherwise
+  ok_is : (cells : List Cell) (h : Here) → B ok cells h ≡ onward cells h
+  nok_is : (s : Scratch) (g : Flags) → B nok (feed w.point) (record (here w) { scratch = s; flags = g }) ≡ otherwise s g
+  looked : may ≡ false → B start (feed w.point) (here w) ≡ Refuses w.scratch w.flags
+
+trial_steps : (B : Behaviour) (feed : Feed) (w : World) (from start ok nok : StateName) (may : Bool) → IsTried B feed w from start ok nok may →
+    Steps B feed (Next from) w (trial_code start ok nok w may).to (trial_code start ok nok w may).world
+trial_steps B feed w from start ok nok true t =
+    begins_only B feed _ _ w (trial_code start ok nok w true).world (frame_here (Next ok) (Next nok) w) refl refl
+    (t.from_is ∙ resumed B feed w (Next ok) (Next nok) (B start (feed w.point) (here w)) t.onward t.otherwise t.ok_is t.nok_is)
+trial_steps B feed w from start ok nok false t =
+    passes B feed _ _ w w refl refl
+    (t.from_is ∙ ap (λ (o : Outcome). tried o t.onward t.otherwise) (t.looked refl) ∙ sym (t.nok_is w.scratch w.flags))
+
+-- what a test says of what stands here it says of what stands first
+looks : (test : Option ℕ → Bool) (feed : Feed) (w : World) → Sees feed w → test w.current ≡ false → test (first_seen (feed w.point)) ≡ false
+looks test feed w s e = ap test (first-seen feed w s) ∙ e
+
 -- Containers.
 
-existing_before_steps : (B : Behaviour) (feed : Feed) (w : World) (options : ParseOptions) (next : Rule) (o : Option Container) → HasFlow B options next → next_container w.flags ≡ o →
+existing_before_steps : (B : Behaviour) (feed : Feed) (w : World) (options : ParseOptions) (next : Rule) (o : Option Container) → HasFlow B options next → Sees feed w → IsRest w.scratch →
+    next_container w.flags ≡ o →
     Steps B feed (Next (n.Document document.ContainerExistingBefore)) w (existing_before_code w o).to (existing_before_code w o).world
-existing_before_steps B feed w options next None has e =
+existing_before_steps B feed w options next None has s is e =
     passes B feed _ _ w w refl refl
     (has.containers document.ContainerExistingBefore _ _ ∙ line_by_container options next (feed w.point) (here w)
     ∙ ap (λ (o : Option Container). existing_by options next (line_then options next) o (feed w.point) (here w)) e ∙ sym (has.containers document.ContainerNewBefore _ _))
-existing_before_steps B feed w options next (Some c) has e =
-    let f : Frame = frame_here (Next (n.Document document.ContainerExistingAfter)) (Next (n.Document document.ContainerNewBefore)) w in
-    begins_only B feed _ _ w (existing_before_code w (Some c)).world f refl refl
-    (has.containers document.ContainerExistingBefore _ _ ∙ line_by_container options next (feed w.point) (here w)
-    ∙ ap (λ (o : Option Container). existing_by options next (line_then options next) o (feed w.point) (here w)) e
-    ∙ resumed B feed w (Next (n.Document document.ContainerExistingAfter)) (Next (n.Document document.ContainerNewBefore)) (continues_at options c.kind (feed w.point) (here w))
-    (λ rest k. line_then options next rest (record k { flags = went_on k.flags })) (λ s g. new_of options next (feed w.point) (record (here w) { scratch = s; flags = g })) (has.containers document.ContainerExistingAfter) (λ s g. has.containers document.ContainerNewBefore _ _)
-    ∙ ap (resume B feed w.events f) (sym (has.goes_on c.kind _ _)))
+existing_before_steps B feed w options next (Some c) has s is e =
+    let onward : Rule = λ rest k. line_then options next rest (record k { flags = went_on k.flags }) in
+    let otherwise : Scratch → Flags → Outcome = λ s g. new_of options next (feed w.point) (record (here w) { scratch = s; flags = g }) in
+    trial_steps B feed w _ _ _ _ (may_go_on c.kind w.current) (record {
+      onward = onward;
+      otherwise = otherwise;
+      from_is =
+          has.containers document.ContainerExistingBefore _ _ ∙ line_by_container options next (feed w.point) (here w)
+          ∙ ap (λ (o : Option Container). existing_by options next (line_then options next) o (feed w.point) (here w)) e
+          ∙ ap (λ (o : Outcome). tried o onward otherwise) (sym (has.goes_on c.kind _ _));
+      ok_is = has.containers document.ContainerExistingAfter;
+      nok_is = λ s g. has.containers document.ContainerNewBefore _ _;
+      looked = λ no.
+          has.goes_on c.kind _ _
+          ∙ (container-laws c.kind).continues_looked options (feed w.point) (here w) is (looks (may_go_on c.kind) feed w s no);
+    })
 
 existing_after_steps : (B : Behaviour) (feed : Feed) (w : World) (options : ParseOptions) (next : Rule) →
     HasFlow B options next →
@@ -83,15 +119,23 @@ existing_after_steps B feed w options next has =
     passes B feed _ _ w (existing_after_transition w).world refl refl (has.containers document.ContainerExistingAfter _ _ ∙ sym (has.containers document.ContainerExistingBefore _ _))
 
 new_before_steps : (B : Behaviour) (feed : Feed) (w : World) (options : ParseOptions) (next : Rule) →
-    HasFlow B options next →
+    HasFlow B options next → Sees feed w → IsRest w.scratch →
     Steps B feed (Next (n.Document document.ContainerNewBefore)) w (new_before_transition w).to (new_before_transition w).world
-new_before_steps B feed w options next has =
-    let f : Frame = frame_here (Next (n.Document document.ContainerNewAfter)) (Next (n.Document document.ContainersAfter)) w in
-    begins_only B feed _ _ w (new_before_transition w).world f refl refl
-    (has.containers document.ContainerNewBefore _ _ ∙ new_by_container options next (feed w.point) (here w)
-    ∙ resumed B feed w (Next (n.Document document.ContainerNewAfter)) (Next (n.Document document.ContainersAfter)) (new_container_at options (feed w.point) (here w))
-    (λ rest k. new_of options next rest (opened k)) (λ s g. behind_containers options next (feed w.point) (record (here w) { scratch = s; flags = g })) (has.containers document.ContainerNewAfter) (λ s g. has.containers document.ContainersAfter _ _)
-    ∙ ap (resume B feed w.events f) (sym (has.opens _ _)))
+new_before_steps B feed w options next has s is =
+    let onward : Rule = λ rest k. new_of options next rest (opened k) in
+    let otherwise : Scratch → Flags → Outcome =
+    λ s g. behind_containers options next (feed w.point) (record (here w) { scratch = s; flags = g }) in
+    trial_steps B feed w _ _ _ _ (may_open w.current) (record {
+      onward = onward;
+      otherwise = otherwise;
+      from_is =
+          has.containers document.ContainerNewBefore _ _ ∙ new_by_container options next (feed w.point) (here w)
+          ∙ ap (λ (o : Outcome). tried o onward otherwise) (sym (has.opens _ _));
+      ok_is = has.containers document.ContainerNewAfter;
+      nok_is = λ s g. has.containers document.ContainersAfter _ _;
+      looked = λ no.
+          has.opens _ _ ∙ (container-laws new_kind).begins_looked options (feed w.point) (here w) is (looks may_open feed w s no);
+    })
 
 -- where containers end no attempt is around, so none goes back to events before these ends
 new_after_steps : (B : Behaviour) (feed : Feed) (w : World) (options : ParseOptions) (next : Rule) →
@@ -114,25 +158,40 @@ start_steps : (B : Behaviour) (feed : Feed) (w : World) (options : ParseOptions)
 start_steps B feed w options next has =
     passes B feed _ _ w w refl refl (has.leaves flow.Start _ _ ∙ sym (has.leaves flow.BlankLineBefore _ _))
 
-blank_line_before_steps : (B : Behaviour) (feed : Feed) (w : World) (options : ParseOptions) (next : Rule) → HasFlow B options next →
+blank_line_before_steps : (B : Behaviour) (feed : Feed) (w : World) (options : ParseOptions) (next : Rule) → HasFlow B options next → Sees feed w →
     Steps B feed (Next (n.Flow flow.BlankLineBefore)) w (blank_line_before_transition w).to (blank_line_before_transition w).world
-blank_line_before_steps B feed w options next has =
-    let f : Frame = frame_here (Next (n.Flow flow.BlankLineAfter)) (Next (n.Flow (front_of trials))) w in
-    begins_only B feed _ _ w (blank_line_before_transition w).world f refl refl
-    (has.leaves flow.BlankLineBefore _ _
-    ∙ resumed B feed w (Next (n.Flow flow.BlankLineAfter)) (Next (n.Flow (front_of trials))) (blank_at (feed w.point) (here w)) (blank_ended next) _ (has.leaves flow.BlankLineAfter) (λ s g. has.leaves (front_of trials) _ _)
-    ∙ ap (resume B feed w.events f) (sym (has.blank.each blank_line.Start _ _)))
+blank_line_before_steps B feed w options next has s =
+    let otherwise : Scratch → Flags → Outcome =
+    λ s g. nonblank_of options next (feed w.point) (record (here w) { scratch = s; flags = g }) in
+    trial_steps B feed w _ _ _ _ (blank.may_begin w.current) (record {
+      onward = blank_ended next;
+      otherwise = otherwise;
+      from_is =
+          has.leaves flow.BlankLineBefore _ _
+          ∙ ap (λ (o : Outcome). tried o (blank_ended next) otherwise) (sym (has.blank.each blank_line.Start _ _));
+      ok_is = has.leaves flow.BlankLineAfter;
+      nok_is = λ s g. has.leaves (front_of trials) _ _;
+      looked = λ no.
+          has.blank.each blank_line.Start _ _ ∙ blank-refused (feed w.point) (here w) (looks blank.may_begin feed w s no);
+    })
 
-before_steps : (l : LeafName) (B : Behaviour) (feed : Feed) (w : World) (options : ParseOptions) (next : Rule) → HasFlow B options next →
+before_steps : (l : LeafName) (B : Behaviour) (feed : Feed) (w : World) (options : ParseOptions) (next : Rule) → HasFlow B options next → Sees feed w → IsRest w.scratch →
     Steps B feed (Next (n.Flow (leaf l).before)) w (before_transition l w).to (before_transition l w).world
-before_steps l B feed w options next has =
-    let f : Frame = frame_here (Next (n.Flow flow.After)) (Next (n.Flow (next_of l))) w in
-    begins_only B feed _ _ w (before_transition l w).world f refl refl
-    (has.leaves (leaf l).before _ _ ∙ left-before options next l _ _
-    ∙ resumed B feed w (Next (n.Flow flow.After)) (Next (n.Flow (next_of l))) ((leaf l).trial options (feed w.point) (here w)) (line_ended next)
-    (λ s g. leaves_of options next (behind l) (feed w.point) (record (here w) { scratch = s; flags = g })) (has.leaves flow.After)
-    (λ s g. has.leaves (next_of l) _ _ ∙ left-next options next l _ _)
-    ∙ ap (resume B feed w.events f) (sym (has.starts l _ _)))
+before_steps l B feed w options next has s is =
+    let otherwise : Scratch → Flags → Outcome =
+    λ s g. leaves_of options next (behind l) (feed w.point) (record (here w) { scratch = s; flags = g }) in
+    trial_steps B feed w _ _ _ _ ((leaf l).may_begin w.current) (record {
+      onward = line_ended next;
+      otherwise = otherwise;
+      from_is =
+          has.leaves (leaf l).before _ _ ∙ left-before options next l _ _
+          ∙ ap (λ (o : Outcome). tried o (line_ended next) otherwise) (sym (has.starts l _ _));
+      ok_is = has.leaves flow.After;
+      nok_is = λ s g. has.leaves (next_of l) _ _ ∙ left-next options next l _ _;
+      looked = λ no.
+          has.starts l _ _
+          ∙ (laws l).refused options (feed w.point) (here w) is ((laws l).looked options (feed w.point) (looks (leaf l).may_begin feed w s no));
+    })
 
 before_content_steps : (B : Behaviour) (feed : Feed) (w : World) (options : ParseOptions) (next : Rule) →
     HasFlow B options next →
@@ -215,9 +274,9 @@ containers_steps : (B : Behaviour) (feed : Feed) (next : Rule) (state : Document
     stands flow_table_scheme w (Next (n.Document state)) → GoesOn B next (feeds (n.Document state) w.current) →
     Steps B feed (Next (n.Document state)) w (document_own_transition state w).to (document_own_transition state w).world
 containers_steps B feed next document.ContainerExistingBefore w has s at on =
-    existing_before_steps B feed w _ _ _ has refl
+    existing_before_steps B feed w _ _ _ has s at.0.0 refl
 containers_steps B feed next document.ContainerExistingAfter w has s at on = existing_after_steps B feed w _ _ has
-containers_steps B feed next document.ContainerNewBefore w has s at on = new_before_steps B feed w _ _ has
+containers_steps B feed next document.ContainerNewBefore w has s at on = new_before_steps B feed w _ _ has s at.0.0
 containers_steps B feed next document.ContainerNewAfter w has s at on =
     new_after_steps B feed w _ _ has (outermost-frames flow_table_scheme w.frames at.1)
 containers_steps B feed next document.ContainersAfter w has s at on = containers_after_steps B feed w _ _ has
@@ -227,25 +286,25 @@ containers_steps B feed next state w has s at on = absurd at
 
 -- the states in front of a leaf,
 leaf_steps : (B : Behaviour) (feed : Feed) (next : Rule) (state : FlowState) (o : Option LeafName) → tried_at state ≡ o → (w : World) →
-    HasFlow B w.setting.options next →
+    HasFlow B w.setting.options next → Sees feed w →
     (leaf_owner o).ready (n.Flow state) (spot w) (after_all flow_table_scheme w.frames) →
     Steps B feed (Next (n.Flow state)) w (leaf_transition o w).to (leaf_transition o w).world
-leaf_steps B feed next state None e w has at = absurd at
-leaf_steps B feed next state (Some l) e w has at =
+leaf_steps B feed next state None e w has s at = absurd at
+leaf_steps B feed next state (Some l) e w has s at =
     let P : FlowState → Type 0 = λ x. Steps B feed (Next (n.Flow x)) w (before_transition l w).to (before_transition l w).world in
-    subst P (tried-before state l e) (before_steps l B feed w _ _ has)
+    subst P (tried-before state l e) (before_steps l B feed w _ _ has s at.0.0)
 
 -- and those in front of none, or behind it
 leaves_steps : (B : Behaviour) (feed : Feed) (next : Rule) (state : FlowState) (w : World) →
-    HasFlow B w.setting.options next →
+    HasFlow B w.setting.options next → Sees feed w →
     stands flow_table_scheme w (Next (n.Flow state)) →
     Steps B feed (Next (n.Flow state)) w (flow_own_transition state w).to (flow_own_transition state w).world
-leaves_steps B feed next flow.Start w has at = start_steps B feed w _ _ has
-leaves_steps B feed next flow.BlankLineBefore w has at = blank_line_before_steps B feed w _ _ has
-leaves_steps B feed next flow.BeforeContent w has at = before_content_steps B feed w _ _ has
-leaves_steps B feed next flow.BlankLineAfter w has at = blank_line_after_steps B feed w _ _ has
-leaves_steps B feed next flow.After w has at = after_steps B feed w _ _ has
-leaves_steps B feed next state w has at = leaf_steps B feed next state (tried_at state) refl w has at
+leaves_steps B feed next flow.Start w has s at = start_steps B feed w _ _ has
+leaves_steps B feed next flow.BlankLineBefore w has s at = blank_line_before_steps B feed w _ _ has s
+leaves_steps B feed next flow.BeforeContent w has s at = before_content_steps B feed w _ _ has
+leaves_steps B feed next flow.BlankLineAfter w has s at = blank_line_after_steps B feed w _ _ has
+leaves_steps B feed next flow.After w has s at = after_steps B feed w _ _ has
+leaves_steps B feed next state w has s at = leaf_steps B feed next state (tried_at state) refl w has s at
 
 -- each state takes one step of what it means
 each_steps : (is_name : ResolveName → ResolveName → Bool) (feed : Feed) (next : Rule) (name : StateName) (w : World) → Sees feed w → stands flow_table_scheme w (Next name) →
@@ -263,7 +322,7 @@ each_steps is_name feed next name w s at on = go name at on
     go (n.BlankLine state) at on = blank_steps B feed state w has.blank s at.0
     go (n.Content state) at on = chunk_steps B feed (is_name r.Content) state w has.chunk s
     go (n.Document state) at on = containers_steps B feed next state w has s at on
-    go (n.Flow state) at on = leaves_steps B feed next state w has at
+    go (n.Flow state) at on = leaves_steps B feed next state w has s at
     go (n.SpaceOrTab state) at on = white_steps B feed state w has.blank.white s
     go name at on = construct-steps is_name feed next name w s at
 

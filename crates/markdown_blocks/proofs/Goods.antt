@@ -15,12 +15,12 @@ use Rattle.md_engine.proofs.Falls.{later, later_at}
 use Rattle.md_engine.proofs.Local.{accepts, begins_later, begins_try, consumes, refuses, turns}
 use Rattle.md_engine.proofs.Points.{passes-reaches, stays, takes}
 use Rattle.md_content.specs.Chunks.{chunk_scheme}
-use Rattle.md_leaves.specs.Blank.{blank_scheme}
+use Rattle.md_leaves.specs.Blank.{blank_scheme, may_begin}
 use Rattle.md_seam.specs.Spaces.{IsRest, rest_ready}
 use Rattle.md_seam.proofs.SpacesGoods.{Does, seen-some}
-use Rattle.markdown_blocks.specs.Flow.{after_transition, before_content_transition, before_transition, blank_line_after_transition, blank_line_before_transition, containers_after_transition, existing_after_transition, existing_before_code, flow_end_code, flow_rank, flow_ready, flow_scheme, new_after_transition, new_before_transition, start_transition}
+use Rattle.markdown_blocks.specs.Flow.{after_transition, before_content_transition, before_transition, blank_line_after_transition, blank_line_before_transition, containers_after_transition, existing_after_transition, existing_before_code, flow_end_code, flow_rank, flow_ready, flow_scheme, new_after_transition, new_before_transition, start_transition, trial_code}
 use Rattle.markdown_blocks.specs.LineFlags as flags
-use Rattle.markdown_blocks.specs.Registry.{LeafName, first_container, front_of, goes_on_with, leaf, next_of, trials}
+use Rattle.markdown_blocks.specs.Registry.{LeafName, first_container, front_of, goes_on_with, leaf, may_go_on, may_open, next_of, trials}
 
 -- what a table has of a leaf on one line: the states in front of it and of the next are those of flow, and fall; its first state is of
 -- a lower level, and ready at rest
@@ -56,6 +56,14 @@ pub record FlowFits (T : Scheme) : Type 1 where
   pub blank_line_after : Fits T flow_scheme (n.Flow flow.BlankLineAfter)
   pub behind : Fits T flow_scheme (n.Flow flow.After)
 
+-- a trial that is refused at once goes on with a state that ranks below
+looked : (T : Scheme) (n start ok nok : StateName) (w : World) (b : Bool) → Fits T flow_scheme n → Fits T flow_scheme nok →
+    flow_ready (spot w) (after_all T w.frames) → (flow_rank nok).number < (flow_rank n).number →
+    Does T n w (trial_code start ok nok w true) → Does T n w (trial_code start ok nok w b)
+looked T n start ok nok w true here next r lt tried = tried
+looked T n start ok nok w false here next r lt tried =
+    (turns T flow_scheme _ _ w w.events w.scratch here next r (omega arith) lt, refl)
+
 -- Containers.
 
 -- what flow goes on with, after a prefix, which ends later
@@ -77,7 +85,8 @@ pub good_existing_before : (T : Scheme) (w : World) (o : Option Container) → F
     Does T (n.Document document.ContainerExistingBefore) w (existing_before_code w o)
 good_existing_before T w None has inner r = (turns T flow_scheme _ _ w w.events w.scratch has.existing_before has.new_before r (omega arith) (omega arith), refl)
 good_existing_before T w (Some c) has inner r =
-    let i : ContainerFits T (goes_on_with c.kind) = inner c.kind in (
+    let i : ContainerFits T (goes_on_with c.kind) = inner c.kind in
+    looked T _ _ _ _ w (may_go_on c.kind w.current) has.existing_before has.new_before r (omega arith) (
       begins_later T flow_scheme i.own (n.Document document.ContainerExistingBefore) (goes_on_with c.kind) w IsRest IsRest w.events w.scratch _ has.existing_before i.starts has.existing_after has.new_before refl
           (prefix_tries (n.Document document.ContainerExistingAfter) (n.Document document.ContainerNewBefore) w (after_all T w.frames) r (omega arith) (λ x. refl)) (λ K e. i.ready _ K r.0.0 e) i.level (omega arith) (omega arith),
       refl,
@@ -90,7 +99,7 @@ good_existing_after T w has r = (turns T flow_scheme _ _ w w.events w.scratch ha
 pub good_new_before : (T : Scheme) (w : World) → FlowFits T → ContainerFits T first_container →
     flow_ready (spot w) (after_all T w.frames) →
     Does T (n.Document document.ContainerNewBefore) w (new_before_transition w)
-good_new_before T w has inner r = (
+good_new_before T w has inner r = looked T _ _ _ _ w (may_open w.current) has.new_before has.containers_after r (omega arith) (
   begins_later T flow_scheme inner.own (n.Document document.ContainerNewBefore) first_container w IsRest IsRest w.events w.scratch _ has.new_before inner.starts has.new_after has.containers_after refl
       (prefix_tries (n.Document document.ContainerNewAfter) (n.Document document.ContainersAfter) w (after_all T w.frames) r (omega arith) (λ x. refl)) (λ K e. inner.ready _ K r.0.0 e) inner.level (omega arith) (omega arith),
   refl,
@@ -128,7 +137,7 @@ flow_tries ok nok w K r low_ok low_nok same_ok same_nok = record {
 pub good_blank_line_before : (T : Scheme) (w : World) → FlowFits T →
     Fits T blank_scheme (n.BlankLine blank_line.Start) → flow_ready (spot w) (after_all T w.frames) →
     Does T (n.Flow flow.BlankLineBefore) w (blank_line_before_transition w)
-good_blank_line_before T w has inner r = (
+good_blank_line_before T w has inner r = looked T _ _ _ _ w (may_begin w.current) has.blank_line_before has.first_leaf r (omega arith) (
   begins_try T flow_scheme blank_scheme (n.Flow flow.BlankLineBefore) (n.BlankLine blank_line.Start) w IsRest IsRest w.events w.scratch _ has.blank_line_before inner has.blank_line_after has.first_leaf refl
       (flow_tries (n.Flow flow.BlankLineAfter) (n.Flow (front_of trials)) w (after_all T w.frames) r (omega arith) (omega arith) (λ x. refl) (λ x. refl)) (λ K e. (r.0.0, e)) (omega arith) (omega arith) (omega arith),
   refl,
@@ -138,7 +147,7 @@ good_blank_line_before T w has inner r = (
 pub good_before : (T : Scheme) (l : LeafName) (w : World) → FlowFits T → LeafFits T l →
     flow_ready (spot w) (after_all T w.frames) →
     Does T (n.Flow (leaf l).before) w (before_transition l w)
-good_before T l w has inner r = (
+good_before T l w has inner r = looked T _ _ _ _ w ((leaf l).may_begin w.current) inner.front inner.next r (let a = inner.falls in let b = inner.next_low in omega (arith, a, b)) (
   begins_try T flow_scheme inner.own (n.Flow (leaf l).before) (leaf l).start w IsRest IsRest w.events w.scratch _ inner.front inner.starts has.behind inner.next refl
       (flow_tries (n.Flow flow.After) (n.Flow (next_of l)) w (after_all T w.frames) r inner.behind_low inner.next_low (λ x. refl) (λ x. refl)) (λ K e. inner.ready _ K (r.0.0, e)) inner.level (omega arith) inner.falls,
   refl,

@@ -8,7 +8,7 @@ use Rattle.md_engine.specs.declared.state.document.State.TheVariants as document
 use Rattle.md_engine.specs.declared.state.space_or_tab.State.{State as WhiteState}
 use Rattle.md_engine.specs.declared.state.space_or_tab.State.TheVariants as white
 use Rattle.md_engine.specs.declared.state.flow.State.{State as FlowState}
-use Rattle.md_engine.specs.declared.state.flow.State.TheVariants as leaf
+use Rattle.md_engine.specs.declared.state.flow.State.TheVariants as its
 use Rattle.std.proofs.Common.{◌≡◌, ℕ, ◌&&◌, Bool, true, false, nat_eq, nat_lt, nat_le, Option, Some, None, length, refl}
 use Rattle.md_engine.specs.declared.event.Name.TheVariants as n
 use Rattle.md_engine.specs.declared.resolve.name.Name.TheVariants as r
@@ -25,6 +25,7 @@ use Rattle.md_seam.specs.Spaces.{ends_line, sees_white}
 use Rattle.md_seam.specs.Transition.{entered, exited, taken}
 use Rattle.markdown_blocks.specs.Flow as flow
 use Rattle.markdown_blocks.specs.LineFlags.{ending_name, next_container, stays}
+use Rattle.markdown_blocks.specs.Registry.{LeafName, leaf, may_go_on, may_open, tried_at}
 use Rattle.markdown_blocks.specs.States.{flow_transition}
 use Rattle.markdown_blocks.proofs.Registers.{Registers, adds, adds-content, closed-registers}
 use Rattle.markdown_blocks.proofs.Registry.{construct-registers}
@@ -42,9 +43,14 @@ chunk-inside : (w : World) (b : Bool) → Registers w → Registers (chunk_insid
 chunk-inside w true h = adds-content w.events (exit n.Content w.point) w.resolvers refl h
 chunk-inside w false h = h
 
+-- a trial that begins, and one that is refused at once
+trial : (start ok nok : StateName) (w : World) (b : Bool) → Registers w → Registers (flow.trial_code start ok nok w b).world
+trial start ok nok w true h = h
+trial start ok nok w false h = h
+
 existing-before : (w : World) (o : Option Container) → Registers w → Registers (flow.existing_before_code w o).world
 existing-before w None h = h
-existing-before w (Some c) h = h
+existing-before w (Some c) h = trial _ _ _ w (may_go_on c.kind w.current) h
 
 ending : (w : World) (b : Bool) → Registers w → Registers (exited (taken (entered w (ending_name b))) (ending_name b))
 ending w true h = adds _ _ w.resolvers refl refl (adds w.events _ w.resolvers refl refl h)
@@ -82,13 +88,22 @@ blank-registers blank_line.After w h = blank-after w (ends_line w.current) h
 -- between the containers of a line, and in front of a leaf and behind it
 containers-register : (state : DocumentState) (w : World) → Registers w → Registers (document_own_transition state w).world
 containers-register document.ContainerExistingBefore w h = existing-before w (next_container w.flags) h
+containers-register document.ContainerNewBefore w h = trial _ _ _ w (may_open w.current) h
 containers-register document.ContainerNewAfter w h = closed-registers w w.flags.continued w.flags.line_end h
 containers-register document.FlowEnd w h = flow-end (closed w (stays w.flags) w.flags.line_end) w.current (closed-registers w (stays w.flags) w.flags.line_end h)
 containers-register _ w h = h
 
+leaf-registers : (o : Option LeafName) (w : World) → Registers w → Registers (flow.leaf_transition o w).world
+leaf-registers None w h = h
+leaf-registers (Some l) w h = trial _ _ _ w ((leaf l).may_begin w.current) h
+
 leaves-register : (state : FlowState) (w : World) → Registers w → Registers (flow.flow_own_transition state w).world
-leaves-register leaf.Start w h = h
-leaves-register _ w h = h
+leaves-register its.Start w h = h
+leaves-register its.BlankLineBefore w h = trial _ _ _ w (blank.may_begin w.current) h
+leaves-register its.BeforeContent w h = h
+leaves-register its.BlankLineAfter w h = h
+leaves-register its.After w h = h
+leaves-register state w h = leaf-registers (tried_at state) w h
 
 chunk-registers : (state : ContentState) (w : World) → Registers w → Registers (chunk_transition (same_name r.Content) state w).world
 chunk-registers content.ChunkStart w h = adds w.events (enter_link n.Content w.point content_link) w.resolvers refl refl h

@@ -2,7 +2,7 @@
 --
 -- A value says the same line three times: by what is left at its states, by the cells of the line, and by the rest of
 -- the line, as the line definition has it. Its laws (`ContainerLaws`) say that these fit.
-use Rattle.std.specs.Prelude.{Bool, List, Option}
+use Rattle.std.specs.Prelude.{ℕ, Bool, List, Option}
 use Rattle.md_engine.specs.declared.configuration.ParseOptions.{ParseOptions}
 use Rattle.md_engine.specs.declared.event.Point.{Point}
 use Rattle.md_engine.specs.declared.state.Name.{Name as StateName}
@@ -19,6 +19,9 @@ pub record ContainerRules : Type 1 where
   pub begins : ParseOptions → List Cell → Here → Outcome
   pub further : StateName
   pub continues : ParseOptions → List Cell → Here → Outcome
+  -- What may stand where it opens, and where its prefix on a further line begins: elsewhere it is refused at once.
+  pub may_open : Option ℕ → Bool
+  pub may_go_on : Option ℕ → Bool
   -- By the cells of a line: the one that opens, if one does, where it would interrupt text or not; and an open one, if it
   -- goes on.
   pub opens : ParseOptions → Bool → List Cell → Point → Option Passed

@@ -1,5 +1,5 @@
 -- The lines of a text: which containers go on and open on each, and which block starts on the rest of it.
-use Rattle.std.specs.Prelude.{refl, ℕ, ◌+◌, ◌*◌, ◌==◌, if◌then◌else◌, length, Option, Some, None}
+use Rattle.std.specs.Prelude.{refl, ℕ, Bool, true, false, ◌+◌, ◌*◌, ◌==◌, if◌then◌else◌, length, Option, Some, None}
 use Rattle.md_engine.specs.declared.state.Name.{Name as StateName}
 use Rattle.md_engine.specs.declared.state.Name.TheVariants as s
 use Rattle.md_engine.specs.declared.state.flow.State.{State as FlowState}
@@ -7,21 +7,23 @@ use Rattle.md_engine.specs.declared.state.flow.State.TheVariants as flow
 use Rattle.md_engine.specs.declared.state.blank_line.State.TheVariants as blank_line
 use Rattle.md_engine.specs.declared.state.content.State.TheVariants as content
 use Rattle.md_engine.specs.declared.state.document.State.TheVariants as document
-use Rattle.md_engine.specs.declared.state.State.{State}
 use Rattle.md_engine.specs.declared.state.State.TheVariants.{Ok, Nok, Next, Retry}
 use Rattle.md_engine.specs.declared.tokenizer.container.Container.{Container}
 use Rattle.md_engine.specs.Scheme.{After, Rank, Scheme, Spot, ranked}
 use Rattle.md_engine.specs.World.{World, closed}
+use Rattle.md_leaves.specs.Blank as blank
 use Rattle.md_seam.specs.Spaces.{rest_ready}
 use Rattle.md_seam.specs.Transition.{Transition, entered, exited, taken, tried}
 use Rattle.markdown_blocks.specs.LineFlags.{begun_line, blanked, ending_name, next_container, next_line, stays, went_on, with_container}
-use Rattle.markdown_blocks.specs.Registry.{LeafName, first_container, front_of, goes_on_with, leaf, new_kind, next_of, rank_of, trials, tried_at, tries_of}
+use Rattle.markdown_blocks.specs.Registry.{LeafName, first_container, front_of, goes_on_with, leaf, may_go_on, may_open, new_kind, next_of, rank_of, trials, tried_at, tries_of}
 
 -- What is tried.
 
--- a construct is tried by its first state, and then flow goes on by whether it took what stands here
-abbrev pub trial_transition : StateName → State → State → World → Transition
-trial_transition start ok nok w = record { to = Retry start; world = tried w ok nok }
+-- by whether a construct may begin with what stands here: it is tried by its first state, and flow goes on by whether it took a
+-- part of the line; where it may not, it is refused at once
+abbrev pub trial_code : StateName → StateName → StateName → World → Bool → Transition
+trial_code start ok nok w true = record { to = Retry start; world = tried w (Next ok) (Next nok) }
+trial_code start ok nok w false = record { to = Retry nok; world = w }
 
 -- The leaf of a line.
 
@@ -29,14 +31,17 @@ abbrev pub start_transition : World → Transition
 start_transition w = record { to = Retry (s.Flow flow.BlankLineBefore); world = w }
 
 abbrev pub blank_line_before_transition : World → Transition
-blank_line_before_transition w = trial_transition (s.BlankLine blank_line.Start) (Next (s.Flow flow.BlankLineAfter)) (Next (s.Flow (front_of trials))) w
+blank_line_before_transition w =
+    trial_code (s.BlankLine blank_line.Start) (s.Flow flow.BlankLineAfter) (s.Flow (front_of trials)) w (blank.may_begin w.current)
 
 -- in front of a leaf
 abbrev pub before_transition : LeafName → World → Transition
-before_transition l w = trial_transition (leaf l).start (Next (s.Flow flow.After)) (Next (s.Flow (next_of l))) w
+before_transition l w =
+    trial_code (leaf l).start (s.Flow flow.After) (s.Flow (next_of l)) w ((leaf l).may_begin w.current)
 
 abbrev pub before_content_transition : World → Transition
-before_content_transition w = trial_transition (s.Content content.ChunkStart) (Next (s.Flow flow.After)) Nok w
+before_content_transition w =
+    record { to = Retry (s.Content content.ChunkStart); world = tried w (Next (s.Flow flow.After)) Nok }
 
 -- behind the leaf of a line
 abbrev pub after_transition : World → Transition
@@ -53,7 +58,8 @@ blank_line_after_transition w =
 abbrev pub existing_before_code : World → Option Container → Transition
 existing_before_code w None = record { to = Retry (s.Document document.ContainerNewBefore); world = w }
 existing_before_code w (Some c) =
-    trial_transition (goes_on_with c.kind) (Next (s.Document document.ContainerExistingAfter)) (Next (s.Document document.ContainerNewBefore)) w
+    trial_code (goes_on_with c.kind) (s.Document document.ContainerExistingAfter) (s.Document document.ContainerNewBefore) w
+    (may_go_on c.kind w.current)
 
 abbrev pub existing_before_transition : World → Transition
 existing_before_transition w = existing_before_code w (next_container w.flags)
@@ -64,7 +70,8 @@ existing_after_transition w =
 
 abbrev pub new_before_transition : World → Transition
 new_before_transition w =
-    trial_transition first_container (Next (s.Document document.ContainerNewAfter)) (Next (s.Document document.ContainersAfter)) w
+    trial_code first_container (s.Document document.ContainerNewAfter) (s.Document document.ContainersAfter) w
+    (may_open w.current)
 
 abbrev pub new_after_transition : World → Transition
 new_after_transition w =

@@ -174,6 +174,13 @@ goes_on_with k = (container_rules k).further
 abbrev pub continues_at : ParseOptions → ContainerKind → List Cell → Here → Outcome
 continues_at options k cells h = (container_rules k).continues options cells h
 
+-- what may stand where one opens, and where the prefix of one on a further line begins
+abbrev pub may_open : Option ℕ → Bool
+may_open current = (container_rules new_kind).may_open current
+
+abbrev pub may_go_on : ContainerKind → Option ℕ → Bool
+may_go_on k current = (container_rules k).may_go_on current
+
 -- by the cells of a line, the container that opens, if one does,
 abbrev pub opens_at : ParseOptions → Bool → List Cell → Point → Option Passed
 opens_at options interrupting cells p = (container_rules new_kind).opens options interrupting cells p

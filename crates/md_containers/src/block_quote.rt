@@ -11,7 +11,7 @@ ghost use Rattle.md_engine.specs.World.{world};
 ghost use Rattle.md_engine.specs.declared.state.Name.{Name as StateName};
 ghost use Rattle.md_engine.specs.declared.state.State.{State};
 ghost use Rattle.md_engine.specs.declared.state.block_quote.State.{State as QuoteState};
-ghost use Rattle.md_containers.specs.Quote.{cont_after_transition, cont_before_transition, cont_start_transition, quote_transition, start_transition};
+ghost use Rattle.md_containers.specs.Quote.{cont_after_transition, cont_before_transition, cont_start_transition, may_begin, quote_transition, start_transition};
 ghost use Rattle.md_seam.specs.Transition.{IsAt, NeedsNothing};
 
 use md_engine::event::Name;
@@ -20,6 +20,13 @@ use md_engine::state::block_quote::State as QuoteState;
 use md_engine::state::{Name as StateName, State};
 use md_engine::tokenizer::Tokenizer;
 use md_seam::space_or_tab::{is_space_or_tab, small_indent, space_or_tab_min_max};
+
+/// Whether the prefix of a quote may begin with what stands here: whitespace, or `>`.
+pub fn may_begin(current: Option<u8>) -> bool
+    ensures { result ≡ may_begin current }
+{
+    is_space_or_tab(current) || current == Some(b'>')
+}
 
 /// Before a quote.
 ///

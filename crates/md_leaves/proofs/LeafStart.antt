@@ -1,5 +1,5 @@
 -- The start of a leaf behind a small indent takes one step of its rule, and stands in any table that has its states.
-use Rattle.std.proofs.Common.{◌≡◌, ◌<◌, ◌≤◌, Bool, true, false, List, [], ◌∷◌, refl, sym, ◌∙◌, arith}
+use Rattle.std.proofs.Common.{◌≡◌, ℕ, ◌<◌, ◌≤◌, ◌&&◌, ◌==◌, Bool, true, false, cond, List, [], ◌∷◌, map, Option, Some, refl, ap, sym, ◌∙◌, arith}
 use Rattle.md_engine.specs.declared.configuration.ParseOptions.{ParseOptions}
 use Rattle.md_engine.specs.declared.event.Name.{Name}
 use Rattle.md_engine.specs.declared.state.Name.{Name as StateName}
@@ -13,11 +13,13 @@ use Rattle.md_engine.proofs.Local.{refuses, turns}
 use Rattle.md_engine.proofs.StepOf.{Sees, begins, moves, passes}
 use Rattle.md_leaves.specs.LeafStart.{entered_here, start_at, start_code}
 use Rattle.md_leaves.proofs.LeafSteps.{white_frame}
-use Rattle.md_seam.specs.Ahead.{HasWhite, begins_white, white_rest}
+use Rattle.md_seam.specs.Ahead.{HasWhite, begins_white, line_bytes, line_cells, white_rest}
 use Rattle.md_seam.specs.Events.Nested.{enter}
+use Rattle.md_seam.specs.Look.{first_seen, white_or}
 use Rattle.md_seam.specs.Spaces.{IsRest, rest_ready, sees_white, small_indent}
 use Rattle.md_seam.specs.Transition.{entered}
-use Rattle.md_seam.proofs.AheadLemmas.{small-some}
+use Rattle.md_seam.proofs.AheadLemmas.{none-rest, small-some}
+use Rattle.md_seam.proofs.LookLemmas.{not-passing, not-white}
 use Rattle.md_seam.proofs.SpacesGoods.{Does, WhiteFits, rest-calm, rest-none, white_try}
 use Rattle.md_seam.proofs.WhiteSteps.{begins-seen, behind_white, white-tried}
 
@@ -40,6 +42,27 @@ pub at-none : (name : Name) (on : Bool) (behind : List Cell → Here → Outcome
     on ≡ true → begins_white cells ≡ false → start_at name on behind options cells h ≡ behind cells (entered_here name h)
 unfolding start_at
 at-none name on behind options cells h is s = rw (is, s) refl
+
+-- Where neither whitespace nor what it may begin with stands first, no line is taken: such a rule holds of no line that
+-- begins with another byte.
+pub rule-refused : (test : Option ℕ → Bool) (on : Bool) (rule : List ℕ → Bool) (room : ℕ) (cells : List Cell) →
+    rule [] ≡ false → ((b : ℕ) (bytes : List ℕ) → test (Some b) ≡ false → rule (b ∷ bytes) ≡ false) →
+    white_or test (first_seen cells) ≡ false → on && rule (line_bytes (white_rest room cells)) ≡ false
+rule-refused test on rule room cells none other e = by on
+  where
+    ends : (cells : List Cell) → test (first_seen cells) ≡ false → rule (line_bytes cells) ≡ false
+    ends [] e = none
+    ends (c ∷ cs) e = go (c.byte == 10)
+      where
+        go : (x : Bool) → rule (map (λ (d : Cell). d.byte) (cond x [] (c ∷ line_cells cs))) ≡ false
+        go true = none
+        go false = other c.byte (line_bytes cs) e
+
+    by : (x : Bool) → x && rule (line_bytes (white_rest room cells)) ≡ false
+    by true =
+        ap (λ (r : List Cell). rule (line_bytes r)) (none-rest room cells (not-white test cells e))
+        ∙ ends cells (not-passing test cells e)
+    by false = refl
 
 -- The rule has it at its first state, and what is left of it behind the indent at the next.
 pub record HasStart (B : Behaviour) (options : ParseOptions) (name : Name) (on : Bool) (behind : List Cell → Here → Outcome) (start next : StateName) : Type 0 where

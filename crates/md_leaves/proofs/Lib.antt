@@ -2,6 +2,7 @@ pub mod BlankGoods
 pub mod BreakGoods
 pub mod BreakLemmas
 pub mod BlankSteps
+pub mod BlankLook
 pub mod BreakSteps
 pub mod HeadingGoods
 pub mod BomGoods

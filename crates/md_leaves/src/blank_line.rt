@@ -9,13 +9,23 @@ ghost use Rattle.md_engine.specs.World.{world};
 ghost use Rattle.md_engine.specs.declared.state.Name.{Name as StateName};
 ghost use Rattle.md_engine.specs.declared.state.State.{State};
 ghost use Rattle.md_engine.specs.declared.state.blank_line.State.{State as BlankState};
-ghost use Rattle.md_leaves.specs.Blank.{after_transition, blank_transition, start_transition};
+ghost use Rattle.md_leaves.specs.Blank.{after_transition, blank_transition, may_begin, start_transition};
 ghost use Rattle.md_seam.specs.Transition.{IsAt, NeedsNothing};
 
 use md_engine::state::blank_line::State as BlankState;
 use md_engine::state::{Name as StateName, State};
 use md_engine::tokenizer::Tokenizer;
 use md_seam::space_or_tab::{is_space_or_tab, space_or_tab};
+
+/// Whether a blank line may begin with what stands here: whitespace, or the line's end.
+pub fn may_begin(current: Option<u8>) -> bool
+    ensures { result ≡ may_begin current }
+{
+    match current {
+        None | Some(b'\n') => true,
+        _ => is_space_or_tab(current),
+    }
+}
 
 /// Before a blank line.
 ///

@@ -13,7 +13,7 @@ ghost use Rattle.md_engine.specs.World.{world};
 ghost use Rattle.md_engine.specs.declared.state.Name.{Name as StateName};
 ghost use Rattle.md_engine.specs.declared.state.State.{State};
 ghost use Rattle.md_engine.specs.declared.state.heading_atx.State.{State as HeadingState};
-ghost use Rattle.md_leaves.specs.Heading.{at_break_transition, before_transition, behind_part, data_transition, heading_transition, sequence_further_transition, sequence_open_transition, start_transition};
+ghost use Rattle.md_leaves.specs.Heading.{at_break_transition, before_transition, behind_part, data_transition, heading_transition, may_begin, sequence_further_transition, sequence_open_transition, start_transition};
 ghost use Rattle.md_leaves.specs.HeadingText.{headings_resolved};
 ghost use Rattle.md_seam.specs.Spaces.{sees_white};
 ghost use Rattle.md_seam.specs.Transition.{IsAt, NeedsNothing};
@@ -39,6 +39,13 @@ pub(crate) const TEXT_LINK: Link = Link {
     next: None,
     content: Content::Text,
 };
+
+/// Whether a heading may begin with what stands here: whitespace, or `#`.
+pub fn may_begin(current: Option<u8>) -> bool
+    ensures { result ≡ may_begin current }
+{
+    is_space_or_tab(current) || current == Some(b'#')
+}
 
 /// Before a heading.
 ///

@@ -11,7 +11,7 @@ ghost use Rattle.md_engine.specs.World.{world};
 ghost use Rattle.md_engine.specs.declared.state.Name.{Name as StateName};
 ghost use Rattle.md_engine.specs.declared.state.State.{State};
 ghost use Rattle.md_engine.specs.declared.state.thematic_break.State.{State as BreakState};
-ghost use Rattle.md_leaves.specs.Break.{BreakNeeds, at_break_transition, before_transition, break_transition, sequence_transition, start_transition};
+ghost use Rattle.md_leaves.specs.Break.{BreakNeeds, at_break_transition, before_transition, break_transition, is_marker, may_begin, sequence_transition, start_transition};
 ghost use Rattle.md_seam.specs.Transition.{IsAt};
 
 use crate::leaf_start::start_leaf;
@@ -24,6 +24,23 @@ use md_seam::space_or_tab::{is_space_or_tab, small_indent, space_or_tab_min_max}
 
 /// A break has at least so many markers.
 const MARKERS: usize = 3;
+
+/// Whether this is a marker of a break.
+fn is_marker(byte: u8) -> bool
+    ensures { result ≡ is_marker byte }
+{
+    byte == b'*' || byte == b'-' || byte == b'_'
+}
+
+/// Whether a break may begin with what stands here: whitespace, or a marker.
+pub fn may_begin(current: Option<u8>) -> bool
+    ensures { result ≡ may_begin current }
+{
+    match current {
+        Some(byte) => is_space_or_tab(current) || is_marker(byte),
+        None => false,
+    }
+}
 
 /// Before a break.
 ///
@@ -57,7 +74,7 @@ pub fn before(tokenizer: &mut Tokenizer) -> State
     ensures world { world tokenizer.new ≡ (before_transition (world tokenizer.old)).world }
 {
     match tokenizer.current {
-        Some(byte) if byte == b'*' || byte == b'-' || byte == b'_' => {
+        Some(byte) if is_marker(byte) => {
             tokenizer.scratch.marker = byte;
             State::Retry(StateName::ThematicBreak(BreakState::AtBreak))
         }

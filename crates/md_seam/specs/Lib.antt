@@ -3,6 +3,7 @@ pub mod Spaces
 pub mod Parts
 pub mod Lent
 pub mod Ahead
+pub mod Look
 pub mod Substituted
 pub mod Standard
 pub mod Events

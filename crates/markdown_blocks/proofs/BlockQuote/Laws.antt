@@ -3,6 +3,7 @@ use Rattle.std.proofs.Common.{◌≡◌, ap, [], ◌++◌}
 use Rattle.std.specs.Prelude.{None}
 use Rattle.md_engine.specs.declared.configuration.ParseOptions.{ParseOptions}
 use Rattle.md_engine.specs.declared.tokenizer.container.name.ContainerKind.TheVariants as kind
+use Rattle.md_engine.specs.declared.tokenizer.container.ContainerKind.TheVariants as kind
 use Rattle.md_containers.proofs.QuoteShorter.{prefix-shortens, quote-shortens}
 use Rattle.md_seam.specs.Standard.Containers.{continues}
 use Rattle.md_seam.specs.Standard.Preamble.{rest_at}
@@ -12,7 +13,7 @@ use Rattle.markdown_blocks.specs.Containers.BlockQuote.{quote_rules}
 use Rattle.markdown_blocks.specs.Registry.{IsOf, kind_of, shape_of}
 use Rattle.markdown_blocks.proofs.BlockQuote.Fronts.{quote-begins, quote-goes}
 use Rattle.markdown_blocks.proofs.BlockQuote.Tree.{no_quote-empty, opens-quote, simple-quote}
-use Rattle.markdown_blocks.proofs.BlockQuote.Trial.{prefix-passed, prefix-tried, quote-passed, quote-tried}
+use Rattle.markdown_blocks.proofs.BlockQuote.Trial.{prefix-passed, prefix-tried, quote-passed, quote-tried, prefix-looked, quote-looked}
 use Rattle.markdown_blocks.proofs.ContainerLaws.{ByRest, ContainerLaws}
 use Rattle.markdown_blocks.proofs.PassedFacts.{Agree, HasFurther}
 use Rattle.markdown_blocks.proofs.SimpleBlocks.{IsSimple}
@@ -27,6 +28,8 @@ pub quote-laws : ContainerLaws kind.BlockQuote quote_rules
 quote-laws = record {
   begins_is = λ options interrupting cells h rest. quote-tried options interrupting cells h rest;
   continues_is = λ options held c cells h rest is holds. prefix-tried options cells h rest;
+  begins_looked = λ options cells h rest no. quote-looked options cells h rest no;
+  continues_looked = λ options cells h rest no. prefix-looked options cells h rest no;
   begins_shorter = λ options cells h. quote-shortens options cells h;
   continues_shorter = λ options cells h. prefix-shortens options cells h;
   opened = λ options interrupting cells p t e. quote-passed options interrupting cells p t e;

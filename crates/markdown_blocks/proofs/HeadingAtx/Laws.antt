@@ -24,7 +24,7 @@ use Rattle.markdown_blocks.proofs.HeadingAtx.Plain.{heading-plain}
 use Rattle.markdown_blocks.proofs.HeadingAtx.Spelled.{heading-reads}
 use Rattle.markdown_blocks.proofs.HeadingAtx.Texts.{fill-title, heading-resolved, stands-title, title-becomes}
 use Rattle.markdown_blocks.proofs.HeadingAtx.Tiled.{heading-tiled}
-use Rattle.markdown_blocks.proofs.HeadingAtx.Trial.{trial-refused, trial-shrinks, trial-took}
+use Rattle.markdown_blocks.proofs.HeadingAtx.Trial.{trial-looked, trial-refused, trial-shrinks, trial-took}
 use Rattle.markdown_blocks.proofs.HeadingAtx.Words.{read-word, unread-word}
 use Rattle.markdown_blocks.proofs.LeafFacts.{LeafFacts, LineAt}
 use Rattle.markdown_blocks.proofs.LeafLaws.{LeafLaws}
@@ -80,6 +80,7 @@ heading-facts options bytes r p q starts is = record {
 -- All that the frame asks of headings.
 pub heading-laws : LeafLaws heading_leaf
 heading-laws = record {
+  looked = trial-looked;
   took = trial-took;
   refused = trial-refused;
   shrinks = trial-shrinks;

@@ -6,11 +6,12 @@ use Rattle.markdown_blocks.proofs.SubstitutedLemmas.{becomes-same, no_links-unwa
 use Rattle.markdown_blocks.proofs.ThematicBreak.Facts.{break-facts, break-set, break-unlinked}
 use Rattle.markdown_blocks.proofs.ThematicBreak.Kinds.{break-fits}
 use Rattle.markdown_blocks.proofs.ThematicBreak.Runs.{break-adds, break-no_content}
-use Rattle.markdown_blocks.proofs.ThematicBreak.Trial.{break-refused, break-shrinks, break-took}
+use Rattle.markdown_blocks.proofs.ThematicBreak.Trial.{break-looked, break-refused, break-shrinks, break-took}
 use Rattle.markdown_blocks.proofs.ThematicBreak.Outside.{break-own}
 
 pub break-laws : LeafLaws break_leaf
 break-laws = record {
+  looked = break-looked;
   took = break-took;
   refused = break-refused;
   shrinks = break-shrinks;

@@ -8,11 +8,12 @@ use Rattle.md_engine.specs.declared.event.Point.{Point}
 use Rattle.md_engine.specs.declared.tokenizer.Scratch.{Scratch}
 use Rattle.md_engine.specs.declared.tokenizer.open_leaf.OpenLeaf.TheVariants as open_leaf
 use Rattle.md_engine.specs.Meaning.{Accepts, Cell, Here, Outcome, Refuses}
-use Rattle.md_leaves.specs.Break.{without_marker}
+use Rattle.md_leaves.specs.Break.{may_begin, sees_marker, without_marker}
 use Rattle.md_leaves.specs.BreakRule.{Apart, before_marker, break_at, broken, runs}
 use Rattle.md_leaves.specs.LeafStart.{entered_here}
-use Rattle.md_leaves.proofs.LeafStart.{at-none, at-off, at-white}
+use Rattle.md_leaves.proofs.LeafStart.{at-none, at-off, at-white, rule-refused}
 use Rattle.md_seam.specs.Ahead.{begins_white, from_ending, line_bytes, line_cells, line_end, white_end, white_rest}
+use Rattle.md_seam.specs.Look.{first_seen}
 use Rattle.md_seam.specs.Standard.Leaves.{is_rule}
 use Rattle.md_seam.specs.Events.Nested.{around, enter, exit, pair}
 use Rattle.md_seam.specs.Spaces.{IsRest, calmed, small_indent}
@@ -65,6 +66,12 @@ rest-marker s e = ap without_marker e ∙ sym e
 
 rest-white : (s : Scratch) → IsRest s → without_marker (calmed s) ≡ s
 rest-white s e = ap (λ (t : Scratch). without_marker (calmed t)) e ∙ sym e
+
+-- A line that begins neither with whitespace nor with a marker is no break.
+pub break-looked : (options : ParseOptions) (cells : List Cell) → may_begin (first_seen cells) ≡ false →
+    is_break options cells ≡ false
+break-looked options cells e =
+    rule-refused sees_marker options.constructs.thematic_break is_rule (small_indent options) cells refl (λ b bytes k. rw k refl) e
 
 -- A break takes its line,
 pub break-took : (options : ParseOptions) (cells : List Cell) (h : Here) → IsRest h.scratch →

@@ -6,6 +6,7 @@ use Rattle.md_engine.specs.declared.event.Point.{Point}
 use Rattle.md_engine.specs.declared.state.Name.TheVariants as s
 use Rattle.md_engine.specs.declared.state.block_quote.State.TheVariants as its
 use Rattle.md_engine.specs.Meaning.{Cell}
+use Rattle.md_containers.specs.Quote.{may_begin}
 use Rattle.md_containers.specs.QuoteRule.{prefix_at, prefix_end, prefix_events, prefix_rest, quote_at, takes_prefix}
 use Rattle.md_seam.specs.Events.Nested.{enter}
 use Rattle.md_seam.specs.Standard.Containers.{opens_quote}
@@ -38,6 +39,8 @@ quote_rules = record {
   begins = λ options cells h. quote_at options cells h;
   further = s.BlockQuote its.ContStart;
   continues = λ options cells h. prefix_at options cells h;
+  may_open = may_begin;
+  may_go_on = may_begin;
   opens = λ options interrupting cells p.
       if options.constructs.block_quote && takes_prefix options cells then Some (quote_new options cells p) else None;
   goes = λ options c cells p. if takes_prefix options cells then Some (quote_on options cells p) else None;

@@ -6,6 +6,7 @@ use Rattle.md_engine.specs.declared.event.Point.{Point}
 use Rattle.md_engine.specs.declared.state.Name.TheVariants as s
 use Rattle.md_engine.specs.declared.state.flow.State.TheVariants as flow
 use Rattle.md_engine.specs.declared.state.heading_atx.State.TheVariants as its
+use Rattle.md_leaves.specs.Heading.{may_begin}
 use Rattle.md_leaves.specs.HeadingRule.{Apart, heading_at, heading_inside, is_heading, is_heading_line}
 use Rattle.md_leaves.specs.HeadingTitle.{Title, line_runs, title_of, unread_title}
 use Rattle.md_seam.specs.declared.inline.Chunk.{Chunk}
@@ -43,6 +44,7 @@ abbrev pub heading_leaf : LineLeaf
 heading_leaf = record {
   start = s.HeadingAtx its.Start;
   before = flow.BeforeHeadingAtx;
+  may_begin = may_begin;
   trial = heading_at;
   takes = is_heading_line;
   adds = λ options cells p. around n.HeadingAtx p (line_end cells p) (heading_inside options cells p);

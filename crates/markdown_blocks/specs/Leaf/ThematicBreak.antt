@@ -8,6 +8,7 @@ use Rattle.md_engine.specs.declared.state.Name.TheVariants as s
 use Rattle.md_engine.specs.declared.state.flow.State.TheVariants as flow
 use Rattle.md_engine.specs.declared.state.thematic_break.State.TheVariants as its
 use Rattle.md_engine.specs.Meaning.{Cell}
+use Rattle.md_leaves.specs.Break.{may_begin}
 use Rattle.md_leaves.specs.BreakRule.{Apart, break_at, runs}
 use Rattle.md_seam.specs.Ahead.{begins_white, line_bytes, line_cells, line_end, white_end, white_rest}
 use Rattle.md_seam.specs.Events.Nested.{around, pair}
@@ -54,6 +55,7 @@ abbrev pub break_leaf : LineLeaf
 break_leaf = record {
   start = s.ThematicBreak its.Start;
   before = flow.BeforeThematicBreak;
+  may_begin = may_begin;
   trial = break_at;
   takes = is_break;
   adds = λ options cells p. around n.ThematicBreak p (line_end cells p) (break_inside options cells p);

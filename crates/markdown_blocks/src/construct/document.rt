@@ -90,6 +90,9 @@ pub fn container_existing_before(tokenizer: &mut Tokenizer) -> State
     match next_container(tokenizer) {
         None => State::Retry(StateName::Document(DocumentState::ContainerNewBefore)),
         Some(container) => {
+            if !registry::may_go_on(container.kind, tokenizer.current) {
+                return State::Retry(StateName::Document(DocumentState::ContainerNewBefore));
+            }
             or_error!(tokenizer.attempt(
                 State::Next(StateName::Document(DocumentState::ContainerExistingAfter)),
                 State::Next(StateName::Document(DocumentState::ContainerNewBefore))
@@ -128,6 +131,9 @@ pub fn container_new_before(tokenizer: &mut Tokenizer) -> State
     ensures to { result ≢ State.Error → result ≡ (new_before_transition (world tokenizer.old)).to }
     ensures world { result ≢ State.Error → world tokenizer.new ≡ (new_before_transition (world tokenizer.old)).world }
 {
+    if !registry::may_open(tokenizer.current) {
+        return State::Retry(StateName::Document(DocumentState::ContainersAfter));
+    }
     or_error!(tokenizer.attempt(
         State::Next(StateName::Document(DocumentState::ContainerNewAfter)),
         State::Next(StateName::Document(DocumentState::ContainersAfter))

@@ -2,7 +2,8 @@
 //
 //     flow ::= blank_line | heading_atx | thematic_break | content
 //
-// The rest of a line, behind the prefixes of its containers, is tried in this order. The line then ends in the document.
+// The rest of a line, behind the prefixes of its containers, is tried in this order: what may not begin with the byte that stands
+// here is refused at once, and else an attempt tells. The line then ends in the document.
 
 ghost use Rattle.std.specs.Prelude.{◌≡◌, ◌≢◌};
 ghost use Rattle.md_engine.specs.Scheme.{stands};
@@ -60,6 +61,9 @@ pub fn blank_line_before(tokenizer: &mut Tokenizer) -> State
     ensures to { result ≢ State.Error → result ≡ (blank_line_before_transition (world tokenizer.old)).to }
     ensures world { result ≢ State.Error → world tokenizer.new ≡ (blank_line_before_transition (world tokenizer.old)).world }
 {
+    if !blank_line::may_begin(tokenizer.current) {
+        return State::Retry(StateName::Flow(FlowState::BeforeHeadingAtx));
+    }
     or_error!(tokenizer.attempt(
         State::Next(StateName::Flow(FlowState::BlankLineAfter)),
         State::Next(StateName::Flow(FlowState::BeforeHeadingAtx))
@@ -78,6 +82,9 @@ pub fn before_heading_atx(tokenizer: &mut Tokenizer) -> State
     ensures to { result ≢ State.Error → result ≡ (before_transition LeafName.HeadingAtx (world tokenizer.old)).to }
     ensures world { result ≢ State.Error → world tokenizer.new ≡ (before_transition LeafName.HeadingAtx (world tokenizer.old)).world }
 {
+    if !heading_atx::may_begin(tokenizer.current) {
+        return State::Retry(StateName::Flow(FlowState::BeforeThematicBreak));
+    }
     or_error!(tokenizer.attempt(
         State::Next(StateName::Flow(FlowState::After)),
         State::Next(StateName::Flow(FlowState::BeforeThematicBreak))
@@ -96,6 +103,9 @@ pub fn before_thematic_break(tokenizer: &mut Tokenizer) -> State
     ensures to { result ≢ State.Error → result ≡ (before_transition LeafName.ThematicBreak (world tokenizer.old)).to }
     ensures world { result ≢ State.Error → world tokenizer.new ≡ (before_transition LeafName.ThematicBreak (world tokenizer.old)).world }
 {
+    if !thematic_break::may_begin(tokenizer.current) {
+        return State::Retry(StateName::Flow(FlowState::BeforeContent));
+    }
     or_error!(tokenizer.attempt(
         State::Next(StateName::Flow(FlowState::After)),
         State::Next(StateName::Flow(FlowState::BeforeContent))

@@ -13,7 +13,7 @@ ghost use Rattle.md_engine.specs.Scheme.{stands};
 ghost use Rattle.md_engine.specs.World.{looks, world};
 ghost use Rattle.md_engine.specs.declared.resolve.name.Name.{Name as ResolveName};
 ghost use Rattle.md_engine.specs.declared.state.State.{State};
-ghost use Rattle.markdown_blocks.specs.Registry.{construct_transition, first_container, goes_on_with, new_kind, resolved_by};
+ghost use Rattle.markdown_blocks.specs.Registry.{construct_transition, first_container, goes_on_with, may_go_on, may_open, new_kind, resolved_by};
 ghost use Rattle.markdown_blocks.specs.States.{flow_table_scheme};
 
 use md_containers::block_quote;
@@ -37,6 +37,22 @@ pub fn first_container() -> StateName
     ensures { result ≡ first_container }
 {
     StateName::BlockQuote(QuoteState::Start)
+}
+
+/// Whether it may open with what stands here.
+pub fn may_open(current: Option<u8>) -> bool
+    ensures { result ≡ may_open current }
+{
+    block_quote::may_begin(current)
+}
+
+/// Whether the prefix of a container on a further line may begin with what stands here.
+pub fn may_go_on(kind: ContainerKind, current: Option<u8>) -> bool
+    ensures { result ≡ may_go_on kind current }
+{
+    match kind {
+        ContainerKind::BlockQuote => block_quote::may_begin(current),
+    }
 }
 
 /// The state in front of the prefix of a container on a further line.
