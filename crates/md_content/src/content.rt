@@ -53,8 +53,8 @@ pub fn chunk_start(tokenizer: &mut Tokenizer) -> State
     ensures world { result ≢ State.Error → world tokenizer.new ≡ (chunk_start_transition (world tokenizer.old)).world }
 {
     let link = Link {
-        previous: None,
-        next: None,
+        previous: false,
+        next: false,
         content: Content::Content,
     };
     or_error!(tokenizer.enter_link(Name::Content, link));

@@ -37,11 +37,16 @@ pub enum Content {
     Text,
 }
 
-/// A link from one part to the parts before and behind it that are read as one with it: indices of their enters.
+/// What a part that is read later is linked by.
+///
+/// Parts are read as one where nothing but container prefixes stands between them. So a link says only what whoever adds the
+/// part knows of its neighbours, and not where they stand.
 #[derive(Clone, Copy, Debug, PartialEq, Eq)]
 pub struct Link {
-    pub previous: Option<usize>,
-    pub next: Option<usize>,
+    /// Whether a part before this one is known to be read as one with it.
+    pub previous: bool,
+    /// Whether a part behind this one is known to be read as one with it.
+    pub next: bool,
     pub content: Content,
 }
 

@@ -26,7 +26,7 @@ abbrev pub without_size : Scratch → Scratch
 without_size s = record s { size = 0 }
 
 abbrev pub heading_link : Link
-heading_link = record { previous = None; next = None; content = content.Text }
+heading_link = record { previous = false; next = false; content = content.Text }
 
 -- by whether headings are on, and whether whitespace stands here
 abbrev pub start_code : World → Bool → Bool → Transition

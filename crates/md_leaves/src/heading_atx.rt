@@ -34,8 +34,8 @@ const OPENING: usize = 6;
 
 /// What is text of a heading is read later.
 pub(crate) const TEXT_LINK: Link = Link {
-    previous: None,
-    next: None,
+    previous: false,
+    next: false,
     content: Content::Text,
 };
 

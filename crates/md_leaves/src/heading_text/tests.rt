@@ -10,8 +10,8 @@ use std::process::Abort;
 fn event(kind: Kind, name: Name, index: usize) -> Event {
     let linked = matches!(kind, Kind::Enter) && matches!(name, Name::Data);
     let link = Link {
-        previous: None,
-        next: None,
+        previous: false,
+        next: false,
         content: Content::Text,
     };
     Event {
