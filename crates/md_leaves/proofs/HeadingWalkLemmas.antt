@@ -1,14 +1,11 @@
 -- The walk that sets the text of headings, one event after another.
-use Rattle.std.proofs.Common.{◌≡◌, ℕ, ◌+◌, Bool, true, false, cond, List, [], ◌∷◌, ◌++◌, length, drop, reverse, Option, Some, None, refl, sym, ◌∙◌, ap, append_assoc, append-nil}
+use Rattle.std.proofs.Common.{◌≡◌, ℕ, ◌+◌, Bool, true, false, cond, List, [], ◌∷◌, ◌++◌, drop, Option, Some, None, refl, sym, ◌∙◌, ap, append_assoc, append-nil}
 use Rattle.std.specs.Prelude.{IfSome}
-use Rattle.std.proofs.lemmas.List.{reverse-reverse}
 use Rattle.std.proofs.lemmas.List.Elements.{All-append, All-cons, All-head, All-nil, All-push, All-tail}
 use Rattle.md_engine.specs.declared.event.Event.{Event}
 use Rattle.md_engine.specs.declared.event.Name.TheVariants as n
 use Rattle.md_engine.specs.declared.event.Point.{Point}
-use Rattle.md_engine.specs.declared.tokenizer.Frame.{Frame}
 use Rattle.md_engine.specs.Place.{IsPlaced}
-use Rattle.md_engine.specs.Sound.{IsSaved, IsSound}
 use Rattle.md_leaves.specs.HeadingText.{Before, Opened, Outside, Place, Within, begins, ends, headings_resolved, is_heading, is_run, is_sequence, linked_text, resolved, text_between}
 use Rattle.md_leaves.specs.HeadingWalk.{Walked, finished, in_all, stepped, stepped_from}
 use Rattle.md_leaves.specs.Heading.{heading_link}
@@ -137,13 +134,6 @@ resolved-placed bytes (Within first after last closing since) (e ∷ es) h k =
 
 pub headings-placed : (bytes : List ℕ) (events : List Event) → ArePlaced bytes events → ArePlaced bytes (headings_resolved events)
 headings-placed bytes events h = resolved-placed bytes Outside events tt h
-
--- A tokenizer without attempts stays sound with other events that are placed.
-pub sound-events : (bytes : List ℕ) (p : Point) (limit : ℕ) (events new : List Event) (frames : List Frame) (skips : List Point) → IsSound bytes p limit events frames skips → reverse frames ≡ [] → ArePlaced bytes new →
-    IsSound bytes p limit new frames skips
-sound-events bytes p limit events new frames skips h e k =
-    let none : frames ≡ [] = sym (reverse-reverse frames) ∙ ap reverse e in
-    record { placed = h.placed; readable = h.readable; right = k; saved = rw none (All-nil (IsSaved bytes (length new))); nested = h.nested; begun = h.begun }
 
 -- what a walk gives is placed
 pub placed-as : (bytes : List ℕ) (events all given : List Event) → all ≡ given → given ≡ headings_resolved events → ArePlaced bytes events → ArePlaced bytes all

@@ -227,6 +227,9 @@ pub fn resolve(tokenizer: &mut Tokenizer) -> Result<Option<Subresult>, Message>
     ensures world { IfOk result (λ found. world tokenizer.new ≡ record (world tokenizer.old) { events = headings_resolved (world tokenizer.old).events }) }
     ensures found { IfOk result (λ found. option_map found_in found ≡ None) }
 {
-    tokenizer.events = put_texts(tokenizer.alloc, &tokenizer.events)?;
+    let events = tokenizer.take_events();
+    let room = tokenizer.take_room();
+    let with_texts = put_texts(tokenizer.alloc, &events, room)?;
+    tokenizer.set_events(with_texts, events);
     Ok(None)
 }

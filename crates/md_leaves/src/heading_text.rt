@@ -246,13 +246,15 @@ impl Walk {
     }
 }
 
-/// The events with the text of each heading set: from the run behind its opening sequence to the last that does not close it.
-pub fn put_texts(alloc: Global, events: &[Event]) -> Result<Vec<Event>, Message>
+/// The events with the text of each heading set, written into `room`: from the run behind its opening sequence to the last that
+/// does not close it.
+pub fn put_texts(alloc: Global, events: &[Event], room: Vec<Event>) -> Result<Vec<Event>, Message>
+    requires { room.items ≡ [] }
     ensures events { IfOk result (λ all. all.items ≡ headings_resolved events.now) }
     ensures placed { IfOk result (λ all. (bytes : List ℕ) → ArePlaced bytes events.now → ArePlaced bytes all.items) }
 {
     let mut walk = Walk {
-        all: Vec::new(alloc),
+        all: room,
         stage: Stage::Outside,
         closing: Vec::new(alloc),
         since: Vec::new(alloc),

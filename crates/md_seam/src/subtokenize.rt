@@ -184,17 +184,19 @@ impl Found {
     }
 }
 
-/// The events with what `reader` finds in the places of the parts that it reads.
+/// The events with what `reader` finds in the places of the parts that it reads, written into `room`.
 pub fn subtokenize<R: Reader>(
     alloc: Global,
     reader: &R,
     events: &[Event],
+    room: Vec<Event>,
 ) -> Result<Vec<Event>, Message>
-    requires { ArePlaced (R.text reader.now) events.now }
+    requires placed { ArePlaced (R.text reader.now) events.now }
+    requires empty { room.items ≡ [] }
     ensures placed { IfOk result (λ all. ArePlaced (R.text reader.now) all.items) }
     ensures substituted { IfOk result (λ all. Substituted (R.wants reader.now) (R.reads_as reader.now) [] 0 events.now all.items) }
 {
-    let mut all = Vec::new(alloc);
+    let mut all = room;
     let mut found = Found::nothing(alloc);
     let mut at = 0;
     while at < events.len() {

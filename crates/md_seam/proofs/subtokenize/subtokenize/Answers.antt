@@ -18,9 +18,9 @@ unset = record { kind = Enter; name = Frontmatter; point = record { line = 0; co
 
 pub loop-at-init : goal.loop-at-init
 loop-at-init g c = record {
-  all = rw c.new-all.ensures.items (All-nil (λ (e : Event). IsPlaced (g.R.Reader.text c.args.reader.now) e.point));
+  all = rw c.requires.empty (All-nil (λ (e : Event). IsPlaced (g.R.Reader.text c.args.reader.now) e.point));
   found = rw c.nothing-found.ensures.events (All-nil (λ (e : Event). IsPlaced (g.R.Reader.text c.args.reader.now) e.point));
-  substituted = leads-first (g.R.Reader.wants c.args.reader.now) (g.R.Reader.reads_as c.args.reader.now) c.args.events.now _ _ _ _ c.nothing-found.ensures.events c.nothing-found.ensures.placed c.nothing-found.ensures.chunks c.new-all.ensures.items;
+  substituted = leads-first (g.R.Reader.wants c.args.reader.now) (g.R.Reader.reads_as c.args.reader.now) c.args.events.now _ _ _ _ c.nothing-found.ensures.events c.nothing-found.ensures.placed c.nothing-found.ensures.chunks c.requires.empty;
 }
 
 pub loop-at-preserved-then-at-events : goal.loop-at-preserved-then-at-events
@@ -39,7 +39,7 @@ loop-at-preserved g c =
     let is : c.push.new.self.items ≡ c.loop-at.all.items ++ get_or c.args.events.now c.loop-at.at unset ∷ [] = rw k at c.push.ensures.items in
     let leads = leads-stay (g.R.Reader.wants c.args.reader.now) (g.R.Reader.reads_as c.args.reader.now) c.args.events.now (drop c.loop-at.found.placed c.loop-at.found.events.items) c.loop-at.all.items c.push.new.self.items c.loop-at.found.chunks c.loop-at.at unset c.loop-at-test.true in
     record {
-      all = placed-push_if (g.R.Reader.text c.args.reader.now) _ _ _ _ c.push.ensures.items c.loop-at.invariant.all (c.requires c.loop-at.at _ c.loop-at-test.true);
+      all = placed-push_if (g.R.Reader.text c.args.reader.now) _ _ _ _ c.push.ensures.items c.loop-at.invariant.all (c.requires.placed c.loop-at.at _ c.loop-at-test.true);
       found = c.loop-at.invariant.found;
       substituted = elim c.in_default.branch [
         | in_default-via-in-Some+else-at-events w ↦ leads (inr w.if-at-events.false) is c.loop-at.invariant.substituted
