@@ -66,6 +66,7 @@ impl<I: Inline> Reader for TextReader<'_, '_, I> {
         alloc: Global,
         content: Content,
         chunks: &[Chunk],
+        _room: Vec<Event>,
     ) -> Result<Vec<Event>, Message> {
         self.inline
             .read(alloc, kind_of(content), chunks, self.state)

@@ -161,19 +161,27 @@ impl Reader for ContentReader<'_> {
         alloc: Global,
         _content: Content,
         chunks: &[Chunk],
+        room: Vec<Event>,
     ) -> Result<Vec<Event>, Message> {
-        self.read_part(alloc, chunks)
+        self.read_part(alloc, chunks, room)
     }
 }
 
 impl ContentReader<'_> {
     /// The events of a part that stands in these chunks: a paragraph over them.
-    fn read_part(&self, alloc: Global, chunks: &[Chunk]) -> Result<Vec<Event>, Message>
+    fn read_part(
+        &self,
+        alloc: Global,
+        chunks: &[Chunk],
+        mut room: Vec<Event>,
+    ) -> Result<Vec<Event>, Message>
         requires { AreChunks self.now.bytes.now chunks.now }
         ensures placed { IfOk result (λ events. ArePlaced self.now.bytes.now events.items) }
         ensures events { IfOk result (λ events. events.items ≡ content_events self.now.bytes.now self.now.options.now chunks.now) }
     {
         let mut tokenizer = Tokenizer::new(alloc, chunks[0].first, self.bytes, self.options);
+        room.clear();
+        tokenizer.set_events(room, Vec::new(alloc));
         for chunk in chunks {
             tokenizer.define_skip(chunk.first)?;
         }
