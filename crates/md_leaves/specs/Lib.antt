@@ -4,6 +4,7 @@ pub mod Break
 pub mod Heading
 pub mod HeadingText
 pub mod HeadingWalk
+pub mod Rewritten
 pub mod NonLazy
 pub mod BlankRule
 pub mod BomRule

@@ -229,7 +229,7 @@ pub fn resolve(tokenizer: &mut Tokenizer) -> Result<Option<Subresult>, Message>
 {
     let events = tokenizer.take_events();
     let room = tokenizer.take_room();
-    let with_texts = put_texts(tokenizer.alloc, &events, room)?;
-    tokenizer.set_events(with_texts, events);
+    let (with_texts, room) = put_texts(tokenizer.alloc, events, room)?;
+    tokenizer.set_events(with_texts, room);
     Ok(None)
 }

@@ -6,4 +6,5 @@ pub mod heading_atx;
 mod heading_text;
 pub mod partial_bom;
 pub mod partial_non_lazy_continuation;
+mod rewriting;
 pub mod thematic_break;
