@@ -10,8 +10,8 @@ use std::process::Abort;
 fn event(kind: Kind, name: Name, index: usize) -> Event {
     let linked = matches!(kind, Kind::Enter) && matches!(name, Name::Data);
     let link = Link {
-        previous: None,
-        next: None,
+        previous: false,
+        next: false,
         content: Content::Text,
     };
     Event {
@@ -66,7 +66,7 @@ fn gives(alloc: Global, list: &str, want: &str) -> Result<bool, Message> {
     let (Ok(events), Ok(want)) = (all(alloc, list), all(alloc, want)) else {
         return Err(Message);
     };
-    Ok(put_texts(alloc, &events)? == want)
+    Ok(put_texts(alloc, events, Vec::new(alloc))?.0 == want)
 }
 
 // A run that is refused memory answers so, and the next run is given it.

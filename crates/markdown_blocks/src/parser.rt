@@ -66,6 +66,7 @@ impl<I: Inline> Reader for TextReader<'_, '_, I> {
         alloc: Global,
         content: Content,
         chunks: &[Chunk],
+        _room: Vec<Event>,
     ) -> Result<Vec<Event>, Message> {
         self.inline
             .read(alloc, kind_of(content), chunks, self.state)
@@ -144,7 +145,7 @@ pub fn parse<'a>(
 {
     let bytes = value.as_bytes();
     let front = read_mark(alloc, bytes, options)?;
-    let (tokenizer, found) = read_flow(alloc, bytes, options, front.point)?;
+    let (mut tokenizer, found) = read_flow(alloc, bytes, options, front.point)?;
     let state = ParseState {
         options,
         bytes,
@@ -155,7 +156,8 @@ pub fn parse<'a>(
         inline: &Plain,
         state: &state,
     };
-    let body = subtokenize(alloc, &reader, &tokenizer.events)?;
+    let room = tokenizer.take_room();
+    let body = subtokenize(alloc, &reader, &tokenizer.events, room)?;
     let events = behind_mark(front.events, body)?;
     Ok((events, state))
 }

@@ -1,6 +1,6 @@
 -- Lines of content are joined one event after another.
-use Rattle.std.proofs.Common.{◌≡◌, ℕ, ◌+◌, ◌<◌, Bool, true, false, ◌&&◌, cond, List, [], ◌∷◌, ◌++◌, length, length-drop, get_or, drop, refl, sym, ◌∙◌, ap, append_assoc, arith}
-use Rattle.std.proofs.lemmas.List.{drop-drop, get_or-drop}
+use Rattle.std.proofs.Common.{◌≡◌, ℕ, ◌+◌, ◌<◌, ◌≤◌, Bool, true, false, ◌&&◌, List, [], ◌∷◌, ◌++◌, length, length-drop, get_or, set, take, drop, refl, sym, ◌∙◌, ap, append_assoc, arith}
+use Rattle.std.proofs.lemmas.List.{drop-drop, drop-set-lt, get_or-drop, take_more_set}
 use Rattle.md_engine.specs.declared.event.Event.{Event}
 use Rattle.md_content.specs.Joined.{goes_on, is_content, joined, joined_with}
 use Rattle.md_seam.specs.Events.Nested.{is_exit}
@@ -30,8 +30,17 @@ joined-at events at last d d' lt is =
     together : (e e' f f' : Event) (l l' : List Event) → e ≡ e' → f ≡ f' → l ≡ l' → ◌≡◌ {A = List Event} (record e { point = f.point } ∷ joined l) (record e' { point = f'.point } ∷ joined l')
     together e e' f f' l l' p q r = rw (p, q, r) refl
 
--- one more event is joined
-pub joined-more : (events all new : List Event) (at last : ℕ) (d d' : Event) (b : Bool) → at < length events → last ≡ at + joined_with (drop at events) →
-    new ≡ cond b (all ++ (record (get_or events at d) { point = (get_or events last d').point }) ∷ []) all → all ++ joined (drop at events) ≡ joined events → b ≡ true → new ++ joined (drop (last + 1) events) ≡ joined events
-joined-more events all new at last d d' true lt is here so_far t = rw here (append_assoc all _ _ ∙ ap (λ (l : List Event). all ++ l) (sym (joined-at events at last d d' lt is)) ∙ so_far)
-joined-more events all new at last d d' false lt is here so_far t = cc
+-- one more event is joined, in its place: so many are kept in front
+pub joined-kept : (events first : List Event) (kept at last : ℕ) (e f : Event) → kept ≤ at → at < length events → last ≡ at + joined_with (drop at events) →
+    e ≡ get_or events at e → f ≡ get_or events last f → take kept events ++ joined (drop at events) ≡ joined first →
+    let new : List Event = set events kept (record e { point = f.point }) in
+    take (kept + 1) new ++ joined (drop (last + 1) new) ≡ joined first
+joined-kept events first kept at last e f behind lt is here there so_far =
+    let now : Event = record e { point = f.point } in
+    let front : take (kept + 1) (set events kept now) ≡ take kept events ++ now ∷ [] = take_more_set events kept now (omega arith) in
+    let back : drop (last + 1) (set events kept now) ≡ drop (last + 1) events = drop-set-lt (last + 1) events kept now (omega arith) in
+    let more : joined (drop at events) ≡ now ∷ joined (drop (last + 1) events) = joined-at events at last e f lt is ∙ both (get_or events at e) e (get_or events last f) f (sym here) (sym there) in
+    rw (front, back) (append_assoc (take kept events) (now ∷ []) (joined (drop (last + 1) events)) ∙ ap (λ (l : List Event). take kept events ++ l) (sym more) ∙ so_far)
+  where
+    both : (a b c d : Event) → a ≡ b → c ≡ d → ◌≡◌ {A = List Event} (record a { point = c.point } ∷ joined (drop (last + 1) events)) (record b { point = d.point } ∷ joined (drop (last + 1) events))
+    both a b c d p q = rw (p, q) refl

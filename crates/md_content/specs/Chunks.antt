@@ -1,5 +1,5 @@
 -- A line of content, before it is read.
-use Rattle.std.specs.Prelude.{refl, Bool, true, false, None}
+use Rattle.std.specs.Prelude.{refl, Bool, true, false}
 use Rattle.md_engine.specs.declared.event.Link.{Link}
 use Rattle.md_engine.specs.declared.event.Content.TheVariants as content
 use Rattle.md_engine.specs.declared.event.Name.TheVariants as parts
@@ -17,7 +17,7 @@ use Rattle.md_seam.specs.Spaces.{ends_line, rest_ready}
 use Rattle.md_seam.specs.Transition.{Transition, entered_link, exited, taken}
 
 abbrev pub content_link : Link
-content_link = record { previous = None; next = None; content = content.Content }
+content_link = record { previous = false; next = false; content = content.Content }
 
 abbrev pub chunk_start_transition : World → Transition
 chunk_start_transition w =

@@ -1,5 +1,5 @@
 -- The paragraph.
-use Rattle.std.specs.Prelude.{refl, ℕ, ◌==◌, if◌then◌else◌, Option, Some, None}
+use Rattle.std.specs.Prelude.{refl, ℕ, ◌==◌, false, if◌then◌else◌, Option, Some, None}
 use Rattle.md_engine.specs.declared.event.Link.{Link}
 use Rattle.md_engine.specs.declared.event.Content.TheVariants as content
 use Rattle.md_engine.specs.declared.event.Name.TheVariants as parts
@@ -14,7 +14,7 @@ use Rattle.md_seam.specs.Spaces.{rest_ready}
 use Rattle.md_seam.specs.Transition.{Transition, entered, entered_link, exited, taken}
 
 abbrev pub text_link : Link
-text_link = record { previous = None; next = None; content = content.Text }
+text_link = record { previous = false; next = false; content = content.Text }
 
 abbrev pub start_transition : World → Transition
 start_transition w = record { to = Retry (n.Paragraph its.LineStart); world = entered w parts.Paragraph }

@@ -53,8 +53,8 @@ pub fn chunk_start(tokenizer: &mut Tokenizer) -> State
     ensures world { result ≢ State.Error → world tokenizer.new ≡ (chunk_start_transition (world tokenizer.old)).world }
 {
     let link = Link {
-        previous: None,
-        next: None,
+        previous: false,
+        next: false,
         content: Content::Content,
     };
     or_error!(tokenizer.enter_link(Name::Content, link));
@@ -161,19 +161,27 @@ impl Reader for ContentReader<'_> {
         alloc: Global,
         _content: Content,
         chunks: &[Chunk],
+        room: Vec<Event>,
     ) -> Result<Vec<Event>, Message> {
-        self.read_part(alloc, chunks)
+        self.read_part(alloc, chunks, room)
     }
 }
 
 impl ContentReader<'_> {
     /// The events of a part that stands in these chunks: a paragraph over them.
-    fn read_part(&self, alloc: Global, chunks: &[Chunk]) -> Result<Vec<Event>, Message>
+    fn read_part(
+        &self,
+        alloc: Global,
+        chunks: &[Chunk],
+        mut room: Vec<Event>,
+    ) -> Result<Vec<Event>, Message>
         requires { AreChunks self.now.bytes.now chunks.now }
         ensures placed { IfOk result (λ events. ArePlaced self.now.bytes.now events.items) }
         ensures events { IfOk result (λ events. events.items ≡ content_events self.now.bytes.now self.now.options.now chunks.now) }
     {
         let mut tokenizer = Tokenizer::new(alloc, chunks[0].first, self.bytes, self.options);
+        room.clear();
+        tokenizer.set_events(room, Vec::new(alloc));
         for chunk in chunks {
             tokenizer.define_skip(chunk.first)?;
         }
@@ -266,25 +274,23 @@ fn joined_to(events: &[Event], at: usize) -> usize
     }
 }
 
-/// The events with the ending of each line of content that goes on in that line.
-fn join(alloc: Global, events: &[Event]) -> Result<Vec<Event>, Message>
-    ensures placed { IfOk result (λ all. (bytes : List ℕ) → ArePlaced bytes events.now → ArePlaced bytes all.items) }
-    ensures joined { IfOk result (λ all. all.items ≡ joined events.now) }
+/// Puts the ending of each line of content that goes on into that line.
+fn join(events: &mut Vec<Event>)
+    ensures placed { (bytes : List ℕ) → ArePlaced bytes events.old.items → ArePlaced bytes events.new.items }
+    ensures joined { events.new.items ≡ joined events.old.items }
 {
-    let mut all = Vec::new(alloc);
+    let mut kept = 0;
     let mut at = 0;
     while at < events.len() {
         let last = joined_to(events, at);
-        let event = Event {
+        events[kept] = Event {
             point: events[last].point,
             ..events[at]
         };
-        if all.push(event).is_err() {
-            return Err(Message);
-        }
+        kept += 1;
         at = last + 1;
     }
-    Ok(all)
+    events.truncate(kept);
 }
 
 /// Whether no part is left unread.
@@ -306,10 +312,14 @@ pub fn resolve(tokenizer: &mut Tokenizer) -> Result<Option<Subresult>, Message>
         bytes: tokenizer.bytes,
         options: tokenizer.options,
     };
-    let joined = join(alloc, &tokenizer.events)?;
-    tokenizer.events = subtokenize(alloc, &reader, &joined)?;
+    let mut events = tokenizer.take_events();
+    join(&mut events);
+    let room = tokenizer.take_room();
+    let read = subtokenize(alloc, &reader, &events, room)?;
+    let done = is_done(&read);
+    tokenizer.set_events(read, events);
     Ok(Some(Subresult {
-        done: is_done(&tokenizer.events),
+        done,
         gfm_footnote_definitions: Vec::new(alloc),
         definitions: Vec::new(alloc),
     }))

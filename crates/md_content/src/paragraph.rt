@@ -48,8 +48,8 @@ pub fn line_start(tokenizer: &mut Tokenizer) -> State
     ensures world { result ≢ State.Error → world tokenizer.new ≡ (line_start_transition (world tokenizer.old)).world }
 {
     let link = Link {
-        previous: None,
-        next: None,
+        previous: false,
+        next: false,
         content: Content::Text,
     };
     or_error!(tokenizer.enter_link(Name::Data, link));

@@ -3,6 +3,8 @@
 // The result of a parse is a list of events: an `Enter` and an `Exit` of each part, in the order of the text. Enters and
 // exits match by name like brackets.
 
+use std::mem::size_of;
+
 /// A place in the text.
 #[derive(Clone, Copy, Debug, PartialEq, Eq)]
 pub struct Point {
@@ -37,23 +39,33 @@ pub enum Content {
     Text,
 }
 
-/// A link from one part to the parts before and behind it that are read as one with it: indices of their enters.
+/// What a part that is read later is linked by.
+///
+/// Parts are read as one where nothing but container prefixes stands between them. So a link says only what whoever adds the
+/// part knows of its neighbours, and not where they stand.
 #[derive(Clone, Copy, Debug, PartialEq, Eq)]
 pub struct Link {
-    pub previous: Option<usize>,
-    pub next: Option<usize>,
+    /// Whether a part before this one is known to be read as one with it.
+    pub previous: bool,
+    /// Whether a part behind this one is known to be read as one with it.
+    pub next: bool,
     pub content: Content,
 }
 
 /// The begin or the end of a part.
+///
+/// Fields lie in memory in the order in which they stand here. The small ones stand together, so that little room is lost between.
 #[derive(Clone, Copy, Debug, PartialEq, Eq)]
 pub struct Event {
     pub kind: Kind,
     pub name: Name,
-    pub point: Point,
     /// On the enter of a part that is read later.
     pub link: Option<Link>,
+    pub point: Point,
 }
+
+/// Most of what a parse takes of memory is events.
+const _: () = prove!(size_of::<Event>() <= 40);
 
 /// Names of parts, by construct.
 #[derive(Clone, Copy, Debug, PartialEq, Eq)]

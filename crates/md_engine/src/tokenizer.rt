@@ -131,6 +131,8 @@ pub struct Tokenizer<'a> {
     /// What stands at the point: a byte, `\n` for each line ending, or nothing at the end.
     pub current: Option<u8>,
     pub events: Vec<Event>,
+    /// Room for the next walk over all events; what stands there means nothing.
+    pub room: Vec<Event>,
     pub frames: Vec<Frame>,
     pub scratch: Scratch,
     pub flags: Flags,
@@ -249,6 +251,7 @@ impl<'a> Tokenizer<'a> {
             point,
             current: None,
             events: Vec::new(alloc),
+            room: Vec::new(alloc),
             frames: Vec::new(alloc),
             scratch: Scratch::REST,
             flags: Flags {
@@ -523,6 +526,36 @@ impl<'a> Tokenizer<'a> {
         self.put(at, &mut ends)?;
         self.containers.truncate(keep);
         Ok(())
+    }
+
+    /// Takes all events, for a walk over them.
+    pub fn take_events(&mut self) -> Vec<Event>
+        requires { (world self.old).frames ≡ [] }
+        ensures events { result.items ≡ (world self.old).events }
+        ensures placed { All (λ e. IsPlaced (world self.old).setting.bytes e.point) result.items }
+        ensures rest { world self.new ≡ record (world self.old) { events = [] } }
+    {
+        mem::replace(&mut self.events, Vec::new(self.alloc))
+    }
+
+    /// Takes the room for a walk: a list that is empty.
+    pub fn take_room(&mut self) -> Vec<Event>
+        ensures empty { result.items ≡ [] }
+        ensures same { world self.new ≡ world self.old }
+    {
+        let mut room = mem::replace(&mut self.room, Vec::new(self.alloc));
+        room.clear();
+        room
+    }
+
+    /// Sets the events that a walk has given, and keeps the list of those before as room for the next.
+    pub fn set_events(&mut self, events: Vec<Event>, room: Vec<Event>)
+        requires frames { (world self.old).frames ≡ [] }
+        requires placed { All (λ e. IsPlaced (world self.old).setting.bytes e.point) events.items }
+        ensures { world self.new ≡ record (world self.old) { events = events.items } }
+    {
+        self.events = events;
+        self.room = room;
     }
 
     /// Takes the resolvers that were registered.

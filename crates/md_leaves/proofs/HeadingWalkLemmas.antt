@@ -1,14 +1,11 @@
 -- The walk that sets the text of headings, one event after another.
-use Rattle.std.proofs.Common.{◌≡◌, ℕ, ◌+◌, Bool, true, false, cond, List, [], ◌∷◌, ◌++◌, length, drop, reverse, Option, Some, None, refl, sym, ◌∙◌, ap, append_assoc, append-nil}
+use Rattle.std.proofs.Common.{◌≡◌, ℕ, Bool, true, false, cond, List, [], ◌∷◌, ◌++◌, Option, Some, None, refl, sym, ◌∙◌, ap, append_assoc, append-nil}
 use Rattle.std.specs.Prelude.{IfSome}
-use Rattle.std.proofs.lemmas.List.{reverse-reverse}
 use Rattle.std.proofs.lemmas.List.Elements.{All-append, All-cons, All-head, All-nil, All-push, All-tail}
 use Rattle.md_engine.specs.declared.event.Event.{Event}
 use Rattle.md_engine.specs.declared.event.Name.TheVariants as n
 use Rattle.md_engine.specs.declared.event.Point.{Point}
-use Rattle.md_engine.specs.declared.tokenizer.Frame.{Frame}
 use Rattle.md_engine.specs.Place.{IsPlaced}
-use Rattle.md_engine.specs.Sound.{IsSaved, IsSound}
 use Rattle.md_leaves.specs.HeadingText.{Before, Opened, Outside, Place, Within, begins, ends, headings_resolved, is_heading, is_run, is_sequence, linked_text, resolved, text_between}
 use Rattle.md_leaves.specs.HeadingWalk.{Walked, finished, in_all, stepped, stepped_from}
 use Rattle.md_leaves.specs.Heading.{heading_link}
@@ -35,12 +32,14 @@ step-from all (Within first after last closing since) e es = go (ends is_data e)
     go false false true k l m = rw (k, l, m) (simp append_assoc)
     go false false false k l m = rw (k, l, m) refl
 
--- one event more
-pub walk-next : (w new : Walked) (events all : List Event) (i : ℕ) (e : Event) → drop i events ≡ e ∷ drop (i + 1) events → new ≡ stepped w e → in_all w (drop i events) ≡ all → in_all new (drop (i + 1) events) ≡ all
-walk-next w new events all i e front is so_far = rw is (step-from w.given w.place e (drop (i + 1) events) ∙ ap (in_all w) (sym front) ∙ so_far)
+-- one event more: it is the first of those that are left
+pub walk-next : (w new : Walked) (given left rest after all : List Event) (e : Event) → given ≡ w.given → left ≡ e ∷ rest →
+    new ≡ stepped (record w { given = given }) e → after ≡ rest → in_all w left ≡ all → in_all new after ≡ all
+walk-next w new given left rest after all e same front is kept so_far =
+    rw (kept, is, same) (step-from w.given w.place e rest ∙ ap (in_all w) (sym front) ∙ so_far)
 
 -- the last
-pub walk-ends : (w : Walked) (all : List Event) → in_all w [] ≡ all → finished w ≡ all
+walk-ends : (w : Walked) (all : List Event) → in_all w [] ≡ all → finished w ≡ all
 walk-ends w all is = go w.place refl
   where
     go : (p : Place) → w.place ≡ p → finished w ≡ all
@@ -48,6 +47,10 @@ walk-ends w all is = go w.place refl
     go Before e = let same : in_all w [] ≡ w.given = rw e (append-nil w.given) in rw e (sym same ∙ is)
     go Opened e = let same : in_all w [] ≡ w.given = rw e (append-nil w.given) in rw e (sym same ∙ is)
     go (Within first after last closing since) e = let same : in_all w [] ≡ w.given ++ text_between first after ++ closing ++ since = rw e (simp append_assoc) in rw e (sym same ∙ is)
+
+-- none are left
+pub walk-done : (w : Walked) (given left all : List Event) → given ≡ w.given → left ≡ [] → in_all w left ≡ all → finished (record w { given = given }) ≡ all
+walk-done w given left all same none so_far = rw same (walk-ends w all (ap (in_all w) (sym none) ∙ so_far))
 
 -- Events that stand at places of the text still do.
 
@@ -137,14 +140,3 @@ resolved-placed bytes (Within first after last closing since) (e ∷ es) h k =
 
 pub headings-placed : (bytes : List ℕ) (events : List Event) → ArePlaced bytes events → ArePlaced bytes (headings_resolved events)
 headings-placed bytes events h = resolved-placed bytes Outside events tt h
-
--- A tokenizer without attempts stays sound with other events that are placed.
-pub sound-events : (bytes : List ℕ) (p : Point) (limit : ℕ) (events new : List Event) (frames : List Frame) (skips : List Point) → IsSound bytes p limit events frames skips → reverse frames ≡ [] → ArePlaced bytes new →
-    IsSound bytes p limit new frames skips
-sound-events bytes p limit events new frames skips h e k =
-    let none : frames ≡ [] = sym (reverse-reverse frames) ∙ ap reverse e in
-    record { placed = h.placed; readable = h.readable; right = k; saved = rw none (All-nil (IsSaved bytes (length new))); nested = h.nested; begun = h.begun }
-
--- what a walk gives is placed
-pub placed-as : (bytes : List ℕ) (events all given : List Event) → all ≡ given → given ≡ headings_resolved events → ArePlaced bytes events → ArePlaced bytes all
-placed-as bytes events all given is whole h = let same : all ≡ headings_resolved events = is ∙ whole in rw same (headings-placed bytes events h)

@@ -33,7 +33,7 @@ abbrev pub without_size : Scratch → Scratch
 without_size s = record s { size = 0 }
 
 abbrev pub heading_link : Link
-heading_link = record { previous = None; next = None; content = content.Text }
+heading_link = record { previous = false; next = false; content = content.Text }
 
 -- by whether `#` stands here
 abbrev pub before_code : World → Bool → Transition

@@ -5,6 +5,7 @@ use Rattle.md_leaves.specs.declared.heading_text.Stage.{Stage}
 use Rattle.md_leaves.specs.declared.heading_text.Stage.TheVariants as stage
 use Rattle.md_leaves.specs.declared.heading_text.Walk.{Walk}
 use Rattle.md_leaves.specs.HeadingText.{Before, Opened, Outside, Place, Within, begins, ends, is_heading, is_run, is_sequence, resolved, text_between}
+use Rattle.md_leaves.specs.Rewritten.{written_of}
 use Rattle.md_seam.specs.Events.Tiles.{is_data}
 
 -- what is given so far, and where the walk stands
@@ -19,7 +20,7 @@ place_of stage.Opened closing since = Opened
 place_of (stage.Within text) closing since = Within text.first text.after text.last closing since
 
 abbrev pub walk_of : Walk → Walked
-walk_of w = record { given = w.all.items; place = place_of w.stage w.closing.items w.since.items }
+walk_of w = record { given = written_of w.all; place = place_of w.stage w.closing.items w.since.items }
 
 -- the walk with one event more
 abbrev pub stepped_from : List Event → Place → Event → Walked

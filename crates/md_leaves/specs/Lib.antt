@@ -5,6 +5,7 @@ pub mod Heading
 pub mod HeadingText
 pub mod HeadingWalk
 pub mod LeafStart
+pub mod Rewritten
 pub mod NonLazy
 pub mod BlankRule
 pub mod BomRule

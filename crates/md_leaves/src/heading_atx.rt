@@ -35,8 +35,8 @@ const OPENING: usize = 6;
 
 /// What is text of a heading is read later.
 pub(crate) const TEXT_LINK: Link = Link {
-    previous: None,
-    next: None,
+    previous: false,
+    next: false,
     content: Content::Text,
 };
 
@@ -226,6 +226,9 @@ pub fn resolve(tokenizer: &mut Tokenizer) -> Result<Option<Subresult>, Message>
     ensures world { IfOk result (λ found. world tokenizer.new ≡ record (world tokenizer.old) { events = headings_resolved (world tokenizer.old).events }) }
     ensures found { IfOk result (λ found. option_map found_in found ≡ None) }
 {
-    tokenizer.events = put_texts(tokenizer.alloc, &tokenizer.events)?;
+    let events = tokenizer.take_events();
+    let room = tokenizer.take_room();
+    let (with_texts, room) = put_texts(tokenizer.alloc, events, room)?;
+    tokenizer.set_events(with_texts, room);
     Ok(None)
 }

@@ -1,11 +1,13 @@
 // The text of each ATX heading, in one walk over the events.
 
-ghost use Rattle.std.specs.Prelude.{◌≡◌, ℕ, List, [], ◌∷◌, ◌++◌, IfOk, OnOk};
+ghost use Rattle.std.specs.Prelude.{◌≡◌, ℕ, List, [], ◌++◌, IfOk, OnOk};
+ghost use Rattle.md_leaves.specs.Rewritten.{left_of, written_of};
 ghost use Rattle.md_leaves.specs.HeadingText.{begins, ends, headings_resolved, is_heading, is_run, is_sequence, text_between};
 ghost use Rattle.md_seam.specs.Parts.{ArePlaced};
 ghost use Rattle.md_seam.specs.Events.Tiles.{is_data};
 
 use crate::heading_atx::TEXT_LINK;
+use crate::rewriting::{Rewriting, append, push};
 use md_engine::event::{Event, Kind, Name, Point};
 use md_engine::message::Message;
 use std::alloc::Global;
@@ -45,27 +47,6 @@ fn ends_data(event: &Event) -> bool
     matches!(event.kind, Kind::Exit) && matches!(event.name, Name::Data)
 }
 
-/// Appends an event.
-fn push(events: &mut Vec<Event>, event: Event) -> Result<(), Message>
-    ensures { OnOk result (events.new.items ≡ events.old.items ++ event ∷ []) }
-{
-    if events.push(event).is_err() {
-        return Err(Message);
-    }
-    Ok(())
-}
-
-/// Appends the events of another list, and leaves that empty.
-fn append(events: &mut Vec<Event>, more: &mut Vec<Event>) -> Result<(), Message>
-    ensures items { OnOk result (events.new.items ≡ events.old.items ++ more.old.items) }
-    ensures more { OnOk result (more.new.items ≡ []) }
-{
-    if events.append(more).is_err() {
-        return Err(Message);
-    }
-    Ok(())
-}
-
 /// An event without a link.
 fn plain(kind: Kind, name: Name, point: Point) -> Event
     ensures { result ≡ record { kind = kind; name = name; point = point; link = None } }
@@ -78,9 +59,10 @@ fn plain(kind: Kind, name: Name, point: Point) -> Event
     }
 }
 
-/// Appends the text between two points, as one part that is read later; nothing if it has no end.
-fn push_text(events: &mut Vec<Event>, first: Point, after: Option<Point>) -> Result<(), Message>
-    ensures { OnOk result (events.new.items ≡ events.old.items ++ text_between first after) }
+/// Writes the text between two points, as one part that is read later; nothing if it has no end.
+fn push_text(events: &mut Rewriting, first: Point, after: Option<Point>) -> Result<(), Message>
+    ensures left { OnOk result (left_of events.new ≡ left_of events.old) }
+    ensures written { OnOk result (written_of events.new ≡ written_of events.old ++ text_between first after) }
 {
     let Some(after) = after else {
         return Ok(());
@@ -91,10 +73,10 @@ fn push_text(events: &mut Vec<Event>, first: Point, after: Option<Point>) -> Res
         point: first,
         link: Some(TEXT_LINK),
     };
-    push(events, plain(Kind::Enter, Name::HeadingAtxText, first))?;
-    push(events, data)?;
-    push(events, plain(Kind::Exit, Name::Data, after))?;
-    push(events, plain(Kind::Exit, Name::HeadingAtxText, after))
+    events.push(plain(Kind::Enter, Name::HeadingAtxText, first))?;
+    events.push(data)?;
+    events.push(plain(Kind::Exit, Name::Data, after))?;
+    events.push(plain(Kind::Exit, Name::HeadingAtxText, after))
 }
 
 /// Where a walk over the events stands.
@@ -123,8 +105,8 @@ struct Text {
 /// A walk over the events.
 #[derive(Drop)]
 struct Walk {
-    /// What is given for the events so far, up to the text that is open.
-    all: Vec<Event>,
+    /// What is given for the events so far, up to the text that is open, and the events that are left.
+    all: Rewriting,
     stage: Stage,
     /// What stands behind that text up to the end of the last run: a run of `#`, which may close the heading.
     closing: Vec<Event>,
@@ -138,31 +120,34 @@ impl Walk {
     /// Goes on with an event outside of headings.
     fn step_outside(&mut self, event: Event) -> Result<(), Message>
         requires { self.old.stage ≡ Stage.Outside }
-        ensures { OnOk result (walk_of self.new ≡ stepped (walk_of self.old) event) }
+        ensures left { OnOk result (left_of self.new.all ≡ left_of self.old.all) }
+        ensures walked { OnOk result (walk_of self.new ≡ stepped (walk_of self.old) event) }
     {
         if begins_heading(&event) {
             self.stage = Stage::Before;
         }
-        push(&mut self.all, event)
+        self.all.push(event)
     }
 
     /// Goes on with an event of a heading up to the end of its opening sequence.
     fn step_before(&mut self, event: Event) -> Result<(), Message>
         requires { self.old.stage ≡ Stage.Before }
-        ensures { OnOk result (walk_of self.new ≡ stepped (walk_of self.old) event) }
+        ensures left { OnOk result (left_of self.new.all ≡ left_of self.old.all) }
+        ensures walked { OnOk result (walk_of self.new ≡ stepped (walk_of self.old) event) }
     {
         if ends_sequence(&event) {
             self.stage = Stage::Opened;
         } else if ends_heading(&event) {
             self.stage = Stage::Outside;
         }
-        push(&mut self.all, event)
+        self.all.push(event)
     }
 
     /// Goes on with an event of a heading between its opening sequence and a further run.
     fn step_opened(&mut self, event: Event) -> Result<(), Message>
         requires { self.old.stage ≡ Stage.Opened }
-        ensures { OnOk result (walk_of self.new ≡ stepped (walk_of self.old) event) }
+        ensures left { OnOk result (left_of self.new.all ≡ left_of self.old.all) }
+        ensures walked { OnOk result (walk_of self.new ≡ stepped (walk_of self.old) event) }
     {
         if begins_run(&event) {
             self.stage = Stage::Within(Text {
@@ -177,23 +162,25 @@ impl Walk {
         if ends_heading(&event) {
             self.stage = Stage::Outside;
         }
-        push(&mut self.all, event)
+        self.all.push(event)
     }
 
     /// Gives the text that is open, and what stands behind it.
     fn give_text(&mut self, text: Text) -> Result<(), Message>
-        ensures all { OnOk result (self.new.all.items ≡ self.old.all.items ++ text_between text.first text.after ++ self.old.closing.items ++ self.old.since.items) }
+        ensures left { OnOk result (left_of self.new.all ≡ left_of self.old.all) }
+        ensures written { OnOk result (written_of self.new.all ≡ written_of self.old.all ++ text_between text.first text.after ++ self.old.closing.items ++ self.old.since.items) }
         ensures stage { self.new.stage ≡ self.old.stage }
     {
         push_text(&mut self.all, text.first, text.after)?;
-        append(&mut self.all, &mut self.closing)?;
-        append(&mut self.all, &mut self.since)
+        self.all.push_all(&self.closing)?;
+        self.all.push_all(&self.since)
     }
 
     /// Goes on with an event of a heading from its first further run on.
     fn step_within(&mut self, text: Text, event: Event) -> Result<(), Message>
         requires { self.old.stage ≡ Stage.Within text }
-        ensures { OnOk result (walk_of self.new ≡ stepped (walk_of self.old) event) }
+        ensures left { OnOk result (left_of self.new.all ≡ left_of self.old.all) }
+        ensures walked { OnOk result (walk_of self.new ≡ stepped (walk_of self.old) event) }
     {
         if ends_data(&event) {
             self.stage = Stage::Within(Text {
@@ -220,12 +207,13 @@ impl Walk {
         }
         self.give_text(text)?;
         self.stage = Stage::Outside;
-        push(&mut self.all, event)
+        self.all.push(event)
     }
 
     /// Goes on with the next event.
     fn step(&mut self, event: Event) -> Result<(), Message>
-        ensures { OnOk result (walk_of self.new ≡ stepped (walk_of self.old) event) }
+        ensures left { OnOk result (left_of self.new.all ≡ left_of self.old.all) }
+        ensures walked { OnOk result (walk_of self.new ≡ stepped (walk_of self.old) event) }
     {
         match self.stage {
             Stage::Outside => self.step_outside(event),
@@ -235,30 +223,39 @@ impl Walk {
         }
     }
 
-    /// What is given for all events.
-    fn finish(mut self) -> Result<Vec<Event>, Message>
-        ensures { IfOk result (λ events. events.items ≡ finished (walk_of self)) }
+    /// What is given for all events, and a list to write to, which is empty.
+    fn finish(mut self) -> Result<(Vec<Event>, Vec<Event>), Message>
+        ensures { IfOk result (λ lists. lists.0.items ≡ finished (walk_of self)) }
     {
         if let Stage::Within(text) = self.stage {
             self.give_text(text)?;
         }
-        Ok(self.all)
+        self.all.finish()
     }
 }
 
-/// The events with the text of each heading set: from the run behind its opening sequence to the last that does not close it.
-pub fn put_texts(alloc: Global, events: &[Event]) -> Result<Vec<Event>, Message>
-    ensures events { IfOk result (λ all. all.items ≡ headings_resolved events.now) }
-    ensures placed { IfOk result (λ all. (bytes : List ℕ) → ArePlaced bytes events.now → ArePlaced bytes all.items) }
+/// The events with the text of each heading set: from the run behind its opening sequence to the last that does not close it. They
+/// stand in the list of the events, which takes as much memory as it needs. What finds no place there is put into `room` first, which
+/// is handed back.
+pub fn put_texts(
+    alloc: Global,
+    events: Vec<Event>,
+    room: Vec<Event>,
+) -> Result<(Vec<Event>, Vec<Event>), Message>
+    requires { room.items ≡ [] }
+    ensures events { IfOk result (λ lists. lists.0.items ≡ headings_resolved events.items) }
+    ensures placed { IfOk result (λ lists. (bytes : List ℕ) → ArePlaced bytes events.items → ArePlaced bytes lists.0.items) }
 {
     let mut walk = Walk {
-        all: Vec::new(alloc),
+        all: Rewriting::new(events, room),
         stage: Stage::Outside,
         closing: Vec::new(alloc),
         since: Vec::new(alloc),
     };
-    for event in events {
-        walk.step(*event)?;
+    while let Some(event) = walk.all.next() {
+        walk.step(event)?;
     }
-    walk.finish()
+    let (mut all, room) = walk.finish()?;
+    all.shrink_to_fit();
+    Ok((all, room))
 }

@@ -7,4 +7,5 @@ pub mod heading_text;
 mod leaf_start;
 pub mod partial_bom;
 pub mod partial_non_lazy_continuation;
+mod rewriting;
 pub mod thematic_break;

@@ -1,6 +1,6 @@
 -- What a small text with its events is tried by, and how its events are written.
 use Rattle.std.proofs.Common.{◌≡◌, ℕ, List, [], ◌∷◌, refl}
-use Rattle.std.specs.Prelude.{Some, None, IsTrue}
+use Rattle.std.specs.Prelude.{false, Some, IsTrue}
 use Rattle.md_engine.specs.declared.event.Point.{Point}
 use Rattle.md_engine.specs.declared.event.Event.{Event}
 use Rattle.md_engine.specs.declared.event.Kind.TheVariants.{Enter}
@@ -26,7 +26,7 @@ within_tab line column index vs = record { line = line; column = column; index =
 
 -- a chunk that is not read yet
 abbrev pub chunk : Point → Point → List Event
-chunk p q = (record { kind = Enter; name = n.Data; point = p; link = Some (record { previous = None; next = None; content = c.Text }) }) ∷ exit n.Data q ∷ []
+chunk p q = (record { kind = Enter; name = n.Data; point = p; link = Some (record { previous = false; next = false; content = c.Text }) }) ∷ exit n.Data q ∷ []
 
 -- a line of code
 abbrev pub line : ℕ → List ℕ → t.Line

@@ -1,15 +1,15 @@
 -- Linked parts, and the events that stand in their places, step by step.
 use Rattle.std.proofs.Common.{◌≡◌, ℕ, zero, suc, ◌+◌, ◌-◌, ◌<◌, ◌≤◌, ◌⊎◌, inl, inr, Bool, true, false, cond, List, [], ◌∷◌, ◌++◌, length, get_or, take, drop, refl, ap, sym, ◌∙◌, subst, append_assoc, length-drop, arith}
-use Rattle.std.specs.Prelude.{Option, Some, None}
+use Rattle.std.specs.Prelude.{Option, Some, None, is_none}
 use Rattle.std.specs.Option.{is_some}
-use Rattle.std.specs.List.{All}
-use Rattle.std.proofs.lemmas.List.{append-nil, drop_all, drop_more}
+use Rattle.std.specs.List.{All, prefix_len}
+use Rattle.std.proofs.lemmas.List.{append-nil, drop-drop, drop_all, drop_more}
 use Rattle.std.proofs.lemmas.List.Elements.{All-nil, All-cons, All-head, All-tail}
 use Rattle.md_engine.specs.declared.event.Content.{Content}
 use Rattle.md_engine.specs.declared.event.Event.{Event}
 use Rattle.md_engine.specs.Place.{IsPlaced}
 use Rattle.md_seam.specs.Parts.{AreChunks, ArePlaced, IsChunk}
-use Rattle.md_seam.specs.Substituted.{Begun, Readings, Substituted, chunk_of, chunks_behind, chunks_from, share, wanted}
+use Rattle.md_seam.specs.Substituted.{Begun, Readings, Substituted, chunk_of, chunks_behind, chunks_from, share, stays, wanted}
 use Rattle.md_seam.specs.Events.Prefix.{is_prefix}
 
 -- The chunks of a part.
@@ -147,6 +147,43 @@ leads-stay wants reads events left all new chunks at d h stays is leads =
     last : (wanted wants (get_or events at d) ≡ None) ⊎ (length events ≤ at + 1) → (wanted wants (get_or events at d) ≡ None) ⊎ (drop (at + 1) events ≡ [])
     last (inl none) = inl none
     last (inr small) = inr (drop_all (at + 1) events small)
+
+-- events that stay, up to the next chunk
+leads-events : (wants : Content → Bool) (reads : Readings) (events left rest all : List Event) (chunks : ℕ) → Leads wants reads events left chunks rest all →
+    let run = prefix_len (stays wants) rest in
+    Leads wants reads events left chunks (drop run rest) (all ++ take run rest)
+leads-events wants reads events left [] all chunks leads = subst (Leads wants reads events left chunks []) (sym (append-nil all)) leads
+leads-events wants reads events left (e ∷ es) all chunks leads = go (wanted wants e) refl (λ on. leads-events wants reads events left es (all ++ e ∷ []) chunks on)
+  where
+    run : ℕ
+    run = prefix_len (stays wants) es
+
+    go : (x : Option Content) → wanted wants e ≡ x →
+        (Leads wants reads events left chunks es (all ++ e ∷ []) → Leads wants reads events left chunks (drop run es) ((all ++ e ∷ []) ++ take run es)) →
+        let many = prefix_len (stays wants) (e ∷ es) in
+        Leads wants reads events left chunks (drop many (e ∷ es)) (all ++ take many (e ∷ es))
+    go None k behind =
+        let more : 1 + run ≡ suc run = omega arith in
+        rw (k, more)
+        (subst (Leads wants reads events left chunks (drop run es)) (append_assoc all (e ∷ []) (take run es))
+        (behind (leads-event wants reads events left es all chunks e (inl k) leads)))
+    go (Some wanted) k behind = rw k (subst (Leads wants reads events left chunks (e ∷ es)) (sym (append-nil all)) leads)
+
+-- an event that stays, as no chunk begins there, and those behind it up to the next chunk
+pub leads-stays : (wants : Content → Bool) (reads : Readings) (events left all new : List Event) (chunks at many : ℕ) (d : Event) → at < length events → (wanted wants (get_or events at d) ≡ None) ⊎ (length events ≤ at + 1) →
+    many ≡ 1 + prefix_len (stays wants) (drop (at + 1) events) → new ≡ all ++ take many (drop at events) →
+    Leads wants reads events left chunks (drop at events) all → Leads wants reads events left chunks (drop (at + many) events) new
+leads-stays wants reads events left all new chunks at many d h stay count is leads =
+    let e : Event = get_or events at d in
+    let es : List Event = drop (at + 1) events in
+    let run : ℕ = prefix_len (stays wants) es in
+    let first : Leads wants reads events left chunks es (all ++ e ∷ []) = leads-stay wants reads events left all (all ++ e ∷ []) chunks at d h stay refl leads in
+    let more : Leads wants reads events left chunks (drop run es) ((all ++ e ∷ []) ++ take run es) = leads-events wants reads events left es (all ++ e ∷ []) chunks first in
+    let behind : drop run es ≡ drop (at + many) events = drop-drop run (at + 1) events ∙ ap (λ (k : ℕ). drop k events) (omega arith) in
+    let one : many ≡ suc run = omega arith in
+    let whole : (all ++ e ∷ []) ++ take run es ≡ new =
+        append_assoc all (e ∷ []) (take run es) ∙ sym (is ∙ ap (λ (l : List Event). all ++ take many l) (drop_more events at d h) ∙ ap (λ (k : ℕ). all ++ take k (e ∷ es)) one) in
+    subst (λ (l : List Event). Leads wants reads events left chunks l new) behind (subst (Leads wants reads events left chunks (drop run es)) whole more)
 
 -- a chunk begins
 pub leads-part : (wants : Content → Bool) (reads : Readings) (events rest left now left_behind all new : List Event) (chunks many chunks_left at : ℕ) (d : Event) (content : Content) → at + 1 < length events → rest ≡ drop at events → Some content ≡ wanted wants (get_or events at d) →

@@ -1,5 +1,5 @@
 -- Linked parts, and the events that stand in their places once they are read.
-use Rattle.std.specs.Prelude.{◌≡◌, ℕ, zero, suc, Bool, nat_lt, nat_le, if◌then◌else◌, List, [], ◌∷◌, ◌++◌, length, take, drop, Option, Some, None}
+use Rattle.std.specs.Prelude.{◌≡◌, ℕ, zero, suc, Bool, nat_lt, nat_le, if◌then◌else◌, List, [], ◌∷◌, ◌++◌, length, take, drop, Option, Some, None, is_none}
 use Rattle.std.specs.Option.{is_some}
 use Rattle.std.specs.List.{prefix_len}
 use Rattle.md_engine.specs.declared.event.Content.{Content}
@@ -25,6 +25,10 @@ wanted_at wants Exit link = None
 -- what the chunk that begins with an event holds, if one does that the reader wants
 abbrev pub wanted : (Content → Bool) → Event → Option Content
 wanted wants e = wanted_at wants e.kind e.link
+
+-- whether no chunk begins with an event that the reader wants
+abbrev pub stays : (Content → Bool) → Event → Bool
+stays wants e = is_none (wanted wants e)
 
 -- an event that begins a chunk, and the one behind it
 abbrev pub chunk_of : Event → Event → Chunk

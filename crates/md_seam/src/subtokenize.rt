@@ -7,7 +7,7 @@ ghost use Rattle.std.specs.Prelude.{◌≡◌, ℕ, ◌+◌, ◌-◌, ◌<◌, �
 ghost use Rattle.std.specs.List.{prefix_len};
 ghost use Rattle.md_engine.specs.declared.event.Content.{Content};
 ghost use Rattle.md_seam.specs.Parts.{AreChunks, ArePlaced};
-ghost use Rattle.md_seam.specs.Substituted.{Begun, Readings, Substituted, belongs, chunk_of, chunks_from, share, wanted};
+ghost use Rattle.md_seam.specs.Substituted.{Begun, Readings, Substituted, belongs, chunk_of, chunks_from, share, stays, wanted};
 
 use crate::inline::Chunk;
 pub use crate::names::is_prefix;
@@ -30,8 +30,14 @@ pub trait Reader {
     fn reads(&self, content: Content) -> bool
         ensures { result ≡ wants self.now content };
 
-    /// The events of a part that stands in these chunks.
-    fn read(&self, alloc: Global, content: Content, chunks: &[Chunk]) -> Result<Vec<Event>, Message>
+    /// The events of a part that stands in these chunks, which may be written into `room`; what stands there means nothing.
+    fn read(
+        &self,
+        alloc: Global,
+        content: Content,
+        chunks: &[Chunk],
+        room: Vec<Event>,
+    ) -> Result<Vec<Event>, Message>
         requires { AreChunks (text self.now) chunks.now }
         ensures placed { IfOk result (λ events. ArePlaced (text self.now) events.items) }
         ensures reading { IfOk result (λ events. reads_as self.now content chunks.now events.items) };
@@ -44,6 +50,8 @@ struct Found {
     placed: usize,
     /// How many chunks of the part are left.
     chunks: usize,
+    /// Room for the chunks of a part.
+    room: Vec<Chunk>,
     ghost within: { placed ≤ length events.items },
 }
 
@@ -71,21 +79,21 @@ fn push_chunk(chunks: &mut Vec<Chunk>, first: &Event, after: &Event) -> Result<(
     }
 }
 
-/// The chunks of the part that begins with these events.
-fn chunks_from<R: Reader>(
-    alloc: Global,
+/// Lists the chunks of the part that begins with these events, in place of those that are listed.
+fn list_chunks<R: Reader>(
+    chunks: &mut Vec<Chunk>,
     reader: &R,
     events: &[Event],
-) -> Result<Vec<Chunk>, Message>
+) -> Result<(), Message>
     requires { 1 < length events.now }
-    ensures { IfOk result (λ chunks. chunks.items ≡ chunks_from (R.wants reader.now) events.now) }
+    ensures { OnOk result (chunks.new.items ≡ chunks_from (R.wants reader.now) events.now) }
 {
-    let mut chunks = Vec::new(alloc);
-    push_chunk(&mut chunks, &events[0], &events[1])?;
+    chunks.clear();
+    push_chunk(chunks, &events[0], &events[1])?;
     let mut at = 2;
     while at + 1 < events.len() {
         if chunk_content(reader, &events[at]).is_some() {
-            push_chunk(&mut chunks, &events[at], &events[at + 1])?;
+            push_chunk(chunks, &events[at], &events[at + 1])?;
             at += 2;
         } else if is_prefix(events[at].name) {
             at += 1;
@@ -93,7 +101,20 @@ fn chunks_from<R: Reader>(
             break;
         }
     }
-    Ok(chunks)
+    Ok(())
+}
+
+/// How many of the events stay as they are before a chunk begins that is read.
+fn staying<R: Reader>(reader: &R, events: &[Event]) -> usize
+    ensures value { result ≡ prefix_len (stays (R.wants reader.now)) events.now }
+    ensures within { result ≤ length events.now }
+{
+    for (at, event) in events.iter().enumerate() {
+        if chunk_content(reader, event).is_some() {
+            return at;
+        }
+    }
+    events.len()
 }
 
 /// Whether an event belongs to a chunk that ends at the byte `end`, or to one before it: it begins before that byte, or
@@ -130,6 +151,7 @@ impl Found {
             events: Vec::new(alloc),
             placed: 0,
             chunks: 0,
+            room: Vec::new(alloc),
         }
     }
 
@@ -151,11 +173,17 @@ impl Found {
         if self.chunks > 0 {
             return Ok(self);
         }
-        let chunks = chunks_from(alloc, reader, events)?;
+        let Found {
+            events: old,
+            room: mut chunks,
+            ..
+        } = self;
+        list_chunks(&mut chunks, reader, events)?;
         Ok(Found {
-            events: reader.read(alloc, content, &chunks)?,
+            events: reader.read(alloc, content, &chunks, old)?,
             placed: 0,
             chunks: chunks.len(),
+            room: chunks,
         })
     }
 
@@ -184,17 +212,19 @@ impl Found {
     }
 }
 
-/// The events with what `reader` finds in the places of the parts that it reads.
+/// The events with what `reader` finds in the places of the parts that it reads, written into `room`.
 pub fn subtokenize<R: Reader>(
     alloc: Global,
     reader: &R,
     events: &[Event],
+    room: Vec<Event>,
 ) -> Result<Vec<Event>, Message>
-    requires { ArePlaced (R.text reader.now) events.now }
+    requires placed { ArePlaced (R.text reader.now) events.now }
+    requires empty { room.items ≡ [] }
     ensures placed { IfOk result (λ all. ArePlaced (R.text reader.now) all.items) }
     ensures substituted { IfOk result (λ all. Substituted (R.wants reader.now) (R.reads_as reader.now) [] 0 events.now all.items) }
 {
-    let mut all = Vec::new(alloc);
+    let mut all = room;
     let mut found = Found::nothing(alloc);
     let mut at = 0;
     while at < events.len() {
@@ -206,10 +236,11 @@ pub fn subtokenize<R: Reader>(
                 at += 2;
             }
             _ => {
-                if all.push(event).is_err() {
+                let many = 1 + staying(reader, &events[at + 1..]);
+                if all.extend_from_slice(&events[at..][..many]).is_err() {
                     return Err(Message);
                 }
-                at += 1;
+                at += many;
             }
         }
     }

@@ -4,7 +4,7 @@ use Rattle.std.specs.String.{string_bytes}
 use Rattle.md_engine.specs.declared.event.Event.{Event}
 use Rattle.md_engine.specs.declared.event.Point.{Point}
 use Rattle.md_engine.specs.Place.{IsPlaced}
-use Rattle.md_engine.specs.World.{Setting}
+use Rattle.md_engine.specs.World.{Setting, World}
 use Rattle.md_seam.specs.Events.Inline.{PlainReads}
 use Rattle.md_seam.specs.Parts.{ArePlaced}
 use Rattle.md_seam.specs.Events.On.{are_on}
@@ -29,24 +29,26 @@ read_flow-requires-clause-placed c =
     let P : Point → Type 0 = λ p. IsPlaced c.as_bytes-bytes.result.now p in
     subst P (sym c.in_ok-front.ensures.point) (body-placed c.as_bytes-bytes.result.now (rw c.as_bytes-bytes.ensures.value c.requires.size))
 
-pub subtokenize-requires : goal.subtokenize-requires
-subtokenize-requires c =
+pub subtokenize-requires-clause-placed : goal.subtokenize-requires-clause-placed
+subtokenize-requires-clause-placed c =
+    let events_are = c.deref.ensures.value ∙ ap (λ (w : World). w.events) c.take_room-room.ensures.same in
     let same : c.in_ok-tokenizer.tokenizer.bytes.now ≡ c.as_bytes-bytes.result.now = ap (λ (x : Setting). x.bytes) c.in_ok-tokenizer.ensures.setting in
-    rw c.deref.ensures.value (rw same at c.in_ok-tokenizer.tokenizer.sound.right)
+    rw events_are (rw same at c.in_ok-tokenizer.tokenizer.sound.right)
 
 pub returns : goal.returns
 returns c =
     let bytes = c.as_bytes-bytes.result.now in
     let body = c.in_ok-body.body.items in
+    let events_are = c.deref.ensures.value ∙ ap (λ (w : World). w.events) c.take_room-room.ensures.same in
     let none = reads-labels _ _ _ _ _ c.in_ok-tokenizer.ensures in
     let read : Reads c.args.options.now c.args.value.now (c.in_ok-front.front.events.items ++ c.deref.result.now) c.in_ok-events.events.items =
     parsed-reads c.args.options.now bytes c.args.value.now c.in_ok-front.front.point _ _ c.in_ok-front.front.events.items c.deref.result.now body c.in_ok-events.events.items
     c.as_bytes-bytes.ensures.value c.requires.built c.utf8.value c.requires.size c.in_ok-front.ensures.point c.in_ok-front.ensures.events c.in_ok-tokenizer.ensures
     wants_text (λ content chunks events. PlainReads bytes (record { kind = text_kind content; chunks = chunks }) events) refl (λ chunks answer reads end lines whole. reads end lines whole)
-    c.deref.ensures.value c.in_ok-body.ensures.substituted c.in_ok-events.ensures in
+    events_are c.in_ok-body.ensures.substituted c.in_ok-events.ensures in
     let of_mark : ArePlaced bytes c.in_ok-front.front.events.items = rw c.in_ok-front.ensures.bytes_are at c.in_ok-front.front.sound.right in
     let same : c.in_ok-tokenizer.tokenizer.bytes.now ≡ bytes = ap (λ (x : Setting). x.bytes) c.in_ok-tokenizer.ensures.setting in
-    let of_flow : ArePlaced bytes c.deref.result.now = rw c.deref.ensures.value (rw same at c.in_ok-tokenizer.tokenizer.sound.right) in
+    let of_flow : ArePlaced bytes c.deref.result.now = rw events_are (rw same at c.in_ok-tokenizer.tokenizer.sound.right) in
     let before : ArePlaced bytes (c.in_ok-front.front.events.items ++ c.deref.result.now) = All-append (λ (e : Event). IsPlaced bytes e.point) c.in_ok-front.front.events.items c.deref.result.now of_mark of_flow in
     let placed : ArePlaced bytes c.in_ok-events.events.items =
     rw c.in_ok-events.ensures (All-append (λ (e : Event). IsPlaced bytes e.point) c.in_ok-front.front.events.items body of_mark c.in_ok-body.ensures.placed) in

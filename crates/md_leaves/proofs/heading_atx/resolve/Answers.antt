@@ -1,5 +1,8 @@
-use Rattle.md_leaves.proofs.HeadingWalkLemmas.{sound-events}
+use Rattle.std.proofs.Common.{ap}
+use Rattle.md_engine.specs.World.{World}
 use Rattle.md_leaves.proofs.heading_atx.resolve.Goals as goal
 
-pub invariant_of-tokenizer : goal.invariant_of-tokenizer
-invariant_of-tokenizer c = record { sound = sound-events _ _ _ _ _ _ _ c.args.tokenizer.now.sound c.requires (c.in_ok-tokenizer.ensures.placed _ (rw c.deref.ensures.value c.args.tokenizer.now.sound.right)) }
+pub set_events-requires-clause-placed : goal.set_events-requires-clause-placed
+set_events-requires-clause-placed c =
+    rw (ap (λ (w : World). w.setting.bytes) c.take_room-room.ensures.same, ap (λ (w : World). w.setting.bytes) c.take_events-events.ensures.rest)
+    (c.in_ok-with_texts.ensures.placed _ c.take_events-events.ensures.placed)

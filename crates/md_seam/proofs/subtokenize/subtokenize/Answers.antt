@@ -1,4 +1,5 @@
-use Rattle.std.proofs.Common.{◌≡◌, true, ◌++◌, ◌∷◌, [], get_or, drop, inl, inr, sym, ◌∙◌, arith}
+use Rattle.std.proofs.Common.{◌≡◌, ℕ, ◌+◌, true, ◌++◌, take, drop, ap, inl, inr, sym, ◌∙◌, arith}
+use Rattle.std.specs.List.{prefix_len}
 use Rattle.std.specs.Prelude.{None}
 use Rattle.std.specs.Result.{is_ok}
 use Rattle.std.proofs.lemmas.List.{take_rest}
@@ -7,8 +8,9 @@ use Rattle.md_engine.specs.declared.event.Kind.TheVariants.{Enter}
 use Rattle.md_engine.specs.declared.event.Name.TheVariants.{Frontmatter}
 use Rattle.md_engine.specs.Place.{IsPlaced}
 use Rattle.md_engine.specs.declared.event.Event.{Event}
-use Rattle.md_seam.proofs.ReadingLemmas.{placed-place, placed-push_if}
-use Rattle.md_seam.proofs.SubstitutedLemmas.{leads-all, leads-first, leads-part, leads-stay}
+use Rattle.md_seam.proofs.ReadingLemmas.{placed-place}
+use Rattle.md_seam.specs.Substituted.{stays}
+use Rattle.md_seam.proofs.SubstitutedLemmas.{leads-all, leads-first, leads-part, leads-stays}
 use Rattle.md_seam.proofs.subtokenize.subtokenize.Goals as goal
 use Rattle.md_seam.proofs.subtokenize.subtokenize.Goals.{in_default-via-in-Some+else-at-events, in_default-via-in_default}
 
@@ -18,9 +20,9 @@ unset = record { kind = Enter; name = Frontmatter; point = record { line = 0; co
 
 pub loop-at-init : goal.loop-at-init
 loop-at-init g c = record {
-  all = rw c.new-all.ensures.items (All-nil (λ (e : Event). IsPlaced (g.R.Reader.text c.args.reader.now) e.point));
+  all = rw c.requires.empty (All-nil (λ (e : Event). IsPlaced (g.R.Reader.text c.args.reader.now) e.point));
   found = rw c.nothing-found.ensures.events (All-nil (λ (e : Event). IsPlaced (g.R.Reader.text c.args.reader.now) e.point));
-  substituted = leads-first (g.R.Reader.wants c.args.reader.now) (g.R.Reader.reads_as c.args.reader.now) c.args.events.now _ _ _ _ c.nothing-found.ensures.events c.nothing-found.ensures.placed c.nothing-found.ensures.chunks c.new-all.ensures.items;
+  substituted = leads-first (g.R.Reader.wants c.args.reader.now) (g.R.Reader.reads_as c.args.reader.now) c.args.events.now _ _ _ _ c.nothing-found.ensures.events c.nothing-found.ensures.placed c.nothing-found.ensures.chunks c.requires.empty;
 }
 
 pub loop-at-preserved-then-at-events : goal.loop-at-preserved-then-at-events
@@ -35,15 +37,20 @@ loop-at-preserved-then-at-events g c = record {
 
 pub loop-at-preserved : goal.loop-at-preserved
 loop-at-preserved g c =
-    let k : is_ok c.push.result ≡ true = c.if-is_err.ensures.negation in
-    let is : c.push.new.self.items ≡ c.loop-at.all.items ++ get_or c.args.events.now c.loop-at.at unset ∷ [] = rw k at c.push.ensures.items in
-    let leads = leads-stay (g.R.Reader.wants c.args.reader.now) (g.R.Reader.reads_as c.args.reader.now) c.args.events.now (drop c.loop-at.found.placed c.loop-at.found.events.items) c.loop-at.all.items c.push.new.self.items c.loop-at.found.chunks c.loop-at.at unset c.loop-at-test.true in
+    let wants = g.R.Reader.wants c.args.reader.now in
+    let events = c.args.events.now in
+    let at = c.loop-at.at in
+    let k : is_ok c.extend_from_slice.result ≡ true = c.if-is_err.ensures.negation in
+    let added = rw k at c.extend_from_slice.ensures.items in
+    let is : c.extend_from_slice.new.self.items ≡ c.loop-at.all.items ++ take (1 + c.staying-many.result) (drop at events) = rw (take_rest events at) at added in
+    let count : 1 + c.staying-many.result ≡ 1 + prefix_len (stays wants) (drop (at + 1) events) = ap (λ (n : ℕ). 1 + n) (c.staying-many.ensures.value ∙ ap (prefix_len (stays wants)) (take_rest events (at + 1))) in
+    let leads = leads-stays wants (g.R.Reader.reads_as c.args.reader.now) events (drop c.loop-at.found.placed c.loop-at.found.events.items) c.loop-at.all.items c.extend_from_slice.new.self.items c.loop-at.found.chunks at (1 + c.staying-many.result) unset c.loop-at-test.true in
     record {
-      all = placed-push_if (g.R.Reader.text c.args.reader.now) _ _ _ _ c.push.ensures.items c.loop-at.invariant.all (c.requires c.loop-at.at _ c.loop-at-test.true);
+      all = placed-place (g.R.Reader.text c.args.reader.now) _ _ _ _ _ is c.loop-at.invariant.all c.requires.placed;
       found = c.loop-at.invariant.found;
       substituted = elim c.in_default.branch [
-        | in_default-via-in-Some+else-at-events w ↦ leads (inr w.if-at-events.false) is c.loop-at.invariant.substituted
-        | in_default-via-in_default w ↦ leads (inl (sym c.chunk_content.ensures ∙ w.in_default.is)) is c.loop-at.invariant.substituted
+        | in_default-via-in-Some+else-at-events w ↦ leads (inr w.if-at-events.false) count is c.loop-at.invariant.substituted
+        | in_default-via-in_default w ↦ leads (inl (sym c.chunk_content.ensures ∙ w.in_default.is)) count is c.loop-at.invariant.substituted
       ];
     }
 

@@ -1,6 +1,6 @@
 use Rattle.std.proofs.Common.{◌≡◌, ◌≤◌, ◌-◌, ◌++◌, drop, length}
 use Rattle.md_seam.specs.Substituted.{chunks_behind, chunks_from}
-use Rattle.md_seam.proofs.subtokenize.chunks_from.Given as goal
+use Rattle.md_seam.proofs.subtokenize.list_chunks.Given as goal
 
 abbrev pub invariant-loop-at : goal.invariant-loop-at
 invariant-loop-at g l = record {
