@@ -1,6 +1,6 @@
 -- The events of a text stand between its characters, where only quotes, headings and breaks are on.
-use Rattle.md_engine.specs.declared.tokenizer.open_leaf.OpenLeaf.TheVariants as open_leaf
-use Rattle.md_engine.specs.declared.tokenizer.open_leaf.OpenLeaf.{OpenLeaf}
+use Rattle.md_engine.specs.declared.tokenizer.held_leaf.HeldLeaf.TheVariants as held_leaf
+use Rattle.md_engine.specs.declared.tokenizer.held_leaf.HeldLeaf.{HeldLeaf}
 use Rattle.std.proofs.Common.{◌≡◌, ℕ, Bool, true, false, List, [], ◌∷◌, ◌++◌, refl, sym, subst}
 use Rattle.std.specs.Prelude.{Option, Some, None}
 use Rattle.md_engine.specs.declared.configuration.ParseOptions.{ParseOptions}
@@ -76,7 +76,7 @@ between-by_groups bytes = record {
 }
 
 -- Each line of a text stands so.
-pub rows-stand : (options : ParseOptions) (bytes : List ℕ) (open_before : List Container) (still : OpenLeaf) (p : Point) (lines : List (List ℕ)) (rows : List Row) → is_between bytes p.index ≡ true → AreRows options bytes open_before still p lines rows → EachRow (RowBetween bytes) rows
+pub rows-stand : (options : ParseOptions) (bytes : List ℕ) (open_before : List Container) (still : HeldLeaf) (p : Point) (lines : List (List ℕ)) (rows : List Row) → is_between bytes p.index ≡ true → AreRows options bytes open_before still p lines rows → EachRow (RowBetween bytes) rows
 rows-stand options bytes open_before still p (line ∷ []) (row ∷ []) from are =
     let at : IsLine options bytes open_before still p line row = are.0 in
     let rest : List ℕ = rest_line (contained options open_before still (rest_from p line)).rest in
@@ -109,5 +109,5 @@ rows-stand options bytes open_before still p (line ∷ next ∷ lines) (row ∷ 
 rows-stand options bytes open_before still p lines rows from are = absurd are
 
 -- The groups of the lines of a text stand between its characters.
-pub rows-between : (options : ParseOptions) (bytes : List ℕ) (p : Point) (lines : List (List ℕ)) (rows : List Row) → is_between bytes p.index ≡ true → AreRows options bytes [] open_leaf.None p lines rows → AreBetween bytes (groups_events bytes (groups rows))
-rows-between options bytes p lines rows from are = rows-hold bytes (BetweenGroups bytes) (between-by_groups bytes) options p lines rows are from (groups-each (RowBetween bytes) rows (rows-stand options bytes [] open_leaf.None p lines rows from are))
+pub rows-between : (options : ParseOptions) (bytes : List ℕ) (p : Point) (lines : List (List ℕ)) (rows : List Row) → is_between bytes p.index ≡ true → AreRows options bytes [] held_leaf.None p lines rows → AreBetween bytes (groups_events bytes (groups rows))
+rows-between options bytes p lines rows from are = rows-hold bytes (BetweenGroups bytes) (between-by_groups bytes) options p lines rows are from (groups-each (RowBetween bytes) rows (rows-stand options bytes [] held_leaf.None p lines rows from are))

@@ -1,6 +1,6 @@
 -- The containers of a line by its bytes: those that go on are those that were open.
-use Rattle.md_engine.specs.declared.tokenizer.open_leaf.OpenLeaf.TheVariants as open_leaf
-use Rattle.md_engine.specs.declared.tokenizer.open_leaf.OpenLeaf.{OpenLeaf}
+use Rattle.md_engine.specs.declared.tokenizer.held_leaf.HeldLeaf.TheVariants as held_leaf
+use Rattle.md_engine.specs.declared.tokenizer.held_leaf.HeldLeaf.{HeldLeaf}
 use Rattle.std.proofs.Common.{◌≡◌, ◌+◌, Bool, true, false, List, [], ◌∷◌, ◌++◌, length, map, refl, ap, sym, ◌∙◌, append-nil}
 use Rattle.std.specs.Prelude.{Option, Some, None}
 use Rattle.std.proofs.lemmas.List.{length-append, length-map}
@@ -33,7 +33,7 @@ on-shapes options (c ∷ cs) r = go (on-shapes options cs) (continues options c 
         ∙ ap (λ (ss : List Shape). shape_of c ∷ ss) (below t.rest)
 
 -- What stays and what ends are the containers that were open.
-pub contained-shapes : (options : ParseOptions) (cs : List Container) (still : OpenLeaf) (r : Rest) → map shape_of ((contained options cs still r).change.stays ++ (contained options cs still r).change.closes) ≡ map shape_of cs
+pub contained-shapes : (options : ParseOptions) (cs : List Container) (still : HeldLeaf) (r : Rest) → map shape_of ((contained options cs still r).change.stays ++ (contained options cs still r).change.closes) ≡ map shape_of cs
 unfolding contained
 contained-shapes options cs still r = go (is_lazy still new.containers (line_kind options new.rest))
   where
@@ -48,7 +48,7 @@ contained-shapes options cs still r = go (is_lazy still new.containers (line_kin
     go false = on-shapes options cs r
 
 -- so many stay, and so many end
-pub contained-size : (options : ParseOptions) (cs : List Container) (still : OpenLeaf) (r : Rest) → length (contained options cs still r).change.stays + length (contained options cs still r).change.closes ≡ length cs
+pub contained-size : (options : ParseOptions) (cs : List Container) (still : HeldLeaf) (r : Rest) → length (contained options cs still r).change.stays + length (contained options cs still r).change.closes ≡ length cs
 contained-size options cs still r =
     let c = (contained options cs still r).change in
     sym (length-append c.stays c.closes) ∙ sym (length-map (c.stays ++ c.closes) shape_of) ∙ ap length (contained-shapes options cs still r) ∙ length-map cs shape_of
@@ -65,12 +65,12 @@ change-opens true went others opens = refl
 change-opens false went others opens = refl
 
 -- a line on which a container opens goes on no paragraph
-pub lazy-some : (still : OpenLeaf) (c : Container) (cs : List Container) (kind : RowKind) → is_lazy still (c ∷ cs) kind ≡ false
-lazy-some open_leaf.Text c cs kind = refl
-lazy-some open_leaf.None c cs kind = refl
+pub lazy-some : (still : HeldLeaf) (c : Container) (cs : List Container) (kind : RowKind) → is_lazy still (c ∷ cs) kind ≡ false
+lazy-some held_leaf.Text c cs kind = refl
+lazy-some held_leaf.None c cs kind = refl
 
 -- on a line that goes on the open paragraph nothing opens
-pub lazy-opens : (still : OpenLeaf) (opens : List Container) (kind : RowKind) → is_lazy still opens kind ≡ true → opens ≡ []
+pub lazy-opens : (still : HeldLeaf) (opens : List Container) (kind : RowKind) → is_lazy still opens kind ≡ true → opens ≡ []
 lazy-opens still [] kind e = refl
-lazy-opens open_leaf.Text (c ∷ cs) kind e = cc
-lazy-opens open_leaf.None (c ∷ cs) kind e = cc
+lazy-opens held_leaf.Text (c ∷ cs) kind e = cc
+lazy-opens held_leaf.None (c ∷ cs) kind e = cc

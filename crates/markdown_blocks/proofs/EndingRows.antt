@@ -1,5 +1,5 @@
 -- The endings of blank lines are told from others, before the text of a document is read and once it is.
-use Rattle.md_engine.specs.declared.tokenizer.open_leaf.OpenLeaf.TheVariants as open_leaf
+use Rattle.md_engine.specs.declared.tokenizer.held_leaf.HeldLeaf.TheVariants as held_leaf
 use Rattle.std.proofs.Common.{◌≡◌, ℕ, Bool, true, false, cond, List, [], ◌∷◌, ◌++◌, refl, ap, sym, ◌∙◌, append_assoc, ◌≢◌}
 use Rattle.std.specs.Prelude.{Option, Some, None}
 use Rattle.md_engine.specs.declared.configuration.ParseOptions.{ParseOptions}
@@ -170,17 +170,17 @@ mark-leads bytes = go (has_mark bytes)
 
 endings-with : (options : ParseOptions) (bytes : List ℕ) (lines : List (List ℕ)) (rows : List Row) (leaf : Group → List Event) (events : List Event) →
     Within bytes leaf →
-    groups_with leaf (groups rows) ≡ events → AreRows options bytes [] open_leaf.None (body_point bytes) lines rows →
+    groups_with leaf (groups rows) ≡ events → AreRows options bytes [] held_leaf.None (body_point bytes) lines rows →
     EachNoContent rows → endings_stand (mark_events bytes ++ events) ≡ true
 endings-with options bytes lines rows leaf events within same are quiet =
     let p : Point = body_point bytes in
     mark-leads bytes events
     ∙ ap (endings_stand_from line_start) (sym same)
-    ∙ groups-stand options bytes leaf (groups rows) within (groups-are options bytes [] open_leaf.None p lines rows are quiet) (groups-ended rows (rows-end options bytes [] open_leaf.None p lines rows are))
+    ∙ groups-stand options bytes leaf (groups rows) within (groups-are options bytes [] held_leaf.None p lines rows are quiet) (groups-ended rows (rows-end options bytes [] held_leaf.None p lines rows are))
 
 -- The endings of a text stand before its text parts are read,
 pub blocks-endings : (options : ParseOptions) (bytes : List ℕ) (lines : List (List ℕ)) (rows : List Row) →
-    AreRows options bytes [] open_leaf.None (body_point bytes) lines rows → EachNoContent rows →
+    AreRows options bytes [] held_leaf.None (body_point bytes) lines rows → EachNoContent rows →
     endings_stand (mark_events bytes ++ listed_groups bytes (groups rows)) ≡ true
 blocks-endings options bytes lines rows are quiet =
     endings-with options bytes lines rows (group_unread bytes) (listed_groups bytes (groups rows))
@@ -188,7 +188,7 @@ blocks-endings options bytes lines rows are quiet =
 
 -- and once they are.
 pub events-endings : (options : ParseOptions) (bytes : List ℕ) (lines : List (List ℕ)) (rows : List Row) →
-    AreRows options bytes [] open_leaf.None (body_point bytes) lines rows → EachNoContent rows →
+    AreRows options bytes [] held_leaf.None (body_point bytes) lines rows → EachNoContent rows →
     endings_stand (mark_events bytes ++ groups_events bytes (groups rows)) ≡ true
 events-endings options bytes lines rows are quiet =
     endings-with options bytes lines rows (group_done bytes) (groups_events bytes (groups rows))

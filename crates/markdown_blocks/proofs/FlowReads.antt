@@ -1,5 +1,5 @@
 -- What flow has read of a text, by what pushing and flushing it do.
-use Rattle.md_engine.specs.declared.tokenizer.open_leaf.OpenLeaf.TheVariants as open_leaf
+use Rattle.md_engine.specs.declared.tokenizer.held_leaf.HeldLeaf.TheVariants as held_leaf
 use Rattle.std.proofs.Common.{◌≡◌, ◌≢◌, ◌⊎◌, inl, inr, ◌^◌, ◌<◌, ℕ, suc, Bool, true, false, List, [], ◌∷◌, ◌++◌, length, Option, refl, sym, ◌∙◌, ap, ap₂, subst, arith, map}
 use Rattle.std.proofs.lemmas.Bool.{or_from}
 use Rattle.md_engine.specs.declared.configuration.ParseOptions.{ParseOptions}
@@ -250,10 +250,10 @@ flow-reads bytes options p end at found new small run f =
     rows = text_rows options bytes p
 
     quiet : EachNoContent rows
-    quiet = rows_at-no_content options (suc (length (text_cells bytes options p))) [] open_leaf.None (text_cells bytes options p) p
+    quiet = rows_at-no_content options (suc (length (text_cells bytes options p))) [] held_leaf.None (text_cells bytes options p) p
 
     framed : EachRow IsFramed rows
-    framed = rows_at-framed options (suc (length (text_cells bytes options p))) [] open_leaf.None (text_cells bytes options p) p
+    framed = rows_at-framed options (suc (length (text_cells bytes options p))) [] held_leaf.None (text_cells bytes options p) p
 
     go : Registers f.at → FlowReads bytes options p found new
     go registers =

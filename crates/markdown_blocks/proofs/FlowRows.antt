@@ -1,7 +1,7 @@
 -- What flow adds to the events: line by line, what the rows of the text say.
-use Rattle.markdown_blocks.specs.OpenLeaf.{takes_lazy}
-use Rattle.md_engine.specs.declared.tokenizer.open_leaf.OpenLeaf.TheVariants as open_leaf
-use Rattle.md_engine.specs.declared.tokenizer.open_leaf.OpenLeaf.{OpenLeaf}
+use Rattle.markdown_blocks.specs.HeldLeaf.{takes_lazy}
+use Rattle.md_engine.specs.declared.tokenizer.held_leaf.HeldLeaf.TheVariants as held_leaf
+use Rattle.md_engine.specs.declared.tokenizer.held_leaf.HeldLeaf.{HeldLeaf}
 use Rattle.std.proofs.Common.{◌≡◌, ℕ, zero, suc, ◌+◌, ◌<◌, ◌≤◌, Bool, true, false, cond, ◌&&◌, nat_eq, List, [], ◌∷◌, ◌++◌, length, take, drop, Option, Some, None, refl, sym, ◌∙◌, ap, ap₂, subst, arith, append_assoc, append-nil, length-drop}
 use Rattle.std.specs.Prelude.{nat_lt, slice_get}
 use Rattle.std.proofs.Math.ListN.{drop_of_length-le}
@@ -302,11 +302,11 @@ record Opened (options : ParseOptions) (next : Rule) (cs : List Container) (h : 
   point : new.point ≡ f.point
   containers : AreOpen new.flags.containers (cs ++ f.containers)
   all : new.flags.continued ≡ length new.flags.containers
-  leaf : new.flags.leaf ≡ open_leaf.None
+  leaf : new.flags.leaf ≡ held_leaf.None
   blank : new.flags.blank ≡ h.flags.blank
 
 -- none does
-opened-none : (options : ParseOptions) (next : Rule) (cs : List Container) (cells : List Cell) (h : Here) (o : Outcome) → o ≡ behind_containers options next cells h → IsRest h.scratch → AreOpen h.flags.containers cs → h.flags.continued ≡ length h.flags.containers → h.flags.leaf ≡ open_leaf.None →
+opened-none : (options : ParseOptions) (next : Rule) (cs : List Container) (cells : List Cell) (h : Here) (o : Outcome) → o ≡ behind_containers options next cells h → IsRest h.scratch → AreOpen h.flags.containers cs → h.flags.continued ≡ length h.flags.containers → h.flags.leaf ≡ held_leaf.None →
     Opened options next cs h (no_front cells h.point) o
 opened-none options next cs cells h o same is are all shut = record {
   new = h;
@@ -320,7 +320,7 @@ opened-none options next cs cells h o same is are all shut = record {
   blank = refl;
 }
 
-new-more : (options : ParseOptions) (next : Rule) (m size : ℕ) (cs : List Container) (cells : List Cell) (h : Here) → IsRest h.scratch → length cells < m → length cells ≤ size → AreOpen h.flags.containers cs → h.flags.continued ≡ length h.flags.containers → h.flags.leaf ≡ open_leaf.None →
+new-more : (options : ParseOptions) (next : Rule) (m size : ℕ) (cs : List Container) (cells : List Cell) (h : Here) → IsRest h.scratch → length cells < m → length cells ≤ size → AreOpen h.flags.containers cs → h.flags.continued ≡ length h.flags.containers → h.flags.leaf ≡ held_leaf.None →
     Opened options next cs h (new_front options false size cells h.point) (new_from options next m cells h)
 new-more options next zero size cs cells h is some most are all shut = absurd (omega arith)
 new-more options next (suc m) zero cs cells h is some most are all shut =
@@ -372,7 +372,7 @@ pub record Done (next : Rule) (options : ParseOptions) (front tail : List Event)
   pub blank : new.flags.blank ≡ blank_by (row_kind options x.cells) false
 
 -- behind the containers that went on
-record Between (front tail : List Event) (p : Point) (cs : List Container) (still : OpenLeaf) (w : Front) (h : Here) : Type 0 where
+record Between (front tail : List Event) (p : Point) (cs : List Container) (still : HeldLeaf) (w : Front) (h : Here) : Type 0 where
   rest : IsRest h.scratch
   events : h.events ≡ front ++ (tail ++ w.events)
   containers : AreOpen h.flags.containers (w.containers ++ others_of cs w.containers)
@@ -383,9 +383,9 @@ record Between (front tail : List Event) (p : Point) (cs : List Container) (stil
   ends : Ends h.flags.containers tail p
 
 -- where no container opens, a line of text goes on the open paragraph
-lazy-none : (still : OpenLeaf) (k : RowKind) → is_lazy still [] k ≡ (takes_lazy still && is_text k)
-lazy-none open_leaf.Text k = refl
-lazy-none open_leaf.None k = refl
+lazy-none : (still : HeldLeaf) (k : RowKind) → is_lazy still [] k ≡ (takes_lazy still && is_text k)
+lazy-none held_leaf.Text k = refl
+lazy-none held_leaf.None k = refl
 
 -- and such a line leaves a leaf that takes one
 lazy-behind : (k : RowKind) → takes_lazy (leaf_behind k) ≡ is_text k
@@ -413,7 +413,7 @@ regroup-line : (front ends tail w begin more added : List Event) → ((front ++ 
 regroup-line front ends tail w begin more added = simp append_assoc
 
 -- no container opens
-done-none : (options : ParseOptions) (next : Rule) (front tail : List Event) (p : Point) (cs : List Container) (still : OpenLeaf) (w : Front) (cells : List Cell) (h : Here) → Between front tail p cs still w h →
+done-none : (options : ParseOptions) (next : Rule) (front tail : List Event) (p : Point) (cs : List Container) (still : HeldLeaf) (w : Front) (cells : List Cell) (h : Here) → Between front tail p cs still w h →
     Done next options front tail p (held_of options cs still w (no_front cells h.point)) (behind_containers options next cells h)
 done-none options next front tail p cs still w cells h b = record {
   new = ended_to keep leaf.flags.line_end leaf;
@@ -444,7 +444,7 @@ done-none options next front tail p cs still w cells h b = record {
 
     kept : keep ≡ length c.stays
     kept =
-        ap₂ (λ (x : OpenLeaf) (y : Bool). cond (takes_lazy x && y) (length h.flags.containers) h.flags.continued) b.leaf (lazy-behind k)
+        ap₂ (λ (x : HeldLeaf) (y : Bool). cond (takes_lazy x && y) (length h.flags.containers) h.flags.continued) b.leaf (lazy-behind k)
         ∙ ap₂ (λ (x y : ℕ). cond (takes_lazy still && is_text k) x y) (open-length h.flags.containers (w.containers ++ others_of cs w.containers) b.containers) b.continued
         ∙ ap (λ (x : Bool). cond x (length (w.containers ++ others_of cs w.containers)) (length w.containers)) (sym (lazy-none still k))
         ∙ sym (change-stays (is_lazy still [] k) w.containers (others_of cs w.containers))
@@ -456,7 +456,7 @@ done-none options next front tail p cs still w cells h b = record {
         subst P (sym kept) (open-parts h.flags.containers c.stays c.closes (subst Q (sym (change-parts (is_lazy still [] k) w.containers (others_of cs w.containers))) b.containers))
 
 -- containers open
-done-some : (options : ParseOptions) (next : Rule) (front tail : List Event) (p : Point) (cs : List Container) (still : OpenLeaf) (w f : Front) (t : Passed) (h : Here) (o : Outcome) → Between front tail p cs still w h →
+done-some : (options : ParseOptions) (next : Rule) (front tail : List Event) (p : Point) (cs : List Container) (still : HeldLeaf) (w f : Front) (t : Passed) (h : Here) (o : Outcome) → Between front tail p cs still w h →
     Opened options next (w.containers ++ t.container ∷ []) (opened (passed_here t h)) f o → Done next options front tail p (held_of options cs still w (in_front t f)) o
 done-some options next front tail p cs still w f t h out b o =
     subst P (sym (lazy-some still t.container f.containers k)) (record {
@@ -488,7 +488,7 @@ done-some options next front tail p cs still w f t h out b o =
     keep = stays leaf.flags
 
     kept : keep ≡ length o.new.flags.containers
-    kept = ap (λ (x : OpenLeaf). cond (takes_lazy x && takes_lazy (leaf_behind k)) (length o.new.flags.containers) o.new.flags.continued) o.leaf ∙ o.all
+    kept = ap (λ (x : HeldLeaf). cond (takes_lazy x && takes_lazy (leaf_behind k)) (length o.new.flags.containers) o.new.flags.continued) o.leaf ∙ o.all
 
     ended : AreOpen (drop h.flags.continued h.flags.containers) (others_of cs w.containers)
     ended =
@@ -503,7 +503,7 @@ done-some options next front tail p cs still w f t h out b o =
 done-same : (options : ParseOptions) (next : Rule) (front tail : List Event) (p : Point) (x : Held) (a b : Outcome) → a ≡ b → Done next options front tail p x b → Done next options front tail p x a
 done-same options next front tail p x a b e d = let P : Outcome → Type 0 = λ o. Done next options front tail p x o in subst P (sym e) d
 
-new-done : (options : ParseOptions) (next : Rule) (front tail : List Event) (p : Point) (cs : List Container) (still : OpenLeaf) (interrupting : Bool) (w : Front) (m size : ℕ) (cells : List Cell) (h : Here) → Between front tail p cs still w h → length cells ≤ m → length cells ≤ size →
+new-done : (options : ParseOptions) (next : Rule) (front tail : List Event) (p : Point) (cs : List Container) (still : HeldLeaf) (interrupting : Bool) (w : Front) (m size : ℕ) (cells : List Cell) (h : Here) → Between front tail p cs still w h → length cells ≤ m → length cells ≤ size →
     Done next options front tail p (held_of options cs still w (new_front options interrupting size cells h.point)) (new_from options next (suc m) cells h)
 new-done options next front tail p cs still interrupting w m zero cells h b some most =
     done-same options next front tail p _ _ _ (new-none options next interrupting m cells h b.rest (opens-none options interrupting cells h.point most)) (done-none options next front tail p cs still w cells h b)
@@ -526,7 +526,7 @@ new-done options next front tail p cs still interrupting w m (suc size) cells h 
         (new-more options next m size (w.containers ++ t.container ∷ []) t.cells (opened (passed_here t h)) b.rest (omega (arith, shorter)) (omega (arith, shorter)) begun refl refl))
 
 -- at the begin of a line
-pub record Begins (front tail : List Event) (p : Point) (cs : List Container) (still : OpenLeaf) (h : Here) : Type 0 where
+pub record Begins (front tail : List Event) (p : Point) (cs : List Container) (still : HeldLeaf) (h : Here) : Type 0 where
   pub rest : IsRest h.scratch
   pub events : h.events ≡ front ++ tail
   pub containers : AreOpen h.flags.containers cs
@@ -536,7 +536,7 @@ pub record Begins (front tail : List Event) (p : Point) (cs : List Container) (s
   pub line_end : h.flags.line_end ≡ length front
   pub ends : Ends h.flags.containers tail p
 
-pub line-done : (options : ParseOptions) (next : Rule) (front tail : List Event) (p : Point) (cs : List Container) (still : OpenLeaf) (cells : List Cell) (h : Here) → Begins front tail p cs still h →
+pub line-done : (options : ParseOptions) (next : Rule) (front tail : List Event) (p : Point) (cs : List Container) (still : HeldLeaf) (cells : List Cell) (h : Here) → Begins front tail p cs still h →
     Done next options front tail p (held_at options cs still cells h.point) (line_then options next cells h)
 unfolding line_then new_of held_at
 line-done options next front tail p cs still cells h b =
@@ -579,7 +579,7 @@ regroup-row front ends tail w added more ending rows = simp append_assoc
 -- What stands behind a line.
 
 -- the rows behind these cells, from the ending of a line on
-abbrev pub rows_below : ParseOptions → ℕ → List Container → OpenLeaf → List Cell → List Row
+abbrev pub rows_below : ParseOptions → ℕ → List Container → HeldLeaf → List Cell → List Row
 rows_below options m cs still left = elim left [ [] ↦ [] | x ∷ xs ↦ rows_at options m cs still xs x.after ]
 
 -- its ending
@@ -589,14 +589,14 @@ ending_here name p (c ∷ cs) = pair name p c.after
 
 -- what flow adds from the begin of a line on, with so many lines at most
 abbrev Adds : ParseOptions → ℕ → Rule → Type 0
-Adds options m next = (front tail : List Event) (p : Point) (cs : List Container) (still : OpenLeaf) (cells : List Cell) (h new : Here) (rest : List Cell) → length cells < m → Begins front tail p cs still h → next cells h ≡ Accepts new rest →
+Adds options m next = (front tail : List Event) (p : Point) (cs : List Container) (still : HeldLeaf) (cells : List Cell) (h new : Here) (rest : List Cell) → length cells < m → Begins front tail p cs still h → next cells h ≡ Accepts new rest →
     new.events ≡ front ++ (ends_of (closes_before cs (rows_at options m cs still cells h.point)) p ++ (tail ++ rows_events (rows_at options m cs still cells h.point)))
 
 -- behind the ending of a line, at the begin of the next
 abbrev pub next_here : Cell → Here → Here
 next_here c h = record h { events = h.events ++ pair (ending_name h.flags.blank) h.point c.after; point = c.after; flags = next_line (length h.events) h.flags }
 
-pub next-begins : (cs : List Container) (still : OpenLeaf) (c : Cell) (h : Here) → IsRest h.scratch → h.flags.leaf ≡ still → AreOpen h.flags.containers cs →
+pub next-begins : (cs : List Container) (still : HeldLeaf) (c : Cell) (h : Here) → IsRest h.scratch → h.flags.leaf ≡ still → AreOpen h.flags.containers cs →
     Begins h.events (pair (ending_name h.flags.blank) h.point c.after) h.point cs still (next_here c h)
 next-begins cs still c h is held are = record {
   rest = is;
@@ -609,7 +609,7 @@ next-begins cs still c h is held are = record {
   ends = ends-behind h.flags.containers (enter (ending_name h.flags.blank) h.point) (exit (ending_name h.flags.blank) c.after ∷ []);
 }
 
-ended-adds : (options : ParseOptions) (m : ℕ) (next : Rule) → Adds options m next → (cs : List Container) (still : OpenLeaf) (left : List Cell) (h new : Here) (rest : List Cell) → length left ≤ m → IsRest h.scratch → h.flags.leaf ≡ still → AreOpen h.flags.containers cs → ended next left h ≡ Accepts new rest →
+ended-adds : (options : ParseOptions) (m : ℕ) (next : Rule) → Adds options m next → (cs : List Container) (still : HeldLeaf) (left : List Cell) (h new : Here) (rest : List Cell) → length left ≤ m → IsRest h.scratch → h.flags.leaf ≡ still → AreOpen h.flags.containers cs → ended next left h ≡ Accepts new rest →
     new.events ≡ h.events ++ (ends_of (closes_before cs (rows_below options m cs still left)) h.point ++ (ending_here (ending_name h.flags.blank) h.point left ++ rows_events (rows_below options m cs still left)))
 ended-adds options m next adds cs still [] h new rest fits is held are e =
     ap (λ (x : Here). x.events) same
@@ -629,7 +629,7 @@ ended-adds options m next adds cs still (x ∷ xs) h new rest fits is held are e
     go true k = adds h.events (pair name h.point x.after) h.point cs still xs (next_here x h) new rest (omega arith) (next-begins cs still x h is held are) k
     go false k = cc
 
-pub held-shorter : (options : ParseOptions) (cs : List Container) (still : OpenLeaf) (cells : List Cell) (p : Point) → length (held_at options cs still cells p).cells ≤ length cells
+pub held-shorter : (options : ParseOptions) (cs : List Container) (still : HeldLeaf) (cells : List Cell) (p : Point) → length (held_at options cs still cells p).cells ≤ length cells
 unfolding held_at
 held-shorter options cs still cells p =
     let w = went_front options cs cells p in
@@ -684,12 +684,12 @@ flow-adds options (suc m) front tail p cs still cells h new rest fits b e =
     below = rows_below options m (open_behind x.change) (leaf_behind k) left
 
 -- before the first line no container ends
-pub no-closes : (options : ParseOptions) (cells : List Cell) (p : Point) → (held_at options [] open_leaf.None cells p).change.closes ≡ []
+pub no-closes : (options : ParseOptions) (cells : List Cell) (p : Point) → (held_at options [] held_leaf.None cells p).change.closes ≡ []
 unfolding held_at
 no-closes options cells p = refl
 
 -- at the begin of a text
-pub text-begins : (h : Here) → IsRest h.scratch → h.events ≡ [] → h.flags.containers ≡ [] → h.flags.continued ≡ 0 → h.flags.leaf ≡ open_leaf.None → h.flags.blank ≡ false → h.flags.line_end ≡ 0 → Begins [] [] h.point [] open_leaf.None h
+pub text-begins : (h : Here) → IsRest h.scratch → h.events ≡ [] → h.flags.containers ≡ [] → h.flags.continued ≡ 0 → h.flags.leaf ≡ held_leaf.None → h.flags.blank ≡ false → h.flags.line_end ≡ 0 → Begins [] [] h.point [] held_leaf.None h
 text-begins h is none shut continued leaf blank line_end = record {
   rest = is;
   events = none;
@@ -702,9 +702,9 @@ text-begins h is none shut continued leaf blank line_end = record {
 }
 
 -- so the rule of all lines adds the events of all rows
-pub flow_at-rows : (options : ParseOptions) (cells : List Cell) (h new : Here) (rest : List Cell) → IsRest h.scratch → h.events ≡ [] → h.flags.containers ≡ [] → h.flags.continued ≡ 0 → h.flags.leaf ≡ open_leaf.None → h.flags.blank ≡ false → h.flags.line_end ≡ 0 →
-    flow_at options cells h ≡ Accepts new rest → new.events ≡ rows_events (rows_at options (suc (length cells)) [] open_leaf.None cells h.point)
+pub flow_at-rows : (options : ParseOptions) (cells : List Cell) (h new : Here) (rest : List Cell) → IsRest h.scratch → h.events ≡ [] → h.flags.containers ≡ [] → h.flags.continued ≡ 0 → h.flags.leaf ≡ held_leaf.None → h.flags.blank ≡ false → h.flags.line_end ≡ 0 →
+    flow_at options cells h ≡ Accepts new rest → new.events ≡ rows_events (rows_at options (suc (length cells)) [] held_leaf.None cells h.point)
 unfolding flow_at
 flow_at-rows options cells h new rest is none shut continued leaf blank line_end e =
-    flow-adds options (suc (length cells)) [] [] h.point [] open_leaf.None cells h new rest (omega arith) (text-begins h is none shut continued leaf blank line_end) e
-    ∙ ap (λ (cs : List Container). ends_of cs h.point ++ rows_events (rows_at options (suc (length cells)) [] open_leaf.None cells h.point)) (no-closes options cells h.point)
+    flow-adds options (suc (length cells)) [] [] h.point [] held_leaf.None cells h new rest (omega arith) (text-begins h is none shut continued leaf blank line_end) e
+    ∙ ap (λ (cs : List Container). ends_of cs h.point ++ rows_events (rows_at options (suc (length cells)) [] held_leaf.None cells h.point)) (no-closes options cells h.point)

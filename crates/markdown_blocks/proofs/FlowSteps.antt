@@ -1,5 +1,5 @@
 -- Behind the states of flow each resolver is a step that changes nothing where no line is its own: then it does not matter whether it ran.
-use Rattle.md_engine.specs.declared.tokenizer.open_leaf.OpenLeaf.{OpenLeaf}
+use Rattle.md_engine.specs.declared.tokenizer.held_leaf.HeldLeaf.{HeldLeaf}
 use Rattle.std.proofs.Common.{◌≡◌, ◌≢◌, ℕ, zero, suc, Bool, true, false, cond, ◌&&◌, ◌==◌, List, [], ◌∷◌, ◌++◌, length, refl, ap, sym, ◌∙◌, subst, append-nil}
 use Rattle.std.specs.Prelude.{Option, Some, None}
 use Rattle.std.proofs.lemmas.Bool.{or_parts}
@@ -58,7 +58,7 @@ new-are options interrupting (suc size) cells p =
     (opens_at options interrupting cells p) (opens-front options interrupting cells p)
 
 -- all of it
-held-are : (options : ParseOptions) (cs : List Container) (still : OpenLeaf) (cells : List Cell) (p : Point) → AreFront (held_at options cs still cells p).front
+held-are : (options : ParseOptions) (cs : List Container) (still : HeldLeaf) (cells : List Cell) (p : Point) → AreFront (held_at options cs still cells p).front
 unfolding held_at
 held-are options cs still cells p =
     let went : Front = went_front options cs cells p in
@@ -85,11 +85,11 @@ pub record IsFramed (row : Row) : Type 0 where
   pub own : NoEnds is_own row.inside → AreOutside row.inside
 
 -- so it is in the lines that flow reads
-rows_by-framed : (options : ParseOptions) (h : Held) (further : List Container → OpenLeaf → List Cell → Point → List Row) → AreFront h.front →
-    ((open_before : List Container) (still : OpenLeaf) (cells : List Cell) (p : Point) → EachRow IsFramed (further open_before still cells p)) → EachRow IsFramed (rows_by options h further)
+rows_by-framed : (options : ParseOptions) (h : Held) (further : List Container → HeldLeaf → List Cell → Point → List Row) → AreFront h.front →
+    ((open_before : List Container) (still : HeldLeaf) (cells : List Cell) (p : Point) → EachRow IsFramed (further open_before still cells p)) → EachRow IsFramed (rows_by options h further)
 rows_by-framed options h further front each = (record { front = front; own = inside-own options h.cells h.point (row_kind options h.cells) }, go (from_ending h.cells))
   where
-    still : OpenLeaf
+    still : HeldLeaf
     still = leaf_behind (row_kind options h.cells)
 
     go : (rest : List Cell) → EachRow IsFramed (elim rest [ [] ↦ [] | c ∷ cs ↦ further (open_behind h.change) still cs c.after ])
@@ -97,7 +97,7 @@ rows_by-framed options h further front each = (record { front = front; own = ins
     go (c ∷ cs) = each (open_behind h.change) still cs c.after
 
 -- however many there are
-pub rows_at-framed : (options : ParseOptions) (size : ℕ) (open_before : List Container) (still : OpenLeaf) (cells : List Cell) (p : Point) → EachRow IsFramed (rows_at options size open_before still cells p)
+pub rows_at-framed : (options : ParseOptions) (size : ℕ) (open_before : List Container) (still : HeldLeaf) (cells : List Cell) (p : Point) → EachRow IsFramed (rows_at options size open_before still cells p)
 rows_at-framed options zero open_before still cells p = tt
 rows_at-framed options (suc size) open_before still cells p =
     rows_by-framed options (held_at options open_before still cells p) (rows_at options size) (held-are options open_before still cells p) (rows_at-framed options size)

@@ -1,6 +1,6 @@
 -- The containers of a line that flow reads are those of its bytes: which go on and open, what stands in front of the line, and what is
 -- left of it.
-use Rattle.md_engine.specs.declared.tokenizer.open_leaf.OpenLeaf.{OpenLeaf}
+use Rattle.md_engine.specs.declared.tokenizer.held_leaf.HeldLeaf.{HeldLeaf}
 use Rattle.std.proofs.Common.{◌≡◌, ℕ, zero, suc, ◌^◌, ◌<◌, ◌≤◌, Bool, true, false, List, [], ◌∷◌, ◌++◌, length, Option, Some, None, refl, sym, ap, ap₂, ◌∙◌, subst, arith, append_assoc}
 use Rattle.md_engine.specs.declared.configuration.ParseOptions.{ParseOptions}
 use Rattle.md_engine.specs.declared.event.Event.{Event}
@@ -202,7 +202,7 @@ held-by line text past p end stop cells cs lazy went new on more read a b = reco
   shorter = let le = a.front.shorter in let ge = b.front.shorter in omega arith;
 }
 
-held-behind : (options : ParseOptions) (line : Line) (text past : List ℕ) (p end : Point) (stop cells : List Cell) (cs : List Container) (still : OpenLeaf) (went : Front) (on : Prefixed) → IsBuilt options → AreRead cs → Stops stop → length cells < 2 ^ 63 →
+held-behind : (options : ParseOptions) (line : Line) (text past : List ℕ) (p end : Point) (stop cells : List Cell) (cs : List Container) (still : HeldLeaf) (went : Front) (on : Prefixed) → IsBuilt options → AreRead cs → Stops stop → length cells < 2 ^ 63 →
     HasWent line text past p end stop cells went on → HasHeld line text past p end stop cells (held_behind options cs still went) (contained_behind options cs still on)
 held-behind options line text past p end stop cells cs still went on built read k short is =
     let le = is.front.shorter in
@@ -226,7 +226,7 @@ held-behind options line text past p end stop cells cs still went on built read 
     (held-by line text past p end stop cells cs (is_lazy still new.containers (row_kind options new.cells)) went new on more read is opened))
 
 -- which containers go on and open on a line, what stands in front of it, and what is left of it
-pub held-is : (options : ParseOptions) (line : Line) (text past : List ℕ) (cs : List Container) (still : OpenLeaf) (r : Rest) (stop : List Cell) (p : Point) → IsBuilt options → AreRead cs → RestAt text past r p → NoEnding r.bytes → Stops stop → length (rest_cells line r p ++ stop) < 2 ^ 63 →
+pub held-is : (options : ParseOptions) (line : Line) (text past : List ℕ) (cs : List Container) (still : HeldLeaf) (r : Rest) (stop : List Cell) (p : Point) → IsBuilt options → AreRead cs → RestAt text past r p → NoEnding r.bytes → Stops stop → length (rest_cells line r p ++ stop) < 2 ^ 63 →
     HasHeld line text past p (past_rest r p) stop (rest_cells line r p ++ stop) (held_at options cs still (rest_cells line r p ++ stop) p) (contained options cs still r)
 unfolding held_at contained
 held-is options line text past cs still r stop p built read is h k short =

@@ -1,5 +1,5 @@
 -- The events of a text keep the grammar of events, before its text parts are read and once they are.
-use Rattle.md_engine.specs.declared.tokenizer.open_leaf.OpenLeaf.TheVariants as open_leaf
+use Rattle.md_engine.specs.declared.tokenizer.held_leaf.HeldLeaf.TheVariants as held_leaf
 use Rattle.std.proofs.Common.{◌≡◌, ℕ, Bool, true, false, cond, List, [], ◌∷◌, ◌++◌, refl, ap, sym, ◌∙◌, append_assoc}
 use Rattle.std.specs.Prelude.{Option, Some, None}
 use Rattle.std.specs.Option.{is_some}
@@ -150,7 +150,7 @@ whole-by_groups bytes text each reads = record {
 
 -- The mark in front of a text, and its groups.
 rows-keep : (options : ParseOptions) (bytes : List ℕ) (text : Expression) (each : Group → List Event) (lines : List (List ℕ)) (rows : List Row) →
-    Reads bytes text each → AreRows options bytes [] open_leaf.None (body_point bytes) lines rows → EachNoContent rows →
+    Reads bytes text each → AreRows options bytes [] held_leaf.None (body_point bytes) lines rows → EachNoContent rows →
     keeps_grammar text (mark_events bytes ++ all_of each (groups rows)) ≡ true
 rows-keep options bytes text each lines rows reads are quiet = go (has_mark bytes)
   where
@@ -160,7 +160,7 @@ rows-keep options bytes text each lines rows reads are quiet = go (has_mark byte
     whole : Whole text (blocks ∷ []) (all_of each (groups rows))
     whole =
         rows-hold bytes (WholeUnder text each) (whole-by_groups bytes text each reads) options p lines rows are
-        (groups-ended rows (rows-end options bytes [] open_leaf.None p lines rows are))
+        (groups-ended rows (rows-end options bytes [] held_leaf.None p lines rows are))
 
     go : (mark : Bool) →
         keeps_grammar text (cond mark (pair n.ByteOrderMark first_point mark_end) [] ++ all_of each (groups rows)) ≡ true
@@ -180,7 +180,7 @@ unread-all bytes (g ∷ gs) = ap (λ (es : List Event). listed_group bytes g ++ 
 
 -- The events of a text keep the grammar before its text parts are read.
 pub blocks-grammar : (options : ParseOptions) (bytes : List ℕ) (lines : List (List ℕ)) (rows : List Row) →
-    AreRows options bytes [] open_leaf.None (body_point bytes) lines rows → EachNoContent rows →
+    AreRows options bytes [] held_leaf.None (body_point bytes) lines rows → EachNoContent rows →
     keeps_grammar unread_text (mark_events bytes ++ listed_groups bytes (groups rows)) ≡ true
 blocks-grammar options bytes lines rows are quiet =
     ap (λ (es : List Event). keeps_grammar unread_text (mark_events bytes ++ es)) (unread-all bytes (groups rows))
@@ -199,7 +199,7 @@ groups-all bytes (g ∷ gs) = ap (λ (es : List Event). group_events bytes g ++ 
 
 -- The events of a text keep the grammar, as the plain layer reads its text parts.
 pub events-grammar : (options : ParseOptions) (bytes : List ℕ) (lines : List (List ℕ)) (rows : List Row) →
-    AreRows options bytes [] open_leaf.None (body_point bytes) lines rows → EachNoContent rows →
+    AreRows options bytes [] held_leaf.None (body_point bytes) lines rows → EachNoContent rows →
     keeps_grammar plain_text (mark_events bytes ++ groups_events bytes (groups rows)) ≡ true
 events-grammar options bytes lines rows are quiet =
     ap (λ (es : List Event). keeps_grammar plain_text (mark_events bytes ++ es)) (groups-all bytes (groups rows))

@@ -1,5 +1,5 @@
 -- The events of the lines of a text, joined and read, are those of its blocks.
-use Rattle.md_engine.specs.declared.tokenizer.open_leaf.OpenLeaf.{OpenLeaf}
+use Rattle.md_engine.specs.declared.tokenizer.held_leaf.HeldLeaf.{HeldLeaf}
 use Rattle.std.proofs.Common.{◌≡◌, ◌≢◌, ℕ, ◌<◌, ◌≤◌, Bool, true, false, cond, ◌&&◌, List, [], ◌∷◌, ◌++◌, length, drop, slice_range, refl, ap, sym, ◌∙◌, subst, append_assoc, append-nil, arith, length-append}
 use Rattle.std.specs.Prelude.{◌==◌, Option, Some, None}
 use Rattle.std.specs.List.{list_all}
@@ -123,11 +123,11 @@ last-are options bytes line p row is BlankRow e = (alone-is options bytes line p
 last-are options bytes line p row is (LeafRow l) e = (alone-is options bytes line p row is (λ k. cc), tt)
 last-are options bytes line p row is TextRow e = ((line, is.is, e), tt, (p, is.front), tt)
 
-line-begun : (options : ParseOptions) (bytes : List ℕ) (open_before : List Container) (still : OpenLeaf) (p : Point) (line : List ℕ) (row : Row) → IsLine options bytes open_before still p line row → HasNoContent row → IsBegun options bytes (rest_line (contained options open_before still (rest_from p line)).rest) p row
+line-begun : (options : ParseOptions) (bytes : List ℕ) (open_before : List Container) (still : HeldLeaf) (p : Point) (line : List ℕ) (row : Row) → IsLine options bytes open_before still p line row → HasNoContent row → IsBegun options bytes (rest_line (contained options open_before still (rest_from p line)).rest) p row
 line-begun options bytes open_before still p line row is quiet = record { is = is.is; front = is.front; quiet = quiet }
 
 -- what stands in front of the first line
-pub first-front : (options : ParseOptions) (bytes : List ℕ) (open_before : List Container) (still : OpenLeaf) (p : Point) (lines : List (List ℕ)) (row : Row) (rows : List Row) → AreRows options bytes open_before still p lines (row ∷ rows) → LinePrefix bytes row.change.opens p row.first row.front
+pub first-front : (options : ParseOptions) (bytes : List ℕ) (open_before : List Container) (still : HeldLeaf) (p : Point) (lines : List (List ℕ)) (row : Row) (rows : List Row) → AreRows options bytes open_before still p lines (row ∷ rows) → LinePrefix bytes row.change.opens p row.first row.front
 first-front options bytes open_before still p [] row rows h = absurd h
 first-front options bytes open_before still p (line ∷ []) row [] h = h.0.front
 first-front options bytes open_before still p (line ∷ []) row (below ∷ rows) h = absurd h
@@ -135,7 +135,7 @@ first-front options bytes open_before still p (line ∷ next ∷ lines) row [] h
 first-front options bytes open_before still p (line ∷ next ∷ lines) row (below ∷ rows) h = h.0.front
 
 -- The groups of the lines of a text are lines of text that belong together, and lines that are no text.
-pub groups-are : (options : ParseOptions) (bytes : List ℕ) (open_before : List Container) (still : OpenLeaf) (p : Point) (lines : List (List ℕ)) (rows : List Row) → AreRows options bytes open_before still p lines rows → EachNoContent rows → AreGroups options bytes (groups rows)
+pub groups-are : (options : ParseOptions) (bytes : List ℕ) (open_before : List Container) (still : HeldLeaf) (p : Point) (lines : List (List ℕ)) (rows : List Row) → AreRows options bytes open_before still p lines rows → EachNoContent rows → AreGroups options bytes (groups rows)
 groups-are options bytes open_before still p [] rows h k = absurd h
 groups-are options bytes open_before still p (line ∷ []) [] h k = absurd h
 groups-are options bytes open_before still p (line ∷ next ∷ lines) [] h k = absurd h
@@ -150,7 +150,7 @@ groups-are options bytes open_before still p (line ∷ next ∷ lines) (row ∷ 
     (groups-are options bytes open_next still_next h.2 (next ∷ lines) (below ∷ rows) h.5 k.1) row.kind refl
 
 -- each line of a text but the last has an ending
-pub rows-end : (options : ParseOptions) (bytes : List ℕ) (open_before : List Container) (still : OpenLeaf) (p : Point) (lines : List (List ℕ)) (rows : List Row) → AreRows options bytes open_before still p lines rows → EachEnds rows
+pub rows-end : (options : ParseOptions) (bytes : List ℕ) (open_before : List Container) (still : HeldLeaf) (p : Point) (lines : List (List ℕ)) (rows : List Row) → AreRows options bytes open_before still p lines rows → EachEnds rows
 rows-end options bytes open_before still p lines [] h = tt
 rows-end options bytes open_before still p lines (row ∷ []) h = tt
 rows-end options bytes open_before still p [] (row ∷ below ∷ rows) h = absurd h
@@ -159,7 +159,7 @@ rows-end options bytes open_before still p (line ∷ next ∷ lines) (row ∷ be
     (h.2, h.3, rows-end options bytes (behind_line options open_before still p line) (leaf_behind row.kind) h.2 (next ∷ lines) (below ∷ rows) h.5)
 
 -- in front of each line of a text stand prefixes and begins of containers
-pub rows-front : (options : ParseOptions) (bytes : List ℕ) (open_before : List Container) (still : OpenLeaf) (p : Point) (lines : List (List ℕ)) (rows : List Row) → AreRows options bytes open_before still p lines rows → EachFront bytes rows
+pub rows-front : (options : ParseOptions) (bytes : List ℕ) (open_before : List Container) (still : HeldLeaf) (p : Point) (lines : List (List ℕ)) (rows : List Row) → AreRows options bytes open_before still p lines rows → EachFront bytes rows
 rows-front options bytes open_before still p lines [] h = tt
 rows-front options bytes open_before still p [] (row ∷ rows) h = absurd h
 rows-front options bytes open_before still p (line ∷ []) (row ∷ []) h = ((p, h.0.front), tt)
@@ -362,7 +362,7 @@ groups-content options bytes wants reads w other unique (Lines row rows ∷ gs) 
     group-joins row.front given tail (unread_groups gs) out begun.0 rest.0 two.0 begun.1 rest.2 two.1 (groups-content options bytes wants reads w other unique gs are.3 rest.1 two.0 two.2)
 
 -- The events of the lines of a text, joined, and their content read: texts that are not read yet.
-pub content-read : (options : ParseOptions) (bytes : List ℕ) (open_before : List Container) (still : OpenLeaf) (p : Point) (lines : List (List ℕ)) (rows : List Row) → AreRows options bytes open_before still p lines rows → EachNoContent rows →
+pub content-read : (options : ParseOptions) (bytes : List ℕ) (open_before : List Container) (still : HeldLeaf) (p : Point) (lines : List (List ℕ)) (rows : List Row) → AreRows options bytes open_before still p lines rows → EachNoContent rows →
     (wants : Content → Bool) (reads : Readings) → wants content.Content ≡ true → wants content.Text ≡ false → ReadsContent options bytes reads →
     (unread : List Event) → Substituted wants reads [] 0 (joined (rows_events rows)) unread → unread ≡ unread_groups (groups rows)
 content-read options bytes open_before still p lines rows are quiet wants reads w other unique unread s =
@@ -402,7 +402,7 @@ groups-set options bytes (Lines row rows ∷ gs) are =
     ∙ ap (λ (l : List Event). unread_group (Lines row rows) ++ l) (groups-set options bytes gs are.3)
 
 -- Each leaf is set, and all else stays.
-pub leaves-set : (options : ParseOptions) (bytes : List ℕ) (open_before : List Container) (still : OpenLeaf) (p : Point) (lines : List (List ℕ)) (rows : List Row) → AreRows options bytes open_before still p lines rows → EachNoContent rows →
+pub leaves-set : (options : ParseOptions) (bytes : List ℕ) (open_before : List Container) (still : HeldLeaf) (p : Point) (lines : List (List ℕ)) (rows : List Row) → AreRows options bytes open_before still p lines rows → EachNoContent rows →
     resolved (unread_groups (groups rows)) ≡ listed_groups bytes (groups rows)
 leaves-set options bytes open_before still p lines rows are quiet = groups-set options bytes (groups rows) (groups-are options bytes open_before still p lines rows are quiet)
 
@@ -505,7 +505,7 @@ groups-become options bytes wants reads w rt (Lines row rows ∷ gs) are =
     (lines-become options bytes row rows wants reads w rt are.0 are.2) (groups-become options bytes wants reads w rt gs are.3)
 
 -- The text of leaves, and texts, read: the events of a text.
-pub text-read : (options : ParseOptions) (bytes : List ℕ) (open_before : List Container) (still : OpenLeaf) (p : Point) (lines : List (List ℕ)) (rows : List Row) → AreRows options bytes open_before still p lines rows → EachNoContent rows →
+pub text-read : (options : ParseOptions) (bytes : List ℕ) (open_before : List Container) (still : HeldLeaf) (p : Point) (lines : List (List ℕ)) (rows : List Row) → AreRows options bytes open_before still p lines rows → EachNoContent rows →
     (wants : Content → Bool) (reads : Readings) → wants content.Text ≡ true → ReadsText bytes reads →
     (events : List Event) → Substituted wants reads [] 0 (listed_groups bytes (groups rows)) events → events ≡ groups_events bytes (groups rows)
 text-read options bytes open_before still p lines rows are quiet wants reads w rt events s =

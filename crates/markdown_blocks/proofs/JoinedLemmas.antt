@@ -1,5 +1,5 @@
 -- Lines of text that follow one another, joined.
-use Rattle.md_engine.specs.declared.tokenizer.open_leaf.OpenLeaf.{OpenLeaf}
+use Rattle.md_engine.specs.declared.tokenizer.held_leaf.HeldLeaf.{HeldLeaf}
 use Rattle.std.proofs.Common.{◌≡◌, ◌≢◌, ℕ, zero, suc, Bool, true, false, cond, ◌&&◌, List, [], ◌∷◌, ◌++◌, refl, ap, sym, ◌∙◌, subst, append_assoc}
 use Rattle.std.specs.Prelude.{Option, Some, None}
 use Rattle.std.proofs.lemmas.Bool.{and_right}
@@ -50,11 +50,11 @@ inside-no_content wants w options cells p (LeafRow l) = (laws l).no_content want
 inside-no_content wants w options cells p TextRow = tt
 
 -- no content stands inside the lines that flow reads
-pub rows_at-no_content : (options : ParseOptions) (size : ℕ) (open_before : List Container) (still : OpenLeaf) (cells : List Cell) (p : Point) → EachNoContent (rows_at options size open_before still cells p)
+pub rows_at-no_content : (options : ParseOptions) (size : ℕ) (open_before : List Container) (still : HeldLeaf) (cells : List Cell) (p : Point) → EachNoContent (rows_at options size open_before still cells p)
 rows_at-no_content options zero open_before still cells p = tt
 rows_at-no_content options (suc size) open_before still cells p = by (rows_at-no_content options size) (held_at options open_before still cells p)
   where
-    by : ((open_before : List Container) (still : OpenLeaf) (cells : List Cell) (p : Point) → EachNoContent (rows_at options size open_before still cells p)) → (h : Held) → EachNoContent (rows_by options h (rows_at options size))
+    by : ((open_before : List Container) (still : HeldLeaf) (cells : List Cell) (p : Point) → EachNoContent (rows_at options size open_before still cells p)) → (h : Held) → EachNoContent (rows_by options h (rows_at options size))
     by further h = (λ wants w. inside-no_content wants w options h.cells h.point (row_kind options h.cells), go (from_ending h.cells))
       where
         go : (rest : List Cell) → EachNoContent (elim rest [ [] ↦ [] | c ∷ cs ↦ rows_at options size (open_behind h.change) (leaf_behind (row_kind options h.cells)) cs c.after ])

@@ -7,7 +7,7 @@ use Rattle.md_engine.specs.declared.event.Content.TheVariants as content
 use Rattle.md_engine.specs.declared.event.Event.{Event}
 use Rattle.md_engine.specs.declared.event.Point.{Point}
 use Rattle.md_engine.specs.declared.tokenizer.Line.{Line}
-use Rattle.md_engine.specs.declared.tokenizer.open_leaf.OpenLeaf.TheVariants as open_leaf
+use Rattle.md_engine.specs.declared.tokenizer.held_leaf.HeldLeaf.TheVariants as held_leaf
 use Rattle.md_engine.specs.Meaning.{Accepts, Cell, Fails, Here, Outcome, Refuses}
 use Rattle.md_seam.specs.Ahead.{from_ending, line_end}
 use Rattle.md_seam.specs.Look.{first_seen}
@@ -27,7 +27,7 @@ use Rattle.markdown_blocks.proofs.ContentFacts.{NoContent}
 
 -- a line that ends with what was added, where no text is open
 abbrev pub shut_line : List Event → List Cell → Here → Outcome
-shut_line added cells h = Accepts (record h { events = h.events ++ added; point = line_end cells h.point; flags = record h.flags { leaf = open_leaf.None } }) (from_ending cells)
+shut_line added cells h = Accepts (record h { events = h.events ++ added; point = line_end cells h.point; flags = record h.flags { leaf = held_leaf.None } }) (from_ending cells)
 
 -- a line is taken or refused; what is left of one that is taken is no longer than what there was, and begins with an ending
 abbrev pub Shrinks : ℕ → Outcome → Type 0

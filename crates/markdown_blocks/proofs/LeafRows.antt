@@ -2,7 +2,7 @@
 use Rattle.std.proofs.Common.{◌≡◌, Bool, true, false, cond, List, [], ◌∷◌, ◌++◌, ap, append_assoc}
 use Rattle.md_engine.specs.declared.event.Event.{Event}
 use Rattle.md_engine.specs.declared.event.Name.TheVariants as n
-use Rattle.md_engine.specs.declared.tokenizer.open_leaf.OpenLeaf.TheVariants as open_leaf
+use Rattle.md_engine.specs.declared.tokenizer.held_leaf.HeldLeaf.TheVariants as held_leaf
 use Rattle.md_engine.specs.Meaning.{Accepts, Cell, Here, Refuses}
 use Rattle.md_content.specs.ChunkRule.{chunk_at, inside_chunk}
 use Rattle.md_content.specs.Chunks.{content_link}
@@ -25,7 +25,7 @@ blank-refused cells h e =
 
 -- content takes every line
 pub chunk-took : (cells : List Cell) (h : Here) →
-    chunk_at cells h ≡ Accepts (record h { events = h.events ++ (enter_link n.Content h.point content_link ∷ exit n.Content (line_end cells h.point) ∷ []); point = line_end cells h.point; flags = record h.flags { leaf = open_leaf.Text } }) (from_ending cells)
+    chunk_at cells h ≡ Accepts (record h { events = h.events ++ (enter_link n.Content h.point content_link ∷ exit n.Content (line_end cells h.point) ∷ []); point = line_end cells h.point; flags = record h.flags { leaf = held_leaf.Text } }) (from_ending cells)
 unfolding chunk_at inside_chunk
 chunk-took cells h =
-    ap (λ (es : List Event). Accepts (record h { events = es; point = line_end cells h.point; flags = record h.flags { leaf = open_leaf.Text } }) (from_ending cells)) (append_assoc h.events (enter_link n.Content h.point content_link ∷ []) (exit n.Content (line_end cells h.point) ∷ []))
+    ap (λ (es : List Event). Accepts (record h { events = es; point = line_end cells h.point; flags = record h.flags { leaf = held_leaf.Text } }) (from_ending cells)) (append_assoc h.events (enter_link n.Content h.point content_link ∷ []) (exit n.Content (line_end cells h.point) ∷ []))

@@ -1,7 +1,7 @@
 -- What one line does to the containers and the text that are open, where only leaves that are built may be on.
-use Rattle.markdown_blocks.specs.OpenLeaf.{takes_lazy}
-use Rattle.md_engine.specs.declared.tokenizer.open_leaf.OpenLeaf.TheVariants as open_leaf
-use Rattle.md_engine.specs.declared.tokenizer.open_leaf.OpenLeaf.{OpenLeaf}
+use Rattle.markdown_blocks.specs.HeldLeaf.{takes_lazy}
+use Rattle.md_engine.specs.declared.tokenizer.held_leaf.HeldLeaf.TheVariants as held_leaf
+use Rattle.md_engine.specs.declared.tokenizer.held_leaf.HeldLeaf.{HeldLeaf}
 use Rattle.std.proofs.Common.{◌≡◌, ℕ, zero, suc, ◌+◌, ◌≤◌, Bool, true, false, cond, ◌&&◌, ◌||◌, List, [], ◌∷◌, ◌++◌, length, refl, ap, sym, ◌∙◌, subst, append-nil, arith}
 use Rattle.std.specs.Prelude.{Option, Some, None}
 use Rattle.std.specs.Option.{is_some}
@@ -21,7 +21,7 @@ use Rattle.markdown_blocks.specs.Fronted.{Contained, Prefixed, contained, no_pre
 use Rattle.markdown_blocks.specs.Parsed.{IsBuilt}
 use Rattle.markdown_blocks.specs.Registry.{LeafName, leaf, text_leaf}
 use Rattle.markdown_blocks.specs.Rows.{leaf_behind, BlankRow, LeafRow, RowKind, TextRow, is_lazy, is_text, kind_of, line_kind}
-use Rattle.markdown_blocks.specs.OpenLeaf.{IsBuiltLeaf, kind_of_leaf}
+use Rattle.markdown_blocks.specs.HeldLeaf.{IsBuiltLeaf, kind_of_leaf}
 use Rattle.markdown_blocks.specs.Stands.{IsPlain, containers_of, still_of}
 use Rattle.markdown_blocks.specs.Leaf.Paragraph.{held_of}
 use Rattle.markdown_blocks.proofs.ContainedLemmas.{change-opens, contained-size, lazy-opens, lazy-some}
@@ -178,7 +178,7 @@ leaf-stepped options bs leaf r built plain =
     text-laws.cases (λ (leaf : Leaf). At (leaf_line options (record { here = bs; leaf = leaf }) r) ≡ stepped options (At (record { here = bs; leaf = leaf })) [] (no_prefix r)) refl text leaf plain
   where
     by : Kept → List Kept → RowKind → Spot → Path
-    by k ks kind s = cond (is_lazy open_leaf.Text [] kind) (At (with_line bs (k ∷ ks) r)) (At s)
+    by k ks kind s = cond (is_lazy held_leaf.Text [] kind) (At (with_line bs (k ∷ ks) r)) (At s)
 
     go : (k : Kept) (ks : List Kept) (kind : RowKind) → At (spot_by bs (k ∷ ks) r kind) ≡ by k ks kind (spot_by (text_leaf.behind bs (texts (k ∷ ks))) [] r kind)
     go k ks BlankRow = refl
@@ -224,14 +224,14 @@ lazy-stepped options before c p r built leaf e plain = text-laws.cases By (λ e.
     other : Path
     other = At (fresh_line options (then_block before (container_block c (closed options p))) r)
 
-    longer_by : OpenLeaf → RowKind → Path
+    longer_by : HeldLeaf → RowKind → Path
     longer_by still kind = cond (is_lazy still [] kind) (Within before c (longer (renewed (containers_of p) p) (kept r ∷ []))) other
 
     By : Leaf → Type 0
     By leaf = (spot p).leaf ≡ leaf → lazy_by options before c p r (with_lazy options leaf r) ≡ longer_by (kind_of_leaf leaf) (line_kind options r)
 
     go : (k : Kept) (ks : List Kept) → (spot p).leaf ≡ text_leaf.held (k ∷ ks) → (x : Bool) (o : Option LeafName) →
-        lazy_by options before c p r (cond (x || is_some (came_of r o)) None (Some (text_leaf.held (k ∷ ks ++ kept r ∷ [])))) ≡ longer_by open_leaf.Text (cond x BlankRow (kind_of o))
+        lazy_by options before c p r (cond (x || is_some (came_of r o)) None (Some (text_leaf.held (k ∷ ks ++ kept r ∷ [])))) ≡ longer_by held_leaf.Text (cond x BlankRow (kind_of o))
     go k ks e true o = refl
     go k ks e false (Some l) = refl
     go k ks e false None = ap (Within before c) (at_spot-longer p (k ∷ ks) (kept r ∷ []) e ∙ ap (λ (q : Path). longer q (kept r ∷ [])) (sym (renewed-same p)))
@@ -247,9 +247,9 @@ step-stopped options before c p r built plain =
     go (opens options false r)
     ∙ ap (stepped options (Within before c p) []) (sym (new-found options false (length r.bytes) r (omega arith)) ∙ ap (λ (x : Bool). all_new options x r) (never (still_of p)))
   where
-    never : (x : OpenLeaf) → false ≡ interrupts x (c ∷ containers_of p)
-    never open_leaf.Text = refl
-    never open_leaf.None = refl
+    never : (x : HeldLeaf) → false ≡ interrupts x (c ∷ containers_of p)
+    never held_leaf.Text = refl
+    never held_leaf.None = refl
 
     go : (o : Option Taken) → stopped_by options before c p r o ≡ stepped options (Within before c p) [] (found_by options r o)
     go None = lazy-stepped options before c p r built (spot p).leaf refl plain
@@ -383,7 +383,7 @@ plain-step options p r built plain = subst IsPlain (sym (step-contained options 
     go false = plain-behind (kept_to options c.change.stays p) (new_line options c.change.opens c.rest) (λ bs. plain-new_line options c.change.opens c.rest bs built)
 
 -- a line that goes on the open text is text
-pub lazy-text : (still : OpenLeaf) (opens : List Container) (kind : RowKind) → is_lazy still opens kind ≡ true → is_text kind ≡ true
+pub lazy-text : (still : HeldLeaf) (opens : List Container) (kind : RowKind) → is_lazy still opens kind ≡ true → is_text kind ≡ true
 lazy-text still opens kind e = (and_parts (takes_lazy still && is_none opens) (is_text kind) e).1
 
 -- Which containers are open behind a line.
@@ -433,16 +433,16 @@ containers-step options p r built plain = ap containers_of (step-contained optio
 
 -- The leaf that is open behind a line.
 
-text-behind : (kind : RowKind) → is_text kind ≡ true → leaf_behind kind ≡ open_leaf.Text
+text-behind : (kind : RowKind) → is_text kind ≡ true → leaf_behind kind ≡ held_leaf.Text
 text-behind BlankRow e = cc
 text-behind (LeafRow l) e = cc
 text-behind TextRow e = refl
 
-still-longer : (p : Path) (ks : List Kept) → still_of (longer p ks) ≡ open_leaf.Text
+still-longer : (p : Path) (ks : List Kept) → still_of (longer p ks) ≡ held_leaf.Text
 still-longer (At s) ks = refl
 still-longer (Within before container p) ks = still-longer p ks
 
-still-behind : (p : Path) (f : Blocks → Path) (x : OpenLeaf) → ((bs : Blocks) → still_of (f bs) ≡ x) → still_of (behind_path p f) ≡ x
+still-behind : (p : Path) (f : Blocks → Path) (x : HeldLeaf) → ((bs : Blocks) → still_of (f bs) ≡ x) → still_of (behind_path p f) ≡ x
 still-behind (At s) f x each = each s.here
 still-behind (Within before container p) f x each = still-behind p f x each
 

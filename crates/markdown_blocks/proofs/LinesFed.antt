@@ -2,8 +2,8 @@
 --
 -- What is left of one line is a behaviour too, whose rule stops where the next line begins. So each call comes to what the line comes
 -- to, up to the call that takes the ending of the line; there the next line begins.
-use Rattle.md_engine.specs.declared.tokenizer.open_leaf.OpenLeaf.TheVariants as open_leaf
-use Rattle.md_engine.specs.declared.tokenizer.open_leaf.OpenLeaf.{OpenLeaf}
+use Rattle.md_engine.specs.declared.tokenizer.held_leaf.HeldLeaf.TheVariants as held_leaf
+use Rattle.md_engine.specs.declared.tokenizer.held_leaf.HeldLeaf.{HeldLeaf}
 use Rattle.std.proofs.Common.{◌≡◌, ◌^◌, ◌<◌, ◌⊎◌, inl, inr, ℕ, zero, suc, ◌+◌, Bool, true, false, cond, nat_eq, List, [], ◌∷◌, ◌++◌, length, take, drop, Option, Some, None, refl, sym, ◌∙◌, ap, subst, arith, append_assoc, append-nil, length-drop}
 use Rattle.std.proofs.lemmas.Bool.{eqb-true}
 use Rattle.md_engine.specs.declared.configuration.ParseOptions.{ParseOptions}
@@ -50,7 +50,7 @@ open_after cs [] = cs
 open_after cs (row ∷ rows) = open_after (open_behind row.change) rows
 
 -- and the leaf that is open behind them
-abbrev pub leaf_after : OpenLeaf → List Row → OpenLeaf
+abbrev pub leaf_after : HeldLeaf → List Row → HeldLeaf
 leaf_after still [] = still
 leaf_after still (row ∷ rows) = leaf_after (leaf_behind row.kind) rows
 
@@ -59,7 +59,7 @@ open-last : (cs : List Container) (rows : List Row) (row : Row) → open_after c
 open-last cs [] row = refl
 open-last cs (first ∷ rows) row = open-last (open_behind first.change) rows row
 
-leaf-last : (still : OpenLeaf) (rows : List Row) (row : Row) → leaf_after still (rows ++ row ∷ []) ≡ leaf_behind row.kind
+leaf-last : (still : HeldLeaf) (rows : List Row) (row : Row) → leaf_after still (rows ++ row ∷ []) ≡ leaf_behind row.kind
 leaf-last still [] row = refl
 leaf-last still (first ∷ rows) row = leaf-last (leaf_behind first.kind) rows row
 
@@ -109,7 +109,7 @@ record LineAt (options : ParseOptions) (from : Point) (all : List Row) (n : ℕ)
   tail : List Event
   point : Point
   containers : List Container
-  still : OpenLeaf
+  still : HeldLeaf
   begins : Begins front tail point containers still h
   -- the further lines are read from here on
   size : ℕ
@@ -121,7 +121,7 @@ record LineAt (options : ParseOptions) (from : Point) (all : List Row) (n : ℕ)
   -- where the last of them has ended, and what they leave open
   place : h.point ≡ place_behind from (take n all)
   containers_are : containers ≡ open_after [] (take n all)
-  still_is : still ≡ leaf_after open_leaf.None (take n all)
+  still_is : still ≡ leaf_after held_leaf.None (take n all)
 
 regroup : (front ends tail more : List Event) → front ++ (ends ++ (tail ++ more)) ≡ (front ++ (ends ++ tail)) ++ more
 regroup front ends tail more = simp append_assoc
@@ -139,7 +139,7 @@ line-next options from all n left h l rest new is = by l.size l.fits l.rows
     behind : List Container
     behind = open_behind (held_at options l.containers l.still left h.point).change
 
-    text : OpenLeaf
+    text : HeldLeaf
     text = leaf_behind (row_kind options (held_at options l.containers l.still left h.point).cells)
 
     -- behind the line, with the ends of these containers
@@ -185,11 +185,11 @@ line-next options from all n left h l rest new is = by l.size l.fits l.rows
               events = added c xs below [] e rows ∙ ap rows_events (sym (not_left-last (take n all) row)) ∙ ap (λ (rs : List Row). rows_events (not_left rs)) (sym taken);
               place = ap (λ (ls : List Cell). elim (after_ending ls) [ None ↦ line_end x.cells x.point | Some q ↦ q ]) (sym e) ∙ sym (ap (place_behind from) taken ∙ place-last from (take n all) row);
               containers_are = sym (ap (open_after []) taken ∙ open-last [] (take n all) row);
-              still_is = sym (ap (leaf_after open_leaf.None) taken ∙ leaf-last open_leaf.None (take n all) row);
+              still_is = sym (ap (leaf_after held_leaf.None) taken ∙ leaf-last held_leaf.None (take n all) row);
             })
 
 -- where a line begins there are more lines than before it
-is-further : (options : ParseOptions) (all : List Row) (n size : ℕ) (cs : List Container) (still : OpenLeaf) (left : List Cell) (p : Point) → length left < size → drop n all ≡ rows_at options size cs still left p → n < length all
+is-further : (options : ParseOptions) (all : List Row) (n size : ℕ) (cs : List Container) (still : HeldLeaf) (left : List Cell) (p : Point) → length left < size → drop n all ≡ rows_at options size cs still left p → n < length all
 is-further options all n zero cs still left p fits rows = absurd (omega arith)
 is-further options all n (suc m) cs still left p fits rows =
     let many = ap length rows in
@@ -351,7 +351,7 @@ pub record LineFed (bytes : List ℕ) (options : ParseOptions) (p : Point) (n : 
   pub further : n < length (text_rows options bytes p)
   pub point : w.point ≡ place_behind p (take n (text_rows options bytes p))
   pub containers : AreOpen w.flags.containers (open_after [] (take n (text_rows options bytes p)))
-  pub leaf : w.flags.leaf ≡ leaf_after open_leaf.None (take n (text_rows options bytes p))
+  pub leaf : w.flags.leaf ≡ leaf_after held_leaf.None (take n (text_rows options bytes p))
   pub events : w.events ≡ rows_events (not_left (take n (text_rows options bytes p)))
 
 -- a call that feeds a line
@@ -375,7 +375,7 @@ text-within : (is_name : ResolveName → ResolveName → Bool) (bytes : List ℕ
     Within options (feed_of bytes options p) p (text_rows options bytes p) (fed (FlowStep is_name) true line_begins (flow_begins bytes options p) t v run) t v
 text-within is_name bytes options p small t v run = within-run is_name options (feed_of bytes options p) p (text_rows options bytes p) line_begins (flow_begins bytes options p) (text-follows_it bytes options p small) refl begun t v run
   where
-    closed : (held_at options [] open_leaf.None (text_cells bytes options p) p).change.closes ≡ []
+    closed : (held_at options [] held_leaf.None (text_cells bytes options p) p).change.closes ≡ []
     closed = no-closes options (text_cells bytes options p) p
 
     begun : Within options (feed_of bytes options p) p (text_rows options bytes p) 0 line_begins (flow_begins bytes options p)
@@ -388,7 +388,7 @@ text-within is_name bytes options p small t v run = within-run is_name options (
         tail = [];
         point = p;
         containers = [];
-        still = open_leaf.None;
+        still = held_leaf.None;
         begins = text-begins (here (flow_begins bytes options p)) refl refl refl refl refl refl refl;
         size = suc (length (text_cells bytes options p));
         fits = omega arith;
@@ -445,7 +445,7 @@ line-last options from all n left h l new is = by l.size l.fits l.rows
     behind : List Container
     behind = open_behind (held_at options l.containers l.still left h.point).change
 
-    text : OpenLeaf
+    text : HeldLeaf
     text = leaf_behind (row_kind options (held_at options l.containers l.still left h.point).cells)
 
     by : (size : ℕ) → length left < size → drop n all ≡ rows_at options size l.containers l.still left h.point → suc n ≡ length all

@@ -1,6 +1,6 @@
 -- The events of a text nest.
-use Rattle.md_engine.specs.declared.tokenizer.open_leaf.OpenLeaf.TheVariants as open_leaf
-use Rattle.md_engine.specs.declared.tokenizer.open_leaf.OpenLeaf.{OpenLeaf}
+use Rattle.md_engine.specs.declared.tokenizer.held_leaf.HeldLeaf.TheVariants as held_leaf
+use Rattle.md_engine.specs.declared.tokenizer.held_leaf.HeldLeaf.{HeldLeaf}
 use Rattle.std.proofs.Common.{◌≡◌, ◌≢◌, ℕ, Bool, true, false, cond, List, [], ◌∷◌, ◌++◌, refl, ap, sym, ◌∙◌, subst, append_assoc, append-nil}
 use Rattle.std.specs.Prelude.{IsTrue, Option, Some, None}
 use Rattle.std.proofs.lemmas.Bool.{and_parts}
@@ -184,7 +184,7 @@ record Hold (options : ParseOptions) (bytes : List ℕ) (P : List Name → Point
   holds : P names p (groups rows)
 
 -- what was open before a line ends there or stays
-change-names : (options : ParseOptions) (bytes line : List ℕ) (cs : List Container) (still : OpenLeaf) (p : Point) (row : Row) → IsLine options bytes cs still p line row → open_names cs ≡ open_names row.change.closes ++ open_names row.change.stays
+change-names : (options : ParseOptions) (bytes line : List ℕ) (cs : List Container) (still : HeldLeaf) (p : Point) (row : Row) → IsLine options bytes cs still p line row → open_names cs ≡ open_names row.change.closes ++ open_names row.change.stays
 change-names options bytes line cs still p row is =
     subst (λ (change : Change). open_names cs ≡ open_names change.closes ++ open_names change.stays) (sym is.change)
     (sym (shapes-names (change.stays ++ change.closes) cs (contained-shapes options cs still (rest_from p line))) ∙ names-append change.stays change.closes)
@@ -193,11 +193,11 @@ change-names options bytes line cs still p row is =
     change = (contained options cs still (rest_from p line)).change
 
 -- what is open behind a line, without what ends there, is what the line leaves
-change-keeps : (options : ParseOptions) (bytes line : List ℕ) (cs : List Container) (still : OpenLeaf) (p : Point) (row : Row) (kept : List Name) → IsLine options bytes cs still p line row → open_names (behind_line options cs still p line) ≡ open_names row.leaves ++ kept →
+change-keeps : (options : ParseOptions) (bytes line : List ℕ) (cs : List Container) (still : HeldLeaf) (p : Point) (row : Row) (kept : List Name) → IsLine options bytes cs still p line row → open_names (behind_line options cs still p line) ≡ open_names row.leaves ++ kept →
     Keeps (open_names row.change.stays) (Single row) kept
 change-keeps options bytes line cs still p row kept is h = sym (names-append row.change.stays row.change.opens) ∙ ap (λ (change : Change). open_names (open_behind change)) is.change ∙ h
 
-line-holds : (options : ParseOptions) (bytes : List ℕ) (P : List Name → Point → List Group → Type 0) → ByGroups bytes P → (cs : List Container) (still : OpenLeaf) (p : Point) (line : List ℕ) (row : Row) (rows : List Row) (kept : List Name) → IsLine options bytes cs still p line row →
+line-holds : (options : ParseOptions) (bytes : List ℕ) (P : List Name → Point → List Group → Type 0) → ByGroups bytes P → (cs : List Container) (still : HeldLeaf) (p : Point) (line : List ℕ) (row : Row) (rows : List Row) (kept : List Name) → IsLine options bytes cs still p line row →
     IsTrue (at_or_before row.end (behind_row row)) → open_names (behind_line options cs still p line) ≡ open_names row.leaves ++ kept → Ended bytes row (groups rows) → Begun options bytes P kept (behind_row row) (groups rows) → P kept (behind_row row) (groups rows) → Hold options bytes P cs p (row ∷ rows)
 line-holds options bytes P by cs still p line row rows kept is ends left ended begun h =
     let rest : List ℕ = rest_line (contained options cs still (rest_from p line)).rest in
@@ -206,7 +206,7 @@ line-holds options bytes P by cs still p line row rows kept is ends left ended b
     record { names = open_names row.change.stays; left = change-names options bytes line cs still p row is; begun = both.1; holds = both.0 }
 
 -- It holds of the groups of a text.
-lines-hold : (options : ParseOptions) (bytes : List ℕ) (P : List Name → Point → List Group → Type 0) → ByGroups bytes P → (cs : List Container) (still : OpenLeaf) (p : Point) (lines : List (List ℕ)) (rows : List Row) → AreRows options bytes cs still p lines rows → Hold options bytes P cs p rows
+lines-hold : (options : ParseOptions) (bytes : List ℕ) (P : List Name → Point → List Group → Type 0) → ByGroups bytes P → (cs : List Container) (still : HeldLeaf) (p : Point) (lines : List (List ℕ)) (rows : List Row) → AreRows options bytes cs still p lines rows → Hold options bytes P cs p rows
 lines-hold options bytes P by cs still p (line ∷ []) (row ∷ []) are =
     let behind : List Container = behind_line options cs still p line in
     let ends : IsTrue (at_or_before row.end (behind_row row)) = subst (λ (q : Point). IsTrue (at_or_before row.end q)) (sym (behind-none row are.2)) (at_or_before-refl row.end) in
@@ -232,9 +232,9 @@ none-left [] names e = sym e
 none-left (name ∷ ended) names e = cc
 
 -- It holds of those of a whole text.
-pub rows-hold : (bytes : List ℕ) (P : List Name → Point → List Group → Type 0) → ByGroups bytes P → (options : ParseOptions) (p : Point) (lines : List (List ℕ)) (rows : List Row) → AreRows options bytes [] open_leaf.None p lines rows → P [] p (groups rows)
+pub rows-hold : (bytes : List ℕ) (P : List Name → Point → List Group → Type 0) → ByGroups bytes P → (options : ParseOptions) (p : Point) (lines : List (List ℕ)) (rows : List Row) → AreRows options bytes [] held_leaf.None p lines rows → P [] p (groups rows)
 rows-hold bytes P by options p lines rows are =
-    let hold : Hold options bytes P [] p rows = lines-hold options bytes P by [] open_leaf.None p lines rows are in
+    let hold : Hold options bytes P [] p rows = lines-hold options bytes P by [] held_leaf.None p lines rows are in
     subst (λ (l : List Name). P l p (groups rows)) (none-left (open_names (closes_before [] rows)) hold.names hold.left) hold.holds
 
 -- The events of a text.
@@ -253,5 +253,5 @@ nests-by_groups bytes = record {
 }
 
 -- The groups of the lines of a text nest.
-pub rows-nest : (options : ParseOptions) (bytes : List ℕ) (p : Point) (lines : List (List ℕ)) (rows : List Row) → AreRows options bytes [] open_leaf.None p lines rows → Nests bytes p (groups rows)
+pub rows-nest : (options : ParseOptions) (bytes : List ℕ) (p : Point) (lines : List (List ℕ)) (rows : List Row) → AreRows options bytes [] held_leaf.None p lines rows → Nests bytes p (groups rows)
 rows-nest options bytes p lines rows are = under-none p (groups_events bytes (groups rows)) (rows-hold bytes (NestsUnder bytes) (nests-by_groups bytes) options p lines rows are)

@@ -1,5 +1,5 @@
 -- What a text is read as, where only constructs that are built may be on: its events nest, spell its tree and tile it.
-use Rattle.md_engine.specs.declared.tokenizer.open_leaf.OpenLeaf.TheVariants as open_leaf
+use Rattle.md_engine.specs.declared.tokenizer.held_leaf.HeldLeaf.TheVariants as held_leaf
 use Rattle.std.proofs.Common.{◌≡◌, ◌^◌, ◌<◌, arith, ℕ, Bool, true, false, suc, List, [], ◌++◌, length, drop, refl, ap, sym, ◌∙◌, subst}
 use Rattle.std.specs.Prelude.{IsTrue}
 use Rattle.std.specs.Str.{IsUtf8}
@@ -57,16 +57,16 @@ abbrev rows_of : ParseOptions → List ℕ → List Row
 rows_of options bytes = text_rows options bytes (body_point bytes)
 
 text-quiet : (options : ParseOptions) (bytes : List ℕ) (p : Point) → EachNoContent (text_rows options bytes p)
-text-quiet options bytes p = rows_at-no_content options (suc (length (text_cells bytes options p))) [] open_leaf.None (text_cells bytes options p) p
+text-quiet options bytes p = rows_at-no_content options (suc (length (text_cells bytes options p))) [] held_leaf.None (text_cells bytes options p) p
 
-text-are : (options : ParseOptions) (bytes : List ℕ) → IsBuilt options → length bytes < 2 ^ 61 → AreRows options bytes [] open_leaf.None (body_point bytes) (lines_of bytes) (rows_of options bytes)
+text-are : (options : ParseOptions) (bytes : List ℕ) → IsBuilt options → length bytes < 2 ^ 61 → AreRows options bytes [] held_leaf.None (body_point bytes) (lines_of bytes) (rows_of options bytes)
 text-are options bytes built small = fresh-rows options bytes (body_point bytes) built small (body-index bytes) (body-vs bytes) (body-column bytes)
 
 -- The events of a text, once flow and content were read.
 content-are : (options : ParseOptions) (bytes : List ℕ) → IsBuilt options → length bytes < 2 ^ 61 → (found : Found) (new : World) → (flow : FlowReads bytes options (body_point bytes) found new) →
     flow.content ≡ unread_groups (groups (rows_of options bytes))
 content-are options bytes built small found new flow =
-    content-read options bytes [] open_leaf.None (body_point bytes) (lines_of bytes) (rows_of options bytes) (text-are options bytes built small) (text-quiet options bytes (body_point bytes))
+    content-read options bytes [] held_leaf.None (body_point bytes) (lines_of bytes) (rows_of options bytes) (text-are options bytes built small) (text-quiet options bytes (body_point bytes))
     wants_content (content_readings bytes options) refl refl (content-reads options options bytes small) flow.content flow.content_read
 
 -- Then the other resolvers ran.
@@ -76,7 +76,7 @@ resolved-are : (options : ParseOptions) (bytes : List ℕ) → IsBuilt options �
 resolved-are options bytes built small found new flow =
     flow.events_are
     ∙ ap resolved (content-are options bytes built small found new flow)
-    ∙ leaves-set options bytes [] open_leaf.None (body_point bytes) (lines_of bytes) (rows_of options bytes) (text-are options bytes built small) (text-quiet options bytes (body_point bytes))
+    ∙ leaves-set options bytes [] held_leaf.None (body_point bytes) (lines_of bytes) (rows_of options bytes) (text-are options bytes built small) (text-quiet options bytes (body_point bytes))
 
 -- And then texts were read.
 pub events-are : (options : ParseOptions) (bytes : List ℕ) → IsBuilt options → length bytes < 2 ^ 61 → (found : Found) (new : World) → FlowReads bytes options (body_point bytes) found new →
@@ -84,7 +84,7 @@ pub events-are : (options : ParseOptions) (bytes : List ℕ) → IsBuilt options
     events ≡ groups_events bytes (groups (text_rows options bytes (body_point bytes)))
 events-are options bytes built small found new flow wants reads wanted text events substituted =
     let before : new.events ≡ listed_groups bytes (groups (rows_of options bytes)) = resolved-are options bytes built small found new flow in
-    text-read options bytes [] open_leaf.None (body_point bytes) (lines_of bytes) (rows_of options bytes) (text-are options bytes built small) (text-quiet options bytes (body_point bytes)) wants reads wanted text events
+    text-read options bytes [] held_leaf.None (body_point bytes) (lines_of bytes) (rows_of options bytes) (text-are options bytes built small) (text-quiet options bytes (body_point bytes)) wants reads wanted text events
     (subst (λ (l : List Event). Substituted wants reads [] 0 l events) before substituted)
 
 -- With what was read in the place of its chunks, the block list of a text tiles it.
@@ -94,15 +94,15 @@ tiles-are options bytes built small placed =
     let p : Point = body_point bytes in
     let lines : List (List ℕ) = lines_of bytes in
     let rows : List Row = rows_of options bytes in
-    let are : AreRows options bytes [] open_leaf.None p lines rows = text-are options bytes built small in
+    let are : AreRows options bytes [] held_leaf.None p lines rows = text-are options bytes built small in
     let fills = text-filled options bytes p lines are in (
       record {
         blocks = mark_events bytes ++ listed_groups bytes (groups rows);
         block_list = record {
           nested = blocks-nested options bytes lines rows are;
           placed = placed;
-          lines = blocks-stand options bytes [] open_leaf.None p lines rows are (text-quiet options bytes p);
-          chunks = blocks-chunks options bytes [] open_leaf.None p lines rows are (text-quiet options bytes p);
+          lines = blocks-stand options bytes [] held_leaf.None p lines rows are (text-quiet options bytes p);
+          chunks = blocks-chunks options bytes [] held_leaf.None p lines rows are (text-quiet options bytes p);
           grammar = blocks-grammar options bytes lines rows are (text-quiet options bytes p);
           pieces_are = blocks-pieces options bytes lines rows are;
           endings = blocks-endings options bytes lines rows are (text-quiet options bytes p);
@@ -140,7 +140,7 @@ text-reads options bytes built utf8 small events is =
     let lines : List (List ℕ) = lines_of bytes in
     let rows : List Row = rows_of options bytes in
     let body : List Event = groups_events bytes (groups rows) in
-    let are : AreRows options bytes [] open_leaf.None p lines rows = text-are options bytes built small in
+    let are : AreRows options bytes [] held_leaf.None p lines rows = text-are options bytes built small in
     let nests : Nests bytes p (groups rows) = rows-nest options bytes p lines rows are in
     let spells : spelled body bytes ≡ tree options bytes = tree-rows options built bytes rows are in
     subst (λ (l : List Event). Reads options bytes (mark_events bytes ++ listed_groups bytes (groups rows)) (mark_events bytes ++ l)) (sym is) (record {

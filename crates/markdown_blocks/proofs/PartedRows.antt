@@ -1,5 +1,5 @@
 -- Prefixes part no text but that of lines, and that at the begins of these.
-use Rattle.md_engine.specs.declared.tokenizer.open_leaf.OpenLeaf.TheVariants as open_leaf
+use Rattle.md_engine.specs.declared.tokenizer.held_leaf.HeldLeaf.TheVariants as held_leaf
 use Rattle.std.proofs.Common.{◌≡◌, ℕ, true, false, List, [], ◌++◌, refl}
 use Rattle.std.specs.Prelude.{Option, Some, None}
 use Rattle.md_engine.specs.declared.configuration.ParseOptions.{ParseOptions}
@@ -57,5 +57,5 @@ parted-by_groups bytes = record {
 
 -- no text of a whole text is parted but those of lines, where these begin
 pub rows-parted : (options : ParseOptions) (bytes : List ℕ) (p : Point) (lines : List (List ℕ)) (rows : List Row) →
-    AreRows options bytes [] open_leaf.None p lines rows → are_parted bytes None (groups_events bytes (groups rows)) ≡ true
+    AreRows options bytes [] held_leaf.None p lines rows → are_parted bytes None (groups_events bytes (groups rows)) ≡ true
 rows-parted options bytes p lines rows are = rows-hold bytes (Parted bytes) (parted-by_groups bytes) options p lines rows are

@@ -1,6 +1,6 @@
 -- The pieces of every text stand over their bytes, before its text is read and behind.
-use Rattle.md_engine.specs.declared.tokenizer.open_leaf.OpenLeaf.TheVariants as open_leaf
-use Rattle.md_engine.specs.declared.tokenizer.open_leaf.OpenLeaf.{OpenLeaf}
+use Rattle.md_engine.specs.declared.tokenizer.held_leaf.HeldLeaf.TheVariants as held_leaf
+use Rattle.md_engine.specs.declared.tokenizer.held_leaf.HeldLeaf.{HeldLeaf}
 use Rattle.std.proofs.Common.{◌≡◌, ℕ, Bool, true, false, cond, List, [], ◌∷◌, ◌++◌, slice_range, refl, ap, sym, subst, arith}
 use Rattle.std.specs.Prelude.{Option, Some, None}
 use Rattle.md_engine.specs.declared.configuration.ParseOptions.{ParseOptions}
@@ -79,7 +79,7 @@ line-stands : (options : ParseOptions) (bytes line : List ℕ) (row : Row) (afte
 line-stands options bytes line row after is same ended = record { tail = tail-stood bytes row after same is.end_whole ended }
 
 -- each line of a text is such
-rows-stand : (options : ParseOptions) (bytes : List ℕ) (open_before : List Container) (still : OpenLeaf) (p : Point) (lines : List (List ℕ)) (rows : List Row) →
+rows-stand : (options : ParseOptions) (bytes : List ℕ) (open_before : List Container) (still : HeldLeaf) (p : Point) (lines : List (List ℕ)) (rows : List Row) →
     AreRows options bytes open_before still p lines rows → EachRow (LineStands bytes) rows
 rows-stand options bytes open_before still p (line ∷ []) (row ∷ []) are =
     let is : IsLine options bytes open_before still p line row = are.0 in
@@ -146,16 +146,16 @@ mark-stood bytes = go (has_mark bytes) refl
 
 -- The pieces of a text stand, before its texts are read,
 pub blocks-pieces : (options : ParseOptions) (bytes : List ℕ) (lines : List (List ℕ)) (rows : List Row) →
-    AreRows options bytes [] open_leaf.None (body_point bytes) lines rows →
+    AreRows options bytes [] held_leaf.None (body_point bytes) lines rows →
     pieces_stand bytes (pieces (mark_events bytes ++ listed_groups bytes (groups rows))) ≡ true
 blocks-pieces options bytes lines rows are =
     (stood-append bytes (mark_events bytes) (listed_groups bytes (groups rows)) (mark-stood bytes)
-    (rows-hold bytes (UnreadStood bytes) (unread-by_groups bytes) options (body_point bytes) lines rows are (groups-each (LineStands bytes) rows (rows-stand options bytes [] open_leaf.None (body_point bytes) lines rows are)))).stand
+    (rows-hold bytes (UnreadStood bytes) (unread-by_groups bytes) options (body_point bytes) lines rows are (groups-each (LineStands bytes) rows (rows-stand options bytes [] held_leaf.None (body_point bytes) lines rows are)))).stand
 
 -- and once they are.
 pub events-pieces : (options : ParseOptions) (bytes : List ℕ) (lines : List (List ℕ)) (rows : List Row) →
-    AreRows options bytes [] open_leaf.None (body_point bytes) lines rows →
+    AreRows options bytes [] held_leaf.None (body_point bytes) lines rows →
     pieces_stand bytes (pieces (mark_events bytes ++ groups_events bytes (groups rows))) ≡ true
 events-pieces options bytes lines rows are =
     (stood-append bytes (mark_events bytes) (groups_events bytes (groups rows)) (mark-stood bytes)
-    (rows-hold bytes (GroupsStood bytes) (stood-by_groups bytes) options (body_point bytes) lines rows are (groups-each (LineStands bytes) rows (rows-stand options bytes [] open_leaf.None (body_point bytes) lines rows are)))).stand
+    (rows-hold bytes (GroupsStood bytes) (stood-by_groups bytes) options (body_point bytes) lines rows are (groups-each (LineStands bytes) rows (rows-stand options bytes [] held_leaf.None (body_point bytes) lines rows are)))).stand

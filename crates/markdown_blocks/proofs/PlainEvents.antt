@@ -1,6 +1,6 @@
 -- The events of a text are those that an outline can be made of.
-use Rattle.md_engine.specs.declared.tokenizer.open_leaf.OpenLeaf.TheVariants as open_leaf
-use Rattle.md_engine.specs.declared.tokenizer.open_leaf.OpenLeaf.{OpenLeaf}
+use Rattle.md_engine.specs.declared.tokenizer.held_leaf.HeldLeaf.TheVariants as held_leaf
+use Rattle.md_engine.specs.declared.tokenizer.held_leaf.HeldLeaf.{HeldLeaf}
 use Rattle.md_outline.specs.Roles.{is_plain, is_told}
 use Rattle.md_outline.specs.HeadingDepths.{are_shallow}
 use Rattle.std.proofs.Common.{◌≡◌, ℕ, Bool, true, false, ◌||◌, not, List, [], ◌∷◌, ◌++◌, map, refl, sym, subst}
@@ -118,7 +118,7 @@ plain-by_groups bytes = record {
 -- The rows of a text are such rows.
 
 -- of the containers that a line finds open, an outline shows those that end before it, and those that are open behind it
-line-shown : (options : ParseOptions) (bytes : List ℕ) (open_before : List Container) (still : OpenLeaf) (p : Point) (line : List ℕ) (row : Row) →
+line-shown : (options : ParseOptions) (bytes : List ℕ) (open_before : List Container) (still : HeldLeaf) (p : Point) (line : List ℕ) (row : Row) →
     IsLine options bytes open_before still p line row → AreShown open_before →
     AreShown row.change.closes × AreShown (behind_line options open_before still p line)
 line-shown options bytes open_before still p line row at h =
@@ -128,20 +128,20 @@ line-shown options bytes open_before still p line row at h =
     (subst (λ (x : Change). AreShown x.closes) (sym at.change) parts.1, shown-append c.stays c.opens parts.0 opens)
 
 -- the first line
-first-line : (options : ParseOptions) (bytes : List ℕ) (open_before : List Container) (still : OpenLeaf) (p : Point) (line : List ℕ) (lines : List (List ℕ)) (row : Row) (rows : List Row) →
+first-line : (options : ParseOptions) (bytes : List ℕ) (open_before : List Container) (still : HeldLeaf) (p : Point) (line : List ℕ) (lines : List (List ℕ)) (row : Row) (rows : List Row) →
     AreRows options bytes open_before still p (line ∷ lines) (row ∷ rows) →
     IsLine options bytes open_before still p line row
 first-line options bytes open_before still p line [] row [] h = h.0
 first-line options bytes open_before still p line (next ∷ lines) row (below ∷ rows) h = h.0
 first-line options bytes open_before still p line lines row rows h = absurd h
 
-line-plain : (options : ParseOptions) (bytes : List ℕ) (open_before : List Container) (still : OpenLeaf) (p : Point) (line : List ℕ) (row : Row) →
+line-plain : (options : ParseOptions) (bytes : List ℕ) (open_before : List Container) (still : HeldLeaf) (p : Point) (line : List ℕ) (row : Row) →
     IsLine options bytes open_before still p line row → AreShown row.leaves → IsPlainRow bytes row
 line-plain options bytes open_before still p line row at leaves =
     let rest : List ℕ = rest_line (contained options open_before still (rest_from p line)).rest in
     record { leaves = leaves; first = rest-clear options bytes rest row at.is }
 
-plain-rows : (options : ParseOptions) (bytes : List ℕ) (open_before : List Container) (still : OpenLeaf) (p : Point) (lines : List (List ℕ)) (rows : List Row) →
+plain-rows : (options : ParseOptions) (bytes : List ℕ) (open_before : List Container) (still : HeldLeaf) (p : Point) (lines : List (List ℕ)) (rows : List Row) →
     AreRows options bytes open_before still p lines rows → AreShown open_before → EachRow (IsPlainRow bytes) rows
 plain-rows options bytes open_before still p (line ∷ []) (row ∷ []) h shown =
     let here = line-shown options bytes open_before still p line row h.0 shown in
@@ -170,13 +170,13 @@ all-tell bytes (e ∷ events) h k =
 
 -- the events of a text are outlined, if they nest and stand between its characters, and none is too deep
 pub groups-outlined : (options : ParseOptions) (bytes : List ℕ) (p : Point) (lines : List (List ℕ)) (rows : List Row) →
-    AreRows options bytes [] open_leaf.None p lines rows → IsUtf8 bytes →
+    AreRows options bytes [] held_leaf.None p lines rows → IsUtf8 bytes →
     Balanced (groups_events bytes (groups rows)) →
     list_all (λ (e : Event). is_between bytes e.point.index) (groups_events bytes (groups rows)) ≡ true →
     are_shallow (spelled (groups_events bytes (groups rows)) bytes) ≡ true →
     IsOutlined (groups_events bytes (groups rows)) bytes
 groups-outlined options bytes p lines rows are utf8 balanced between depths =
-    let plain : ArePlain bytes (groups_events bytes (groups rows)) = rows-hold bytes (PlainGroups bytes) (plain-by_groups bytes) options p lines rows are (groups-each (IsPlainRow bytes) rows (plain-rows options bytes [] open_leaf.None p lines rows are tt)) in
+    let plain : ArePlain bytes (groups_events bytes (groups rows)) = rows-hold bytes (PlainGroups bytes) (plain-by_groups bytes) options p lines rows are (groups-each (IsPlainRow bytes) rows (plain-rows options bytes [] held_leaf.None p lines rows are tt)) in
     record {
       balanced = balanced;
       names = plain.names;

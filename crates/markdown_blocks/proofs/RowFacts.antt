@@ -1,5 +1,5 @@
 -- What the lines of a text are, as flow reads them: facts that the lemmas on the tree rest on.
-use Rattle.md_engine.specs.declared.tokenizer.open_leaf.OpenLeaf.{OpenLeaf}
+use Rattle.md_engine.specs.declared.tokenizer.held_leaf.HeldLeaf.{HeldLeaf}
 use Rattle.std.proofs.Common.{◌≡◌, ℕ, ◌+◌, ◌≤◌, Bool, List, [], ◌∷◌, ◌++◌, length, slice_range, ap, ◌∙◌, arith}
 use Rattle.std.specs.Prelude.{Some, None}
 use Rattle.md_engine.specs.declared.configuration.ParseOptions.{ParseOptions}
@@ -53,7 +53,7 @@ line-at options bytes line row is = record {
 
 -- a line from a point on, where these containers are open, and a text or none: what it does to the containers, and its rest as
 -- a row
-pub record IsLine (options : ParseOptions) (bytes : List ℕ) (open_before : List Container) (still : OpenLeaf) (p : Point) (line : List ℕ) (row : Row) : Type 0 where
+pub record IsLine (options : ParseOptions) (bytes : List ℕ) (open_before : List Container) (still : HeldLeaf) (p : Point) (line : List ℕ) (row : Row) : Type 0 where
   pub is : IsRow options bytes (rest_line (contained options open_before still (rest_from p line)).rest) row
   pub rest_is : is.rest ≡ (contained options open_before still (rest_from p line)).rest
   pub front : LinePrefix bytes row.change.opens p row.first row.front
@@ -63,11 +63,11 @@ pub record IsLine (options : ParseOptions) (bytes : List ℕ) (open_before : Lis
   pub column : 1 ≤ p.column
 
 -- which containers are open behind a line
-abbrev pub behind_line : ParseOptions → List Container → OpenLeaf → Point → List ℕ → List Container
+abbrev pub behind_line : ParseOptions → List Container → HeldLeaf → Point → List ℕ → List Container
 behind_line options open_before still p line = open_behind (contained options open_before still (rest_from p line)).change
 
 -- These lines, from this point to the end of the text, where these containers and this leaf are open.
-abbrev pub AreRows : ParseOptions → List ℕ → List Container → OpenLeaf → Point → List (List ℕ) → List Row → Type 0
+abbrev pub AreRows : ParseOptions → List ℕ → List Container → HeldLeaf → Point → List (List ℕ) → List Row → Type 0
 AreRows options bytes open_before still p (line ∷ []) (row ∷ []) =
     (is : IsLine options bytes open_before still p line row) × (leaves : row.leaves ≡ behind_line options open_before still p line) × (last : row.after ≡ None) × (row.end.index ≡ length bytes)
 AreRows options bytes open_before still p (line ∷ next ∷ lines) (row ∷ below ∷ rows) =

@@ -1,6 +1,6 @@
 -- The lines that flow reads are those of the text.
-use Rattle.md_engine.specs.declared.tokenizer.open_leaf.OpenLeaf.TheVariants as open_leaf
-use Rattle.md_engine.specs.declared.tokenizer.open_leaf.OpenLeaf.{OpenLeaf}
+use Rattle.md_engine.specs.declared.tokenizer.held_leaf.HeldLeaf.TheVariants as held_leaf
+use Rattle.md_engine.specs.declared.tokenizer.held_leaf.HeldLeaf.{HeldLeaf}
 use Rattle.std.proofs.Common.{◌≡◌, ℕ, zero, suc, ◌+◌, ◌^◌, ◌<◌, ◌≤◌, Bool, true, false, List, [], ◌∷◌, ◌++◌, length, drop, refl, sym, ap, ◌∙◌, subst, arith, append-nil, append_assoc, inl, inr, ◌⊎◌}
 use Rattle.std.specs.Prelude.{◌==◌, Some}
 use Rattle.std.proofs.lemmas.Bool.{eqb-true, or_from}
@@ -120,21 +120,21 @@ pub record HasLines (x : Setting) (p : Point) : Type 0 where
 -- A line, and what is left behind it.
 
 -- the rows of a text whose first line has these containers
-rows-last : (options : ParseOptions) (h : Held) (further : List Container → OpenLeaf → List Cell → Point → List Row) → from_ending h.cells ≡ [] → rows_by options h further ≡ row_of options h [] ∷ []
+rows-last : (options : ParseOptions) (h : Held) (further : List Container → HeldLeaf → List Cell → Point → List Row) → from_ending h.cells ≡ [] → rows_by options h further ≡ row_of options h [] ∷ []
 rows-last options h further e = ap (λ (l : List Cell). onto_rows options h (elim l [ [] ↦ [] | c ∷ cs ↦ further (open_behind h.change) (leaf_behind (row_kind options h.cells)) cs c.after ])) e
 
-rows-next : (options : ParseOptions) (h : Held) (further : List Container → OpenLeaf → List Cell → Point → List Row) (c : Cell) (cs : List Cell) → from_ending h.cells ≡ c ∷ cs → rows_by options h further ≡ onto_rows options h (further (open_behind h.change) (leaf_behind (row_kind options h.cells)) cs c.after)
+rows-next : (options : ParseOptions) (h : Held) (further : List Container → HeldLeaf → List Cell → Point → List Row) (c : Cell) (cs : List Cell) → from_ending h.cells ≡ c ∷ cs → rows_by options h further ≡ onto_rows options h (further (open_behind h.change) (leaf_behind (row_kind options h.cells)) cs c.after)
 rows-next options h further c cs e = ap (λ (l : List Cell). onto_rows options h (elim l [ [] ↦ [] | c ∷ cs ↦ further (open_behind h.change) (leaf_behind (row_kind options h.cells)) cs c.after ])) e
 
 -- a line with its containers
-record HasRow (options : ParseOptions) (bytes : List ℕ) (open_before : List Container) (still : OpenLeaf) (p : Point) (line : List ℕ) (stop : List Cell) (h : Held) : Type 0 where
+record HasRow (options : ParseOptions) (bytes : List ℕ) (open_before : List Container) (still : HeldLeaf) (p : Point) (line : List ℕ) (stop : List Cell) (h : Held) : Type 0 where
   is : (below : List Row) → IsLine options bytes open_before still p line (row_of options h below)
   open_is : open_behind h.change ≡ behind_line options open_before still p line
   read : AreRead (open_behind h.change)
   end : line_end h.cells h.point ≡ past_text line p
   stops : from_ending h.cells ≡ stop
 
-has-row : (options : ParseOptions) (bytes behind : List ℕ) (said : Line) (open_before : List Container) (still : OpenLeaf) (line : List ℕ) (p : Point) (stop : List Cell) → IsBuilt options → AreRead open_before → length (spread said line p ++ stop) < 2 ^ 63 →
+has-row : (options : ParseOptions) (bytes behind : List ℕ) (said : Line) (open_before : List Container) (still : HeldLeaf) (line : List ℕ) (p : Point) (stop : List Cell) → IsBuilt options → AreRead open_before → length (spread said line p ++ stop) < 2 ^ 63 →
     NoEnding line → Stops stop → p.vs ≡ 0 → 1 ≤ p.column → drop p.index bytes ≡ line ++ behind → HasRow options bytes open_before still p line stop (held_at options open_before still (spread said line p ++ stop) p)
 has-row options bytes behind said open_before still line p stop built read short none k whole one text =
     let r : Rest = rest_from p line in
@@ -155,7 +155,7 @@ has-row options bytes behind said open_before still line p stop built read short
     }
 
 -- one line more
-rows-onto : (options : ParseOptions) (bytes line : List ℕ) (open_before : List Container) (still : OpenLeaf) (row : Row) (p q : Point) (lines : List (List ℕ)) (rows : List Row) → IsLine options bytes open_before still p line row → row.leaves ≡ closes_before (behind_line options open_before still p line) rows →
+rows-onto : (options : ParseOptions) (bytes line : List ℕ) (open_before : List Container) (still : HeldLeaf) (row : Row) (p q : Point) (lines : List (List ℕ)) (rows : List Row) → IsLine options bytes open_before still p line row → row.leaves ≡ closes_before (behind_line options open_before still p line) rows →
     row.after ≡ Some q → IsEnding bytes row.end q → AreRows options bytes (behind_line options open_before still p line) (leaf_behind row.kind) q lines rows → AreRows options bytes open_before still p (line ∷ lines) (row ∷ rows)
 rows-onto options bytes line open_before still row p q [] [] is leaves after ending h = absurd h
 rows-onto options bytes line open_before still row p q [] (below ∷ rows) is leaves after ending h = absurd h
@@ -164,7 +164,7 @@ rows-onto options bytes line open_before still row p q (next ∷ further ∷ lin
 rows-onto options bytes line open_before still row p q (next ∷ lines) (below ∷ rows) is leaves after ending h = (is, leaves, q, after, ending, h)
 
 -- the last line
-last-rows : (options : ParseOptions) (n : ℕ) (bytes : List ℕ) (said : Line) (open_before : List Container) (still : OpenLeaf) (line : List ℕ) (p : Point) (cells : List Cell) → IsBuilt options → AreRead open_before → length cells < 2 ^ 63 →
+last-rows : (options : ParseOptions) (n : ℕ) (bytes : List ℕ) (said : Line) (open_before : List Container) (still : HeldLeaf) (line : List ℕ) (p : Point) (cells : List Cell) → IsBuilt options → AreRead open_before → length cells < 2 ^ 63 →
     NoEnding line → p.index ≤ length bytes → p.vs ≡ 0 → 1 ≤ p.column → drop p.index bytes ≡ line → cells ≡ spread said line p ++ [] →
     AreRows options bytes open_before still p (split_lines (drop p.index bytes)) (rows_at options (suc n) open_before still cells p)
 last-rows options n bytes said open_before still line p cells built read short none index vs one text fed =
@@ -184,9 +184,9 @@ last-rows options n bytes said open_before still line p cells built read short n
     (subst (λ (l : List (List ℕ)). AreRows options bytes open_before still p l (row_of options h [] ∷ [])) (sym split) rows))
 
 -- a line with its ending, before others
-next-rows : (options : ParseOptions) (n : ℕ) (bytes : List ℕ) (said : Line) (open_before : List Container) (still : OpenLeaf) (line : List ℕ) (ending : Ending) (rest : List ℕ) (p q : Point) (cells more : List Cell) → IsBuilt options → AreRead open_before → length cells < 2 ^ 63 →
+next-rows : (options : ParseOptions) (n : ℕ) (bytes : List ℕ) (said : Line) (open_before : List Container) (still : HeldLeaf) (line : List ℕ) (ending : Ending) (rest : List ℕ) (p q : Point) (cells more : List Cell) → IsBuilt options → AreRead open_before → length cells < 2 ^ 63 →
     NoEnding line → EndsBefore ending rest → p.vs ≡ 0 → 1 ≤ p.column → drop p.index bytes ≡ line ++ ending_bytes ending ++ rest → drop q.index bytes ≡ rest → IsEnding bytes (past_text line p) q →
-    cells ≡ spread said line p ++ cell 10 q said ∷ more → ((cs : List Container) (still : OpenLeaf) → AreRead cs → AreRows options bytes cs still q (split_lines (drop q.index bytes)) (rows_at options n cs still more q)) →
+    cells ≡ spread said line p ++ cell 10 q said ∷ more → ((cs : List Container) (still : HeldLeaf) → AreRead cs → AreRows options bytes cs still q (split_lines (drop q.index bytes)) (rows_at options n cs still more q)) →
     AreRows options bytes open_before still p (split_lines (drop p.index bytes)) (rows_at options (suc n) open_before still cells p)
 next-rows options n bytes said open_before still line ending rest p q cells more built read short none before vs one text left is_ending fed further =
     let stop = cell 10 q said ∷ more in
@@ -209,10 +209,10 @@ next-rows options n bytes said open_before still line ending rest p q cells more
     (subst (λ (l : List (List ℕ)). AreRows options bytes open_before still p l (row ∷ below)) (sym split) rows))
 
 -- The rows from the start of a line on are the lines that are left of the text.
-pub rows-are : (options : ParseOptions) (n : ℕ) (x : Setting) (open_before : List Container) (still : OpenLeaf) (p : Point) → IsBuilt options → AreRead open_before → HasLines x p → length (text_feed x p) < n →
+pub rows-are : (options : ParseOptions) (n : ℕ) (x : Setting) (open_before : List Container) (still : HeldLeaf) (p : Point) → IsBuilt options → AreRead open_before → HasLines x p → length (text_feed x p) < n →
     AreRows options x.bytes open_before still p (split_lines (drop p.index x.bytes)) (rows_at options n open_before still (text_feed x p) p)
 rows-are options zero x open_before still p built read h short = absurd (omega arith)
-rows-are options (suc n) x open_before still p built read h short = go (first_line (drop p.index x.bytes)) (λ (q : Point) (k : HasLines x q) (fewer : length (text_feed x q) < n) (cs : List Container) (g : OpenLeaf) (those : AreRead cs). rows-are options n x cs g q built those k fewer)
+rows-are options (suc n) x open_before still p built read h short = go (first_line (drop p.index x.bytes)) (λ (q : Point) (k : HasLines x q) (fewer : length (text_feed x q) < n) (cs : List Container) (g : HeldLeaf) (those : AreRead cs). rows-are options n x cs g q built those k fewer)
   where
     small : x.limit < 2 ^ 61
     small = let limit = h.limit in let size = h.small in omega arith
@@ -221,7 +221,7 @@ rows-are options (suc n) x open_before still p built read h short = go (first_li
     few = (text-follows x x.limit true small (omega arith) (λ e. refl)).short p
 
     go : NoEnding (drop p.index x.bytes) ⊎ HasNext (drop p.index x.bytes) →
-        ((q : Point) → HasLines x q → length (text_feed x q) < n → (cs : List Container) (g : OpenLeaf) → AreRead cs → AreRows options x.bytes cs g q (split_lines (drop q.index x.bytes)) (rows_at options n cs g (text_feed x q) q)) →
+        ((q : Point) → HasLines x q → length (text_feed x q) < n → (cs : List Container) (g : HeldLeaf) → AreRead cs → AreRows options x.bytes cs g q (split_lines (drop q.index x.bytes)) (rows_at options n cs g (text_feed x q) q)) →
         AreRows options x.bytes open_before still p (split_lines (drop p.index x.bytes)) (rows_at options (suc n) open_before still (text_feed x p) p)
     go (inl none) more =
         let line = drop p.index x.bytes in
@@ -254,6 +254,6 @@ rows-are options (suc n) x open_before still p built read h short = go (first_li
 
 -- So are those that a new tokenizer reads to the end of a text.
 pub fresh-rows : (options : ParseOptions) (bytes : List ℕ) (p : Point) → IsBuilt options → length bytes < 2 ^ 61 → p.index ≤ length bytes → p.vs ≡ 0 → 1 ≤ p.column →
-    AreRows options bytes [] open_leaf.None p (split_lines (drop p.index bytes)) (text_rows options bytes p)
-fresh-rows options bytes p built small index whole column = rows-are options (suc (length (text_cells bytes options p))) (text_setting bytes options p) [] open_leaf.None p built tt
+    AreRows options bytes [] held_leaf.None p (split_lines (drop p.index bytes)) (text_rows options bytes p)
+fresh-rows options bytes p built small index whole column = rows-are options (suc (length (text_cells bytes options p))) (text_setting bytes options p) [] held_leaf.None p built tt
     (record { small = small; limit = refl; skips = refl; index = index; whole = whole; column = column }) (omega arith)

@@ -1,7 +1,7 @@
 -- What the events of a text are read as, where only leaves that are built may be on: what its lines do to the containers and the
 -- text that are open.
-use Rattle.md_engine.specs.declared.tokenizer.open_leaf.OpenLeaf.TheVariants as open_leaf
-use Rattle.md_engine.specs.declared.tokenizer.open_leaf.OpenLeaf.{OpenLeaf}
+use Rattle.md_engine.specs.declared.tokenizer.held_leaf.HeldLeaf.TheVariants as held_leaf
+use Rattle.md_engine.specs.declared.tokenizer.held_leaf.HeldLeaf.{HeldLeaf}
 use Rattle.std.proofs.Common.{◌≡◌, ◌≢◌, ℕ, zero, suc, ◌+◌, ◌-◌, Bool, true, false, cond, ◌&&◌, List, [], ◌∷◌, ◌++◌, length, map, take, refl, ap, ap₂, sym, ◌∙◌, subst, append_assoc, take_all, inl, inr, ◌⊎◌, arith}
 use Rattle.std.specs.Prelude.{Option, Some, None}
 use Rattle.md_engine.specs.declared.configuration.ParseOptions.{ParseOptions}
@@ -363,7 +363,7 @@ other-kind (LeafRow l) other = refl
 other-kind TextRow other = absurd (other refl)
 
 -- what a line is, by what is left of it behind its containers
-line-is : (options : ParseOptions) (bytes : List ℕ) (cs : List Container) (still : OpenLeaf) (p : Point) (line : List ℕ) (row : Row) →
+line-is : (options : ParseOptions) (bytes : List ℕ) (cs : List Container) (still : HeldLeaf) (p : Point) (line : List ℕ) (row : Row) →
     f.IsLine options bytes cs still p line row → row.kind ≡ line_kind options (contained options cs still (rest_from p line)).rest
 line-is options bytes cs still p line row is = is.is.kind ∙ ap (λ (r : Rest). line_kind options r) is.rest_is
 
@@ -492,17 +492,17 @@ pub rests-behind : (p : Point) (lines : List (List ℕ)) → p.column ≡ 1 → 
 rests-behind p [] e = refl
 rests-behind p (line ∷ lines) e = let first : p.column - 1 ≡ 0 = omega arith in ap (λ (k : ℕ). rest_at k line ∷ map (rest_at 0) lines) first
 
-abbrev First : ParseOptions → List ℕ → List Container → OpenLeaf → Point → List (List ℕ) → List Row → Type 0
+abbrev First : ParseOptions → List ℕ → List Container → HeldLeaf → Point → List (List ℕ) → List Row → Type 0
 First options bytes cs still p (line ∷ lines) (row ∷ rows) = f.IsLine options bytes cs still p line row
 First options bytes cs still p _ _ = ⊥
 
-first-line : (options : ParseOptions) (bytes : List ℕ) (cs : List Container) (still : OpenLeaf) (p : Point) (lines : List (List ℕ)) (rows : List Row) → f.AreRows options bytes cs still p lines rows → First options bytes cs still p lines rows
+first-line : (options : ParseOptions) (bytes : List ℕ) (cs : List Container) (still : HeldLeaf) (p : Point) (lines : List (List ℕ)) (rows : List Row) → f.AreRows options bytes cs still p lines rows → First options bytes cs still p lines rows
 first-line options bytes cs still p (line ∷ []) (row ∷ []) are = are.0
 first-line options bytes cs still p (line ∷ next ∷ lines) (row ∷ below ∷ rows) are = are.0
 first-line options bytes cs still p lines rows are = absurd are
 
 -- where a line of text follows that goes on no text, a new one begins
-not-joined : (row below : Row) (gs : List Group) → is_lazy open_leaf.Text below.change.opens below.kind ≡ false → onto_groups row TextRow (onto_groups below below.kind gs) ≡ Lines row [] ∷ onto_groups below below.kind gs
+not-joined : (row below : Row) (gs : List Group) → is_lazy held_leaf.Text below.change.opens below.kind ≡ false → onto_groups row TextRow (onto_groups below below.kind gs) ≡ Lines row [] ∷ onto_groups below below.kind gs
 not-joined row below gs lazy = go below.kind lazy
   where
     by : (rows : List Row) (more : List Group) → is_none below.change.opens ≡ false → onto_lines row below rows more ≡ Lines row [] ∷ Lines below rows ∷ more
@@ -525,7 +525,7 @@ not-joined row below gs lazy = go below.kind lazy
         join true = by (next ∷ rows) more e
         join false = by [] (Lines next rows ∷ more) e
 
-    go : (kind : RowKind) → is_lazy open_leaf.Text below.change.opens kind ≡ false → onto_groups row TextRow (onto_groups below kind gs) ≡ Lines row [] ∷ onto_groups below kind gs
+    go : (kind : RowKind) → is_lazy held_leaf.Text below.change.opens kind ≡ false → onto_groups row TextRow (onto_groups below kind gs) ≡ Lines row [] ∷ onto_groups below kind gs
     go BlankRow e = refl
     go (LeafRow l) e = refl
     go TextRow e = onto gs (opens (is_none below.change.opens) e)
@@ -541,7 +541,7 @@ follows-below options bytes p row below gs q line last built plain still leaves 
     ap (is_lazy (still_of p) c.change.opens) (sym kind_is) ∙ ap (λ (x : Change). is_lazy (still_of p) x.opens below.kind) (sym is.change) ∙ lazy in
     let none : below.change.opens ≡ [] = lazy-opens (still_of p) below.change.opens below.kind lazy in
     inr (record {
-      text = lazy-row row.kind below.change.opens below.kind (ap (λ (x : OpenLeaf). is_lazy x below.change.opens below.kind) (sym still) ∙ lazy);
+      text = lazy-row row.kind below.change.opens below.kind (ap (λ (x : HeldLeaf). is_lazy x below.change.opens below.kind) (sym still) ∙ lazy);
       next = below;
       starts = means;
       leaves = leaves ∙ ap (λ (x : Change). x.closes) is.change ∙ contained-lazy options p (rest_from q line) goes;
@@ -556,7 +556,7 @@ follows-below options bytes p row below gs q line last built plain still leaves 
     lazy-row (LeafRow l) opens kind e = cc
     lazy-row TextRow opens kind e = refl
 follows-below options bytes p row below gs q line last built plain still leaves ending is false lazy means = inl (record {
-  apart = λ text. not-joined row below gs (ap (λ (x : OpenLeaf). is_lazy x below.change.opens below.kind) (sym (still ∙ ap leaf_behind text)) ∙ lazy);
+  apart = λ text. not-joined row below gs (ap (λ (x : HeldLeaf). is_lazy x below.change.opens below.kind) (sym (still ∙ ap leaf_behind text)) ∙ lazy);
   reads = ap (λ (cs : List Container). read bytes (close_containers (length cs) (reading options p)) (groups_events bytes (onto_groups below below.kind gs))) leaves ∙ means;
 })
 
@@ -575,7 +575,7 @@ rows-below options bytes a p line next lines row below rows built plain are =
     let containers : containers_of b ≡ f.behind_line options (containers_of a) (still_of a) p line = containers-step options a r built plain in
     let still : still_of b ≡ leaf_behind row.kind = still-line options bytes a p line row built plain are.0 in
     subst (λ (cs : List Container). f.AreRows options bytes cs (still_of b) are.2 (next ∷ lines) (below ∷ rows)) (sym containers)
-    (subst (λ (g : OpenLeaf). f.AreRows options bytes (f.behind_line options (containers_of a) (still_of a) p line) g are.2 (next ∷ lines) (below ∷ rows)) (sym still) are.5)
+    (subst (λ (g : HeldLeaf). f.AreRows options bytes (f.behind_line options (containers_of a) (still_of a) p line) g are.2 (next ∷ lines) (below ∷ rows)) (sym still) are.5)
 
 -- what so many lines, and one more, come to, but for the containers that end behind them
 abbrev Came : ParseOptions → List ℕ → Path → ℕ → List Rest → List Row → Type 0
@@ -614,10 +614,10 @@ all-leave options bytes a p (line ∷ next ∷ lines) (row ∷ below ∷ rows) b
 all-leave options bytes a p lines rows built plain are = absurd are
 
 -- The events of a text, up to any of its lines, are read as what these lines come to, but for the containers that end behind them.
-pub lines-read : (options : ParseOptions) (bytes : List ℕ) (p : Point) (n : ℕ) (lines : List (List ℕ)) (rows : List Row) → IsBuilt options → f.AreRows options bytes [] open_leaf.None p lines rows →
+pub lines-read : (options : ParseOptions) (bytes : List ℕ) (p : Point) (n : ℕ) (lines : List (List ℕ)) (rows : List Row) → IsBuilt options → f.AreRows options bytes [] held_leaf.None p lines rows →
     read bytes unread (groups_events bytes (groups (take n rows))) ≡ close_containers (length (last_leaves (take n rows))) (reading options (steps options (At (spot_of End)) (take n (rests_from p lines))))
 lines-read options bytes p zero lines rows built are = refl
-lines-read options bytes p (suc n) lines rows built are = go lines rows (first-line options bytes [] open_leaf.None p lines rows are) (rows-mean options bytes (At (spot_of End)) p n lines rows built tt are)
+lines-read options bytes p (suc n) lines rows built are = go lines rows (first-line options bytes [] held_leaf.None p lines rows are) (rows-mean options bytes (At (spot_of End)) p n lines rows built tt are)
   where
     -- no container ends in front of the first line
     none : (stays closes : List Container) → map shape_of (stays ++ closes) ≡ [] → closes ≡ []
@@ -625,17 +625,17 @@ lines-read options bytes p (suc n) lines rows built are = go lines rows (first-l
     none [] (c ∷ closes) e = cc
     none (c ∷ stays) closes e = cc
 
-    go : (ls : List (List ℕ)) (rs : List Row) → First options bytes [] open_leaf.None p ls rs → Came options bytes (At (spot_of End)) n (rests_from p lines) rs →
+    go : (ls : List (List ℕ)) (rs : List Row) → First options bytes [] held_leaf.None p ls rs → Came options bytes (At (spot_of End)) n (rests_from p lines) rs →
         read bytes unread (groups_events bytes (groups (take (suc n) rs))) ≡ close_containers (length (last_leaves (take (suc n) rs))) (reading options (steps options (At (spot_of End)) (take (suc n) (rests_from p lines))))
     go (line ∷ ls) (row ∷ rs) is means =
         let c : Contained = contained_at options (At (spot_of End)) (rest_from p line) in
-        let first : row.change.closes ≡ [] = ap (λ (x : Change). x.closes) is.change ∙ none c.change.stays c.change.closes (contained-shapes options [] open_leaf.None (rest_from p line)) in
+        let first : row.change.closes ≡ [] = ap (λ (x : Change). x.closes) is.change ∙ none c.change.stays c.change.closes (contained-shapes options [] held_leaf.None (rest_from p line)) in
         ap (λ (cs : List Container). read bytes (close_containers (length cs) unread) (groups_events bytes (groups (row ∷ take n rs)))) (sym first) ∙ means
     go [] rs is means = absurd is
     go (line ∷ ls) [] is means = absurd is
 
 -- The events of a text are read as what its lines come to, with all of it closed.
-rows-final : (options : ParseOptions) (bytes : List ℕ) (p : Point) (lines : List (List ℕ)) (rows : List Row) → IsBuilt options → f.AreRows options bytes [] open_leaf.None p lines rows →
+rows-final : (options : ParseOptions) (bytes : List ℕ) (p : Point) (lines : List (List ℕ)) (rows : List Row) → IsBuilt options → f.AreRows options bytes [] held_leaf.None p lines rows →
     read bytes unread (groups_events bytes (groups rows)) ≡ final options (steps options (At (spot_of End)) (rests_from p lines))
 rows-final options bytes p lines rows built are =
     let rests : List Rest = rests_from p lines in
@@ -648,7 +648,7 @@ rows-final options bytes p lines rows built are =
     ∙ close_containers-all options [] (steps options start rests)
 
 -- So they spell it.
-pub spelled-rows : (options : ParseOptions) (bytes : List ℕ) (p : Point) (lines : List (List ℕ)) (rows : List Row) → IsBuilt options → f.AreRows options bytes [] open_leaf.None p lines rows →
+pub spelled-rows : (options : ParseOptions) (bytes : List ℕ) (p : Point) (lines : List (List ℕ)) (rows : List Row) → IsBuilt options → f.AreRows options bytes [] held_leaf.None p lines rows →
     spelled (groups_events bytes (groups rows)) bytes ≡ closed options (steps options (At (spot_of End)) (rests_from p lines))
 unfolding spelled
 spelled-rows options bytes p lines rows built are = ap (λ (r : Reading). r.here) (rows-final options bytes p lines rows built are)

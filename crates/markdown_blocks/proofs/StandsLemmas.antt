@@ -1,6 +1,6 @@
 -- Whenever flow has fed a line of a text, the flags that it holds and what was read stand for what the lines so far come to.
-use Rattle.md_engine.specs.declared.tokenizer.open_leaf.OpenLeaf.{OpenLeaf}
-use Rattle.md_engine.specs.declared.tokenizer.open_leaf.OpenLeaf.TheVariants as open_leaf
+use Rattle.md_engine.specs.declared.tokenizer.held_leaf.HeldLeaf.{HeldLeaf}
+use Rattle.md_engine.specs.declared.tokenizer.held_leaf.HeldLeaf.TheVariants as held_leaf
 use Rattle.std.proofs.Common.{◌≡◌, ℕ, zero, suc, ◌^◌, ◌<◌, ◌≤◌, Bool, true, false, List, [], ◌∷◌, length, take, drop, refl, ap, sym, ◌∙◌, subst}
 use Rattle.md_engine.specs.declared.configuration.ParseOptions.{ParseOptions}
 use Rattle.md_engine.specs.declared.event.Point.{Point}
@@ -33,7 +33,7 @@ use Rattle.markdown_blocks.proofs.SpelledRows.{still-line, lines-read, rests-beh
 -- Lines, one after another.
 
 -- a path is open as these lines leave it, where these containers were open before them, and a text or none
-abbrev IsLeft : List Container → OpenLeaf → Path → List Row → Type 0
+abbrev IsLeft : List Container → HeldLeaf → Path → List Row → Type 0
 IsLeft cs still p rows = (containers_of p ≡ open_after cs rows) × (still_of p ≡ leaf_after still rows)
 
 step-left : (options : ParseOptions) (bytes : List ℕ) (a : Path) (p : Point) (line : List ℕ) (row : Row) → IsBuilt options → IsPlain a → f.IsLine options bytes (containers_of a) (still_of a) p line row →
@@ -55,13 +55,13 @@ steps-left options bytes a p (suc n) (line ∷ next ∷ lines) (row ∷ below �
     let more = steps-left options bytes b q n (next ∷ lines) (below ∷ rows) built (plain-step options a r built plain) (rows-below options bytes a p line next lines row below rows built plain are) in
     let to : List Rest → Path = λ rests. steps options b (take n rests) in (
       sym (ap (λ (rests : List Rest). containers_of (to rests)) (rests-behind q (next ∷ lines) are.4.column)) ∙ more.0 ∙ ap (λ (cs : List Container). open_after cs (take n (below ∷ rows))) first.0,
-      sym (ap (λ (rests : List Rest). still_of (to rests)) (rests-behind q (next ∷ lines) are.4.column)) ∙ more.1 ∙ ap (λ (x : OpenLeaf). leaf_after x (take n (below ∷ rows))) first.1,
+      sym (ap (λ (rests : List Rest). still_of (to rests)) (rests-behind q (next ∷ lines) are.4.column)) ∙ more.1 ∙ ap (λ (x : HeldLeaf). leaf_after x (take n (below ∷ rows))) first.1,
     )
 steps-left options bytes a p (suc n) lines rows built plain are = absurd are
 
 -- What was read of so many lines of a text, but for the containers that end behind them, stands for what they come to: where the
 -- flags hold the containers of this path, and whether text is open.
-pub flags-stand : (options : ParseOptions) (bytes : List ℕ) (p : Point) (n : ℕ) (lines : List (List ℕ)) (rows : List Row) (g : Flags) → IsBuilt options → f.AreRows options bytes [] open_leaf.None p lines rows →
+pub flags-stand : (options : ParseOptions) (bytes : List ℕ) (p : Point) (n : ℕ) (lines : List (List ℕ)) (rows : List Row) (g : Flags) → IsBuilt options → f.AreRows options bytes [] held_leaf.None p lines rows →
     let path : Path = steps options (At (spot_of End)) (take n (rests_from p lines)) in
     AreOpen g.containers (containers_of path) → g.leaf ≡ still_of path →
     (r : Reading) × StandsFor options g r path × (read bytes unread (groups_events bytes (groups (take n rows))) ≡ close_containers (length (last_leaves (take n rows))) r)
@@ -75,7 +75,7 @@ pub stands-behind : (bytes : List ℕ) (options : ParseOptions) (p : Point) (n :
 stands-behind bytes options p n w built small index whole column is =
     let lines : List (List ℕ) = split_lines (drop p.index bytes) in
     let rows : List Row = text_rows options bytes p in
-    let are : f.AreRows options bytes [] open_leaf.None p lines rows = fresh-rows options bytes p built small index whole column in
+    let are : f.AreRows options bytes [] held_leaf.None p lines rows = fresh-rows options bytes p built small index whole column in
     let left = steps-left options bytes (At (spot_of End)) p n lines rows built tt are in
     let all = flags-stand options bytes p n lines rows w.flags built are (subst (AreOpen w.flags.containers) (sym left.0) is.containers) (is.leaf ∙ sym left.1) in
     record { frames = is.frames; further = is.further; point = is.point; events = is.events; reading = all.0; reads = all.2; stands = all.1 }

@@ -6,7 +6,7 @@ use Rattle.md_content.specs.ContentReads.{content_events}
 use Rattle.md_seam.specs.declared.inline.Chunk.{Chunk}
 use Rattle.md_seam.specs.Standard.State.{Kept, Leaf, NoLeaf, texts, then_leaf}
 use Rattle.md_seam.specs.Standard.Tree.{Blocks}
-use Rattle.markdown_blocks.specs.OpenLeaf.{IsBuiltLeaf}
+use Rattle.markdown_blocks.specs.HeldLeaf.{IsBuiltLeaf}
 use Rattle.markdown_blocks.specs.TextLeaf.{TextLeaf}
 use Rattle.markdown_blocks.proofs.OutsideFacts.{AreOutside}
 use Rattle.markdown_blocks.proofs.SimpleBlocks.{AreSimple}

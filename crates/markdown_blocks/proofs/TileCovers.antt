@@ -1,6 +1,6 @@
 -- The innermost pairs of the events of a text lie side by side, from its first byte to its last, before its texts are read.
-use Rattle.md_engine.specs.declared.tokenizer.open_leaf.OpenLeaf.TheVariants as open_leaf
-use Rattle.md_engine.specs.declared.tokenizer.open_leaf.OpenLeaf.{OpenLeaf}
+use Rattle.md_engine.specs.declared.tokenizer.held_leaf.HeldLeaf.TheVariants as held_leaf
+use Rattle.md_engine.specs.declared.tokenizer.held_leaf.HeldLeaf.{HeldLeaf}
 use Rattle.std.proofs.Common.{◌≡◌, ◌≢◌, ℕ, Bool, true, false, cond, List, [], ◌∷◌, ◌++◌, length, refl, sym, subst}
 use Rattle.std.specs.Prelude.{Option, Some, None}
 use Rattle.std.proofs.lemmas.Bool.{and_from, eq-eqb}
@@ -96,7 +96,7 @@ onto-laid bytes row p end (Lines next rows ∷ gs) front c more TextRow e = join
     joins false = (front, chunk-tiled row.first row.end, more)
 
 -- The groups of the lines of a text.
-groups-laid : (options : ParseOptions) (bytes : List ℕ) (open_before : List Container) (still : OpenLeaf) (p : Point) (lines : List (List ℕ)) (rows : List Row) → AreRows options bytes open_before still p lines rows → Laid bytes p (end_point bytes) (groups rows)
+groups-laid : (options : ParseOptions) (bytes : List ℕ) (open_before : List Container) (still : HeldLeaf) (p : Point) (lines : List (List ℕ)) (rows : List Row) → AreRows options bytes open_before still p lines rows → Laid bytes p (end_point bytes) (groups rows)
 groups-laid options bytes open_before still p (line ∷ []) (row ∷ []) are =
     let is : IsLine options bytes open_before still p line row = are.0 in
     let at_end : same_place row.end (end_point bytes) ≡ true = and_from _ _ (eq-eqb row.end.index (length bytes) are.3) (eq-eqb row.end.vs 0 is.is.end_whole) in
@@ -128,8 +128,8 @@ mark-tiled bytes = go (has_mark bytes)
     go true = tiled-pair n.ByteOrderMark first_point mark_end
     go false = tiled-none first_point first_point refl
 
-pub blocks-cover : (options : ParseOptions) (bytes : List ℕ) (lines : List (List ℕ)) (rows : List Row) → AreRows options bytes [] open_leaf.None (body_point bytes) lines rows →
+pub blocks-cover : (options : ParseOptions) (bytes : List ℕ) (lines : List (List ℕ)) (rows : List Row) → AreRows options bytes [] held_leaf.None (body_point bytes) lines rows →
     Covers first_point (pieces (mark_events bytes ++ listed_groups bytes (groups rows))) (end_point bytes)
 blocks-cover options bytes lines rows are =
     (follows-append first_point (body_point bytes) (end_point bytes) (mark_events bytes) (listed_groups bytes (groups rows)) (follows-tiled first_point (body_point bytes) (mark_events bytes) (mark-tiled bytes))
-    (laid-covers bytes (body_point bytes) (end_point bytes) (groups rows) (groups-laid options bytes [] open_leaf.None (body_point bytes) lines rows are))).covers
+    (laid-covers bytes (body_point bytes) (end_point bytes) (groups rows) (groups-laid options bytes [] held_leaf.None (body_point bytes) lines rows are))).covers

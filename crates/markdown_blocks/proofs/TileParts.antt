@@ -1,6 +1,6 @@
 -- The text parts of a text, before they are read, stand as its tiling asks: one chunk a line, and no chunk elsewhere.
-use Rattle.md_engine.specs.declared.tokenizer.open_leaf.OpenLeaf.TheVariants as open_leaf
-use Rattle.md_engine.specs.declared.tokenizer.open_leaf.OpenLeaf.{OpenLeaf}
+use Rattle.md_engine.specs.declared.tokenizer.held_leaf.HeldLeaf.TheVariants as held_leaf
+use Rattle.md_engine.specs.declared.tokenizer.held_leaf.HeldLeaf.{HeldLeaf}
 use Rattle.std.proofs.Common.{◌≡◌, ℕ, Bool, true, false, cond, List, [], ◌∷◌, ◌++◌, refl, ap, sym, ◌∙◌, append-nil}
 use Rattle.std.specs.Prelude.{Option, Some, None}
 use Rattle.md_engine.specs.declared.configuration.ParseOptions.{ParseOptions}
@@ -58,7 +58,7 @@ stands-groups options bytes (group ∷ gs) are =
     (stands-line bytes (ending_of (group_kind group)) (first_row group) (final_row group) (group_unread bytes group) (ending-no_part (group_kind group)) (group-front options bytes group gs are) (group-leaf options bytes group gs are).1.parts)
     (stands-groups options bytes gs (more-groups options bytes group gs are))
 
-rows-stand : (options : ParseOptions) (bytes : List ℕ) (cs : List Container) (still : OpenLeaf) (p : Point) (lines : List (List ℕ)) (rows : List Row) → AreRows options bytes cs still p lines rows → EachNoContent rows → Stands bytes (listed_groups bytes (groups rows))
+rows-stand : (options : ParseOptions) (bytes : List ℕ) (cs : List Container) (still : HeldLeaf) (p : Point) (lines : List (List ℕ)) (rows : List Row) → AreRows options bytes cs still p lines rows → EachNoContent rows → Stands bytes (listed_groups bytes (groups rows))
 rows-stand options bytes cs still p lines rows are quiet = stands-groups options bytes (groups rows) (groups-are options bytes cs still p lines rows are quiet)
 
 -- The text parts of a text.
@@ -76,14 +76,14 @@ stands-mark bytes = go (has_mark bytes)
     go true = stands-outside bytes (pair n.ByteOrderMark first_point mark_end) (refl, (refl, tt)) (refl, (refl, tt))
     go false = stands-outside bytes [] tt tt
 
-blocks-both : (options : ParseOptions) (bytes : List ℕ) (cs : List Container) (still : OpenLeaf) (p : Point) (lines : List (List ℕ)) (rows : List Row) → AreRows options bytes cs still p lines rows → EachNoContent rows → Stands bytes (mark_events bytes ++ listed_groups bytes (groups rows))
+blocks-both : (options : ParseOptions) (bytes : List ℕ) (cs : List Container) (still : HeldLeaf) (p : Point) (lines : List (List ℕ)) (rows : List Row) → AreRows options bytes cs still p lines rows → EachNoContent rows → Stands bytes (mark_events bytes ++ listed_groups bytes (groups rows))
 blocks-both options bytes cs still p lines rows are quiet = stands-append bytes (mark_events bytes) (listed_groups bytes (groups rows)) (stands-mark bytes) (rows-stand options bytes cs still p lines rows are quiet)
 
-pub blocks-stand : (options : ParseOptions) (bytes : List ℕ) (cs : List Container) (still : OpenLeaf) (p : Point) (lines : List (List ℕ)) (rows : List Row) → AreRows options bytes cs still p lines rows → EachNoContent rows →
+pub blocks-stand : (options : ParseOptions) (bytes : List ℕ) (cs : List Container) (still : HeldLeaf) (p : Point) (lines : List (List ℕ)) (rows : List Row) → AreRows options bytes cs still p lines rows → EachNoContent rows →
     parts_stand bytes (mark_events bytes ++ listed_groups bytes (groups rows)) ≡ true
 blocks-stand options bytes cs still p lines rows are quiet = all-stand bytes (mark_events bytes ++ listed_groups bytes (groups rows)) (blocks-both options bytes cs still p lines rows are quiet)
 
-pub blocks-chunks : (options : ParseOptions) (bytes : List ℕ) (cs : List Container) (still : OpenLeaf) (p : Point) (lines : List (List ℕ)) (rows : List Row) → AreRows options bytes cs still p lines rows → EachNoContent rows →
+pub blocks-chunks : (options : ParseOptions) (bytes : List ℕ) (cs : List Container) (still : HeldLeaf) (p : Point) (lines : List (List ℕ)) (rows : List Row) → AreRows options bytes cs still p lines rows → EachNoContent rows →
     chunks_stand 0 (mark_events bytes ++ listed_groups bytes (groups rows)) ≡ true
 blocks-chunks options bytes cs still p lines rows are quiet = all-chunks bytes (mark_events bytes ++ listed_groups bytes (groups rows)) (blocks-both options bytes cs still p lines rows are quiet)
 
@@ -99,10 +99,10 @@ listed-by_groups bytes = record {
   group = λ names kept p group gs o keeps on. under-group bytes names kept p group (group_unread bytes group) (listed_groups bytes gs) o keeps o.leaf.1.unread_nested on;
 }
 
-listed-nest : (options : ParseOptions) (bytes : List ℕ) (p : Point) (lines : List (List ℕ)) (rows : List Row) → AreRows options bytes [] open_leaf.None p lines rows → Onward p (listed_groups bytes (groups rows))
+listed-nest : (options : ParseOptions) (bytes : List ℕ) (p : Point) (lines : List (List ℕ)) (rows : List Row) → AreRows options bytes [] held_leaf.None p lines rows → Onward p (listed_groups bytes (groups rows))
 listed-nest options bytes p lines rows are = under-none p (listed_groups bytes (groups rows)) (rows-hold bytes (Listed bytes) (listed-by_groups bytes) options p lines rows are)
 
-pub blocks-nested : (options : ParseOptions) (bytes : List ℕ) (lines : List (List ℕ)) (rows : List Row) → AreRows options bytes [] open_leaf.None (body_point bytes) lines rows → Nested (mark_events bytes ++ listed_groups bytes (groups rows))
+pub blocks-nested : (options : ParseOptions) (bytes : List ℕ) (lines : List (List ℕ)) (rows : List Row) → AreRows options bytes [] held_leaf.None (body_point bytes) lines rows → Nested (mark_events bytes ++ listed_groups bytes (groups rows))
 blocks-nested options bytes lines rows are =
     let nests : Onward (body_point bytes) (listed_groups bytes (groups rows)) = listed-nest options bytes (body_point bytes) lines rows are in
     mark-nested bytes (listed_groups bytes (groups rows)) nests.balanced nests.forward

@@ -1,6 +1,6 @@
 -- The events of a text are its block list, with what the plain layer reads in the place of each chunk.
-use Rattle.md_engine.specs.declared.tokenizer.open_leaf.OpenLeaf.TheVariants as open_leaf
-use Rattle.md_engine.specs.declared.tokenizer.open_leaf.OpenLeaf.{OpenLeaf}
+use Rattle.md_engine.specs.declared.tokenizer.held_leaf.HeldLeaf.TheVariants as held_leaf
+use Rattle.md_engine.specs.declared.tokenizer.held_leaf.HeldLeaf.{HeldLeaf}
 use Rattle.std.proofs.Common.{◌≡◌, ℕ, suc, Bool, true, false, cond, List, [], ◌∷◌, ◌++◌, length, refl, ap, sym, ◌∙◌, subst, append-nil}
 use Rattle.std.specs.Prelude.{Option, Some, None}
 use Rattle.md_engine.specs.declared.configuration.ParseOptions.{ParseOptions}
@@ -85,7 +85,7 @@ fill-mark bytes = go (has_mark bytes)
     go false = fill-same bytes [] tt tt
 
 -- The same with a mark in front.
-pub blocks-filled : (options : ParseOptions) (bytes : List ℕ) (open_before : List Container) (still : OpenLeaf) (p : Point) (lines : List (List ℕ)) (rows : List Row) → AreRows options bytes open_before still p lines rows → EachNoContent rows →
+pub blocks-filled : (options : ParseOptions) (bytes : List ℕ) (open_before : List Container) (still : HeldLeaf) (p : Point) (lines : List (List ℕ)) (rows : List Row) → AreRows options bytes open_before still p lines rows → EachNoContent rows →
     IsFilled bytes (mark_events bytes ++ listed_groups bytes (groups rows)) (mark_events bytes ++ groups_events bytes (groups rows))
 blocks-filled options bytes open_before still p lines rows are quiet =
     let mark : List Event = mark_events bytes in
@@ -94,11 +94,11 @@ blocks-filled options bytes open_before still p lines rows are quiet =
     (fill-groups options bytes (groups rows) (groups-are options bytes open_before still p lines rows are quiet)))
 
 -- So it is with the lines that flow reads.
-pub text-filled : (options : ParseOptions) (bytes : List ℕ) (p : Point) (lines : List (List ℕ)) → AreRows options bytes [] open_leaf.None p lines (text_rows options bytes p) →
+pub text-filled : (options : ParseOptions) (bytes : List ℕ) (p : Point) (lines : List (List ℕ)) → AreRows options bytes [] held_leaf.None p lines (text_rows options bytes p) →
     IsFilled bytes (mark_events bytes ++ listed_groups bytes (groups (text_rows options bytes p))) (mark_events bytes ++ groups_events bytes (groups (text_rows options bytes p)))
 text-filled options bytes p lines are =
     let cells : List Cell = text_cells bytes options p in
-    blocks-filled options bytes [] open_leaf.None p lines (text_rows options bytes p) are (rows_at-no_content options (suc (length cells)) [] open_leaf.None cells p)
+    blocks-filled options bytes [] held_leaf.None p lines (text_rows options bytes p) are (rows_at-no_content options (suc (length cells)) [] held_leaf.None cells p)
 
 -- The empty text has no events.
 

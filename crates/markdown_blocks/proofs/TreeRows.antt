@@ -1,6 +1,6 @@
 -- The tree of a text where only constructs that are built may be on is what the events of its lines are read as.
-use Rattle.md_engine.specs.declared.tokenizer.open_leaf.OpenLeaf.TheVariants as open_leaf
-use Rattle.md_engine.specs.declared.tokenizer.open_leaf.OpenLeaf.{OpenLeaf}
+use Rattle.md_engine.specs.declared.tokenizer.held_leaf.HeldLeaf.TheVariants as held_leaf
+use Rattle.md_engine.specs.declared.tokenizer.held_leaf.HeldLeaf.{HeldLeaf}
 use Rattle.std.proofs.Common.{◌≡◌, ℕ, zero, suc, ◌-◌, Bool, true, false, cond, not, ◌==◌, ◌&&◌, ◌||◌, List, [], ◌∷◌, ◌++◌, map, length, drop, refl, ap, sym, ◌∙◌, subst, inl, inr, ◌⊎◌}
 use Rattle.std.specs.Prelude.{Option, Some, None}
 use Rattle.std.specs.List.{onto_first}
@@ -28,7 +28,7 @@ use Rattle.markdown_blocks.specs.Fronted.{Contained, Prefixed, contained, no_pre
 use Rattle.markdown_blocks.specs.Parsed.{IsBuilt}
 use Rattle.markdown_blocks.specs.Registry.{leaf, text_leaf}
 use Rattle.markdown_blocks.specs.Rows.{BlankRow, LeafRow, Row, RowKind, TextRow, groups, groups_events, is_lazy, line_kind}
-use Rattle.markdown_blocks.specs.OpenLeaf.{IsBuiltLeaf, kind_of_leaf}
+use Rattle.markdown_blocks.specs.HeldLeaf.{IsBuiltLeaf, kind_of_leaf}
 use Rattle.markdown_blocks.specs.Stands.{IsPlain, containers_of, still_of}
 use Rattle.markdown_blocks.proofs.ContainedLemmas.{contained-shapes}
 use Rattle.markdown_blocks.proofs.KindLemmas.{kind-starts}
@@ -60,7 +60,7 @@ read-new options interrupting (suc n) r built = go (λ s. read-new options false
     go below (Some t) read = (read, below t.rest)
 
 -- and those that open on it
-read-open : (options : ParseOptions) (cs : List Container) (still : OpenLeaf) (r : Rest) → IsBuilt options → AreRead (contained options cs still r).change.opens
+read-open : (options : ParseOptions) (cs : List Container) (still : HeldLeaf) (r : Rest) → IsBuilt options → AreRead (contained options cs still r).change.opens
 unfolding contained
 read-open options cs still r built = go (is_lazy still new.containers (line_kind options new.rest))
   where
@@ -191,9 +191,9 @@ step-empty options p column built plain read =
     r : Rest
     r = rest_at column []
 
-    go : (x : OpenLeaf) → closed options (cond (is_lazy x [] BlankRow) (longer (renewed (containers_of p) p) (kept r ∷ [])) (At (fresh_line options (closed options p) r))) ≡ closed options (At (fresh_line options (closed options p) r))
-    go open_leaf.Text = refl
-    go open_leaf.None = refl
+    go : (x : HeldLeaf) → closed options (cond (is_lazy x [] BlankRow) (longer (renewed (containers_of p) p) (kept r ∷ [])) (At (fresh_line options (closed options p) r))) ≡ closed options (At (fresh_line options (closed options p) r))
+    go held_leaf.Text = refl
+    go held_leaf.None = refl
 
 steps-append : (options : ParseOptions) (p : Path) (rs ss : List Rest) → steps options p (rs ++ ss) ≡ steps options (steps options p rs) ss
 steps-append options p [] ss = refl
@@ -295,7 +295,7 @@ rests-at p [] = refl
 rests-at p (line ∷ lines) = refl
 
 -- The events of the lines of a text are read as its tree.
-pub tree-rows : (options : ParseOptions) → IsBuilt options → (bytes : List ℕ) (rows : List Row) → f.AreRows options bytes [] open_leaf.None (body_point bytes) (split_lines (drop (body_point bytes).index bytes)) rows →
+pub tree-rows : (options : ParseOptions) → IsBuilt options → (bytes : List ℕ) (rows : List Row) → f.AreRows options bytes [] held_leaf.None (body_point bytes) (split_lines (drop (body_point bytes).index bytes)) rows →
     spelled (groups_events bytes (groups rows)) bytes ≡ tree options bytes
 tree-rows options built bytes rows are =
     let p : Point = body_point bytes in

@@ -1,6 +1,6 @@
 -- What a line does to the containers that are open before it.
-use Rattle.markdown_blocks.specs.OpenLeaf.{is_interrupted}
-use Rattle.md_engine.specs.declared.tokenizer.open_leaf.OpenLeaf.{OpenLeaf}
+use Rattle.markdown_blocks.specs.HeldLeaf.{is_interrupted}
+use Rattle.md_engine.specs.declared.tokenizer.held_leaf.HeldLeaf.{HeldLeaf}
 use Rattle.std.specs.Prelude.{Bool, true, false, ◌&&◌, List, [], ◌∷◌, ◌++◌, length, drop}
 use Rattle.md_engine.specs.declared.event.Event.{Event}
 use Rattle.md_engine.specs.declared.event.Point.{Point}
@@ -35,7 +35,7 @@ is_none [] = true
 is_none (c ∷ cs) = false
 
 -- whether a container that opens would interrupt the open leaf: all containers went on
-abbrev pub interrupts : OpenLeaf → List Container → Bool
+abbrev pub interrupts : HeldLeaf → List Container → Bool
 interrupts still others = is_interrupted still && is_none others
 
 -- the ends of containers at a point, the innermost first

@@ -1,5 +1,5 @@
 -- The containers of a line by its bytes: which go on and open on it, as the line definition says.
-use Rattle.md_engine.specs.declared.tokenizer.open_leaf.OpenLeaf.{OpenLeaf}
+use Rattle.md_engine.specs.declared.tokenizer.held_leaf.HeldLeaf.{HeldLeaf}
 use Rattle.std.specs.Prelude.{ℕ, zero, suc, ◌-◌, Bool, false, List, [], ◌∷◌, ◌++◌, length, Some, None}
 use Rattle.md_engine.specs.declared.configuration.ParseOptions.{ParseOptions}
 use Rattle.md_engine.specs.declared.event.Point.{Point}
@@ -47,13 +47,13 @@ pub record Contained : Type 0 where
 abbrev pub contained_by : List Container → Bool → Prefixed → Prefixed → Contained
 contained_by cs lazy went new = record { change = change_by lazy went.containers (others_of cs went.containers) new.containers; rest = new.rest }
 
-abbrev pub contained_of : ParseOptions → List Container → OpenLeaf → Prefixed → Prefixed → Contained
+abbrev pub contained_of : ParseOptions → List Container → HeldLeaf → Prefixed → Prefixed → Contained
 contained_of options cs still went new = contained_by cs (is_lazy still new.containers (line_kind options new.rest)) went new
 
-abbrev pub contained_behind : ParseOptions → List Container → OpenLeaf → Prefixed → Contained
+abbrev pub contained_behind : ParseOptions → List Container → HeldLeaf → Prefixed → Contained
 contained_behind options cs still went =
     contained_of options cs still went (prefixes_new options (interrupts still (others_of cs went.containers)) (length went.rest.bytes) went.rest)
 
 -- where these containers and this leaf are open before it
-unfoldable pub contained : ParseOptions → List Container → OpenLeaf → Rest → Contained
+unfoldable pub contained : ParseOptions → List Container → HeldLeaf → Rest → Contained
 contained options cs still r = contained_behind options cs still (prefixes_on options cs r)

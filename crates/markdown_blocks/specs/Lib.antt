@@ -5,7 +5,7 @@ pub mod Parsed
 pub mod Resolved
 pub mod FlowRule
 pub mod Change
-pub mod OpenLeaf
+pub mod HeldLeaf
 pub mod MarkRuns
 pub mod Passed
 pub mod ContainerRules

@@ -1,11 +1,11 @@
 -- What the document knows of its containers, and how each step of a line changes it.
-use Rattle.markdown_blocks.specs.OpenLeaf.{takes_lazy}
+use Rattle.markdown_blocks.specs.HeldLeaf.{takes_lazy}
 use Rattle.std.specs.Prelude.{ℕ, suc, Bool, true, false, ◌&&◌, nat_lt, if◌then◌else◌, [], ◌∷◌, ◌++◌, length, slice_get, Option}
 use Rattle.md_engine.specs.declared.event.Name.{Name}
 use Rattle.md_engine.specs.declared.event.Name.TheVariants.{BlankLineEnding, LineEnding}
 use Rattle.md_engine.specs.declared.tokenizer.container.Container.{Container}
 use Rattle.md_engine.specs.declared.tokenizer.container.ContainerKind.{ContainerKind}
-use Rattle.md_engine.specs.declared.tokenizer.open_leaf.OpenLeaf.TheVariants as open_leaf
+use Rattle.md_engine.specs.declared.tokenizer.held_leaf.HeldLeaf.TheVariants as held_leaf
 use Rattle.md_engine.specs.declared.tokenizer.container.name.ContainerKind.{ContainerKind}
 use Rattle.md_engine.specs.World.{Flags}
 
@@ -19,7 +19,7 @@ went_on g = record g { continued = if nat_lt g.continued (length g.containers) t
 
 -- a container of this kind opens, where those that did not go on have ended: no paragraph is open in it
 abbrev pub with_container : ContainerKind → Flags → Flags
-with_container k g = record g { containers = g.containers ++ record { kind = k } ∷ []; continued = length (g.containers ++ record { kind = k } ∷ []); leaf = open_leaf.None }
+with_container k g = record g { containers = g.containers ++ record { kind = k } ∷ []; continued = length (g.containers ++ record { kind = k } ∷ []); leaf = held_leaf.None }
 
 -- behind the containers of a line
 abbrev pub begun_line : Flags → Flags
@@ -27,7 +27,7 @@ begun_line g = record g { leaf_before = g.leaf }
 
 -- behind a blank line no paragraph is open
 abbrev pub blanked : Flags → Flags
-blanked g = record g { leaf = open_leaf.None; blank = true }
+blanked g = record g { leaf = held_leaf.None; blank = true }
 
 -- how many containers are still open behind a line: all of them behind a line of the paragraph that is open (CommonMark 5.1,
 -- "laziness"), and else those that went on

@@ -1,7 +1,7 @@
 -- The lines of a text as they are read, and the events of each.
-use Rattle.markdown_blocks.specs.OpenLeaf.{takes_lazy}
-use Rattle.md_engine.specs.declared.tokenizer.open_leaf.OpenLeaf.TheVariants as open_leaf
-use Rattle.md_engine.specs.declared.tokenizer.open_leaf.OpenLeaf.{OpenLeaf}
+use Rattle.markdown_blocks.specs.HeldLeaf.{takes_lazy}
+use Rattle.md_engine.specs.declared.tokenizer.held_leaf.HeldLeaf.TheVariants as held_leaf
+use Rattle.md_engine.specs.declared.tokenizer.held_leaf.HeldLeaf.{HeldLeaf}
 use Rattle.std.specs.Prelude.{ℕ, zero, suc, Bool, true, false, ◌&&◌, length, if◌then◌else◌, List, [], ◌∷◌, ◌++◌, slice_range, Option, Some, None}
 use Rattle.md_engine.specs.declared.configuration.ParseOptions.{ParseOptions}
 use Rattle.md_engine.specs.declared.event.Event.{Event}
@@ -112,27 +112,27 @@ is_text TextRow = true
 is_text _ = false
 
 -- the leaf that is open behind a line: lines of text are, and a leaf on one line has ended
-abbrev pub leaf_behind : RowKind → OpenLeaf
-leaf_behind BlankRow = open_leaf.None
-leaf_behind (LeafRow l) = open_leaf.None
-leaf_behind TextRow = open_leaf.Text
+abbrev pub leaf_behind : RowKind → HeldLeaf
+leaf_behind BlankRow = held_leaf.None
+leaf_behind (LeafRow l) = held_leaf.None
+leaf_behind TextRow = held_leaf.Text
 
 -- whether a line goes on the open text, whatever containers go on (CommonMark 5.1, "laziness")
-abbrev pub is_lazy : OpenLeaf → List Container → RowKind → Bool
+abbrev pub is_lazy : HeldLeaf → List Container → RowKind → Bool
 is_lazy still opens kind = takes_lazy still && is_none opens && is_text kind
 
 abbrev pub held_by : List Container → Bool → Front → Front → Held
 held_by cs lazy went new = record { change = change_by lazy went.containers (others_of cs went.containers) new.containers; front = went.events ++ new.events; cells = new.cells; point = new.point }
 
-abbrev pub held_of : ParseOptions → List Container → OpenLeaf → Front → Front → Held
+abbrev pub held_of : ParseOptions → List Container → HeldLeaf → Front → Front → Held
 held_of options cs still went new = held_by cs (is_lazy still new.containers (row_kind options new.cells)) went new
 
-abbrev pub held_behind : ParseOptions → List Container → OpenLeaf → Front → Held
+abbrev pub held_behind : ParseOptions → List Container → HeldLeaf → Front → Held
 held_behind options cs still went =
     held_of options cs still went (new_front options (interrupts still (others_of cs went.containers)) (length went.cells) went.cells went.point)
 
 -- where these containers and this leaf are open before it
-unfoldable pub held_at : ParseOptions → List Container → OpenLeaf → List Cell → Point → Held
+unfoldable pub held_at : ParseOptions → List Container → HeldLeaf → List Cell → Point → Held
 held_at options cs still cells p = held_behind options cs still (went_front options cs cells p)
 
 -- The lines.
@@ -158,12 +158,12 @@ abbrev pub onto_rows : ParseOptions → Held → List Row → List Row
 onto_rows options h below = row_of options h below ∷ below
 
 -- the lines behind one, by what reads them
-abbrev pub rows_by : ParseOptions → Held → (List Container → OpenLeaf → List Cell → Point → List Row) → List Row
+abbrev pub rows_by : ParseOptions → Held → (List Container → HeldLeaf → List Cell → Point → List Row) → List Row
 rows_by options h further =
     onto_rows options h (elim (from_ending h.cells) [ [] ↦ [] | c ∷ cs ↦ further (open_behind h.change) (leaf_behind (row_kind options h.cells)) cs c.after ])
 
 -- At most so many lines, where these containers and this leaf are open; behind the last ending stands an empty line.
-abbrev pub rows_at : ParseOptions → ℕ → List Container → OpenLeaf → List Cell → Point → List Row
+abbrev pub rows_at : ParseOptions → ℕ → List Container → HeldLeaf → List Cell → Point → List Row
 rows_at options zero open_before still cells p = []
 rows_at options (suc size) open_before still cells p = rows_by options (held_at options open_before still cells p) (rows_at options size)
 

@@ -4,8 +4,8 @@
 -- as if it ended there. What is still open, and may go on, is told by the flags. What the tokenizer holds of a container is said in `Registry`. Items are
 -- meant as they stand before their resolver puts lists around them. A leaf of several lines (fenced code, HTML, a table) will add
 -- what its scratch holds.
-use Rattle.markdown_blocks.specs.OpenLeaf.{IsBuiltLeaf, MatchesLeaf, kind_of_leaf}
-use Rattle.md_engine.specs.declared.tokenizer.open_leaf.OpenLeaf.{OpenLeaf}
+use Rattle.markdown_blocks.specs.HeldLeaf.{IsBuiltLeaf, MatchesLeaf, kind_of_leaf}
+use Rattle.md_engine.specs.declared.tokenizer.held_leaf.HeldLeaf.{HeldLeaf}
 use Rattle.std.specs.Prelude.{◌≡◌, Bool, List, [], ◌∷◌, None}
 use Rattle.md_engine.specs.declared.configuration.ParseOptions.{ParseOptions}
 use Rattle.md_engine.specs.declared.tokenizer.container.Container.{Container as Held}
@@ -56,7 +56,7 @@ containers_of (At s) = []
 containers_of (Within before container p) = container ∷ containers_of p
 
 -- the kind of the leaf that is still open
-abbrev pub still_of : Path → OpenLeaf
+abbrev pub still_of : Path → HeldLeaf
 still_of p = kind_of_leaf (spot p).leaf
 
 -- Between two lines, this was read, and these flags tell what is open.

@@ -1,5 +1,5 @@
 -- The text that flow reads from a point on: its cells, and its lines.
-use Rattle.md_engine.specs.declared.tokenizer.open_leaf.OpenLeaf.TheVariants as open_leaf
+use Rattle.md_engine.specs.declared.tokenizer.held_leaf.HeldLeaf.TheVariants as held_leaf
 use Rattle.std.specs.Prelude.{ℕ, suc, false, List, [], length}
 use Rattle.md_engine.specs.declared.configuration.ParseOptions.{ParseOptions}
 use Rattle.md_engine.specs.declared.event.Point.{Point}
@@ -18,4 +18,4 @@ text_cells bytes options p = text_feed (text_setting bytes options p) p
 
 -- its lines, as flow reads them
 abbrev pub text_rows : ParseOptions → List ℕ → Point → List Row
-text_rows options bytes p = rows_at options (suc (length (text_cells bytes options p))) [] open_leaf.None (text_cells bytes options p) p
+text_rows options bytes p = rows_at options (suc (length (text_cells bytes options p))) [] held_leaf.None (text_cells bytes options p) p

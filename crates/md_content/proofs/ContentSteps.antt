@@ -10,7 +10,7 @@ use Rattle.md_engine.specs.declared.state.content.State.TheVariants as content
 use Rattle.md_engine.specs.declared.state.paragraph.State.{State as ParagraphState}
 use Rattle.md_engine.specs.declared.state.paragraph.State.TheVariants as paragraph
 use Rattle.md_engine.specs.declared.state.State.TheVariants.{Next}
-use Rattle.md_engine.specs.declared.tokenizer.open_leaf.OpenLeaf.TheVariants as open_leaf
+use Rattle.md_engine.specs.declared.tokenizer.held_leaf.HeldLeaf.TheVariants as held_leaf
 use Rattle.md_engine.specs.Meaning.{Accepts, Behaviour, Cell, Feed, Here, Steps, here}
 use Rattle.md_engine.specs.Run.{reading}
 use Rattle.md_engine.specs.Scheme.{stands}
@@ -36,7 +36,7 @@ chunk_start_steps B feed w has =
     moves B feed _ _ w (chunk_start_transition w).world (enter_link parts.Content w.point content_link ∷ []) refl refl (has.each content.ChunkStart _ _ ∙ sym (has.each content.ChunkInside _ _))
 
 chunk-ends : (feed : Feed) (w : World) (h : Here) (o : Option ℕ) → ends_line o ≡ true →
-    inside_chunk (ahead feed w o) h ≡ Accepts (record h { events = h.events ++ exit parts.Content h.point ∷ []; flags = record h.flags { leaf = open_leaf.Text } }) (ahead feed w o)
+    inside_chunk (ahead feed w o) h ≡ Accepts (record h { events = h.events ++ exit parts.Content h.point ∷ []; flags = record h.flags { leaf = held_leaf.Text } }) (ahead feed w o)
 unfolding inside_chunk
 chunk-ends feed w h None e = refl
 chunk-ends feed w h (Some b) e = rw e refl

@@ -4,7 +4,7 @@ use Rattle.md_engine.specs.declared.event.Name.TheVariants as parts
 use Rattle.md_engine.specs.declared.state.Name.TheVariants as n
 use Rattle.md_engine.specs.declared.state.content.State.{State as ContentState}
 use Rattle.md_engine.specs.declared.state.content.State.TheVariants as its
-use Rattle.md_engine.specs.declared.tokenizer.open_leaf.OpenLeaf.TheVariants as open_leaf
+use Rattle.md_engine.specs.declared.tokenizer.held_leaf.HeldLeaf.TheVariants as held_leaf
 use Rattle.md_engine.specs.Meaning.{Accepts, Behaviour, Cell, Here, Outcome, Refuses}
 use Rattle.md_content.specs.Chunks.{content_link}
 use Rattle.md_seam.specs.Ahead.{from_ending, line_end}
@@ -14,7 +14,7 @@ use Rattle.md_seam.specs.Events.Nested.{enter_link, exit}
 unfoldable pub inside_chunk : List Cell → Here → Outcome
 inside_chunk cells h =
     let p = line_end cells h.point in
-    Accepts (record h { events = h.events ++ exit parts.Content p ∷ []; point = p; flags = record h.flags { leaf = open_leaf.Text } }) (from_ending cells)
+    Accepts (record h { events = h.events ++ exit parts.Content p ∷ []; point = p; flags = record h.flags { leaf = held_leaf.Text } }) (from_ending cells)
 
 -- the whole line
 unfoldable pub chunk_at : List Cell → Here → Outcome

@@ -10,7 +10,7 @@ use Rattle.md_engine.specs.declared.state.Name.TheVariants as n
 use Rattle.md_engine.specs.declared.state.content.State.{State as ContentState}
 use Rattle.md_engine.specs.declared.state.content.State.TheVariants as its
 use Rattle.md_engine.specs.declared.state.State.TheVariants.{Ok, Nok, Next, Retry}
-use Rattle.md_engine.specs.declared.tokenizer.open_leaf.OpenLeaf.TheVariants as open_leaf
+use Rattle.md_engine.specs.declared.tokenizer.held_leaf.HeldLeaf.TheVariants as held_leaf
 use Rattle.md_engine.specs.Scheme.{After, Rank, Scheme, Spot, ranked}
 use Rattle.md_engine.specs.World.{World, registered_before}
 use Rattle.md_seam.specs.Spaces.{ends_line, rest_ready}
@@ -26,7 +26,7 @@ chunk_start_transition w =
 -- by whether the line ends here; `is_name` finds the resolver of content
 abbrev pub chunk_inside_code : (ResolveName → Bool) → World → Bool → Transition
 chunk_inside_code is_name w true =
-    record { to = Ok; world = record (exited w parts.Content) { resolvers = registered_before is_name w.resolvers ContentResolver; flags = record w.flags { leaf = open_leaf.Text } } }
+    record { to = Ok; world = record (exited w parts.Content) { resolvers = registered_before is_name w.resolvers ContentResolver; flags = record w.flags { leaf = held_leaf.Text } } }
 chunk_inside_code is_name w false = record { to = Next (n.Content its.ChunkInside); world = taken w }
 
 -- each state with what it does, where there is memory; those of definitions are not built

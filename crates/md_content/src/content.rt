@@ -36,7 +36,7 @@ use md_engine::state::paragraph::State as ParagraphState;
 use md_engine::state::{Name as StateName, State};
 use md_engine::subtokenize::Subresult;
 use md_engine::table::{Table, flush, push};
-use md_engine::tokenizer::{OpenLeaf, Tokenizer};
+use md_engine::tokenizer::{HeldLeaf, Tokenizer};
 use md_seam::inline::Chunk;
 use md_seam::subtokenize::{Reader, is_prefix, subtokenize};
 use std::alloc::Global;
@@ -76,7 +76,7 @@ pub fn chunk_inside(tokenizer: &mut Tokenizer) -> State
         None | Some(b'\n') => {
             or_error!(tokenizer.exit(Name::Content));
             or_error!(tokenizer.register_resolver_before(ResolveName::Content));
-            tokenizer.flags.leaf = OpenLeaf::Text;
+            tokenizer.flags.leaf = HeldLeaf::Text;
             State::Ok
         }
         _ => {

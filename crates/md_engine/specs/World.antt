@@ -6,8 +6,8 @@ use Rattle.md_engine.specs.declared.event.Point.{Point}
 use Rattle.md_engine.specs.declared.event.Event.{Event}
 use Rattle.md_engine.specs.declared.resolve.name.Name.{Name as ResolveName}
 use Rattle.md_engine.specs.declared.tokenizer.container.Container.{Container}
-use Rattle.md_engine.specs.declared.tokenizer.open_leaf.OpenLeaf.{OpenLeaf}
-use Rattle.md_engine.specs.declared.tokenizer.open_leaf.OpenLeaf.TheVariants as open_leaf
+use Rattle.md_engine.specs.declared.tokenizer.held_leaf.HeldLeaf.{HeldLeaf}
+use Rattle.md_engine.specs.declared.tokenizer.held_leaf.HeldLeaf.TheVariants as held_leaf
 use Rattle.md_engine.specs.declared.tokenizer.Frame.{Frame}
 use Rattle.md_engine.specs.declared.tokenizer.Line.{Line}
 use Rattle.md_engine.specs.declared.tokenizer.Scratch.{Scratch}
@@ -30,11 +30,11 @@ pub record Setting : Type 0 where
 -- what a construct tells the containers around it, and what is known of these
 pub record Flags : Type 0 where
   -- the leaf that is open behind what was read
-  pub leaf : OpenLeaf
+  pub leaf : HeldLeaf
   -- whether nothing but whitespace stands on the line that was read
   pub blank : Bool
   -- the leaf that was open before the line that is read
-  pub leaf_before : OpenLeaf
+  pub leaf_before : HeldLeaf
   -- the open containers, the outermost first
   pub containers : List Container
   -- how many of them went on, or opened, on this line
@@ -102,7 +102,7 @@ fresh bytes options p = record {
   events = [];
   frames = [];
   scratch = REST;
-  flags = record { leaf = open_leaf.None; blank = false; leaf_before = open_leaf.None; containers = []; continued = 0; line_end = 0 };
+  flags = record { leaf = held_leaf.None; blank = false; leaf_before = held_leaf.None; containers = []; continued = 0; line_end = 0 };
   resolvers = [];
 }
 

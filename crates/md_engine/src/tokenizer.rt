@@ -9,7 +9,7 @@ ghost use Rattle.md_engine.specs.Sound.{IsSound};
 ghost use Rattle.md_engine.specs.Ends.{ends_at, point_of, put};
 
 pub mod container;
-pub mod open_leaf;
+pub mod held_leaf;
 
 use crate::configuration::ParseOptions;
 use crate::event::{Event, Kind, Link, Name, Point};
@@ -18,7 +18,7 @@ use crate::resolve::Name as ResolveName;
 use crate::state::State;
 use crate::tokenizer::container::name::name_of;
 pub use crate::tokenizer::container::{Container, ContainerKind};
-pub use crate::tokenizer::open_leaf::OpenLeaf;
+pub use crate::tokenizer::held_leaf::HeldLeaf;
 use std::alloc::Global;
 use std::mem;
 
@@ -88,11 +88,11 @@ impl Scratch {
 #[derive(Clone, Copy, Debug, PartialEq, Eq)]
 pub struct Flags {
     /// The leaf that is open behind what was read: whether a container would interrupt it, or cannot open in it, is read off it.
-    pub leaf: OpenLeaf,
+    pub leaf: HeldLeaf,
     /// Whether nothing but whitespace stands on the line that was read.
     pub blank: bool,
     /// The leaf that was open before the line that is read.
-    pub leaf_before: OpenLeaf,
+    pub leaf_before: HeldLeaf,
     /// How many containers went on, or opened, on this line.
     pub continued: usize,
     /// The index of the first event behind the line that was read last: of its ending, if it has one.
@@ -255,9 +255,9 @@ impl<'a> Tokenizer<'a> {
             frames: Vec::new(alloc),
             scratch: Scratch::REST,
             flags: Flags {
-                leaf: OpenLeaf::None,
+                leaf: HeldLeaf::None,
                 blank: false,
-                leaf_before: OpenLeaf::None,
+                leaf_before: HeldLeaf::None,
                 continued: 0,
                 line_end: 0,
             },

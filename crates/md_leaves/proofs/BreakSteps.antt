@@ -11,7 +11,7 @@ use Rattle.md_engine.specs.declared.state.thematic_break.State.TheVariants as it
 use Rattle.md_engine.specs.declared.state.State.TheVariants.{Nok, Next, Retry}
 use Rattle.md_engine.specs.declared.tokenizer.Frame.{Frame}
 use Rattle.md_engine.specs.declared.tokenizer.Scratch.{Scratch}
-use Rattle.md_engine.specs.declared.tokenizer.open_leaf.OpenLeaf.TheVariants as open_leaf
+use Rattle.md_engine.specs.declared.tokenizer.held_leaf.HeldLeaf.TheVariants as held_leaf
 use Rattle.md_engine.specs.Meaning.{Accepts, Behaviour, Cell, Feed, Here, Refuses, Steps, here}
 use Rattle.md_engine.specs.Scheme.{After, spot}
 use Rattle.md_engine.specs.World.{World, after}
@@ -86,13 +86,13 @@ at_break-mark c cs h is mark =
     rw white (apart-mark c cs h is ending)
 
 at_break-end : (feed : Feed) (w : World) (h : Here) (o : Option ℕ) → ends_line o && nat_le 3 h.scratch.size ≡ true →
-    at_break (ahead feed w o) h ≡ Accepts (record h { events = h.events ++ exit ThematicBreak h.point ∷ []; scratch = without_marker h.scratch; flags = record h.flags { leaf = open_leaf.None } }) (ahead feed w o)
+    at_break (ahead feed w o) h ≡ Accepts (record h { events = h.events ++ exit ThematicBreak h.point ∷ []; scratch = without_marker h.scratch; flags = record h.flags { leaf = held_leaf.None } }) (ahead feed w o)
 unfolding at_break in_break
 at_break-end feed w h None e = rw (marks-none, add-zero, e, append-nil) refl
 at_break-end feed w h (Some b) e = go (nat_eq b 10) refl e
   where
     go : (x : Bool) → nat_eq b 10 ≡ x → x && nat_le 3 h.scratch.size ≡ true →
-        at_break (ahead feed w (Some b)) h ≡ Accepts (record h { events = h.events ++ exit ThematicBreak h.point ∷ []; scratch = without_marker h.scratch; flags = record h.flags { leaf = open_leaf.None } }) (ahead feed w (Some b))
+        at_break (ahead feed w (Some b)) h ≡ Accepts (record h { events = h.events ++ exit ThematicBreak h.point ∷ []; scratch = without_marker h.scratch; flags = record h.flags { leaf = held_leaf.None } }) (ahead feed w (Some b))
     go true is e = let ten : b ≡ 10 = eqb-true b 10 is in rw (ten, marks-none, add-zero, e, append-nil) refl
     go false is e = cc
 

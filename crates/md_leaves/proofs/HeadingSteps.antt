@@ -16,7 +16,7 @@ use Rattle.md_engine.specs.declared.state.State.{State}
 use Rattle.md_engine.specs.declared.state.State.TheVariants.{Next}
 use Rattle.md_engine.specs.declared.tokenizer.Frame.{Frame}
 use Rattle.md_engine.specs.declared.tokenizer.Scratch.{Scratch}
-use Rattle.md_engine.specs.declared.tokenizer.open_leaf.OpenLeaf.TheVariants as open_leaf
+use Rattle.md_engine.specs.declared.tokenizer.held_leaf.HeldLeaf.TheVariants as held_leaf
 use Rattle.md_engine.specs.Meaning.{Accepts, Behaviour, Cell, Feed, Here, Refuses, Steps, goes, here}
 use Rattle.md_engine.specs.Scheme.{After, spot}
 use Rattle.md_engine.specs.World.{World, after}
@@ -170,7 +170,7 @@ text-begins : (b : ℕ) → is_white b ≡ false → nat_eq b 35 ≡ false → b
 text-begins b s k = rw (s, k) refl
 
 line-ends : (feed : Feed) (w : World) (h : Here) (o : Option ℕ) → ends_line o ≡ true →
-    at_break (ahead feed w o) h ≡ Accepts (record h { events = h.events ++ exit parts.HeadingAtx h.point ∷ []; flags = record h.flags { leaf = open_leaf.None } }) (ahead feed w o)
+    at_break (ahead feed w o) h ≡ Accepts (record h { events = h.events ++ exit parts.HeadingAtx h.point ∷ []; flags = record h.flags { leaf = held_leaf.None } }) (ahead feed w o)
 unfolding at_break in_heading
 line-ends feed w h None e = rw append-nil refl
 line-ends feed w h (Some b) e = let white : is_white b ≡ false = rw (eqb-true b 10 e) refl in rw (white, e, append-nil) refl

@@ -6,7 +6,7 @@ use Rattle.md_engine.specs.declared.event.Event.{Event}
 use Rattle.md_engine.specs.declared.event.Name.TheVariants.{HeadingAtx, SpaceOrTab}
 use Rattle.md_engine.specs.declared.event.Point.{Point}
 use Rattle.md_engine.specs.declared.tokenizer.Scratch.{Scratch}
-use Rattle.md_engine.specs.declared.tokenizer.open_leaf.OpenLeaf.TheVariants as open_leaf
+use Rattle.md_engine.specs.declared.tokenizer.held_leaf.HeldLeaf.TheVariants as held_leaf
 use Rattle.md_engine.specs.Meaning.{Accepts, Cell, Here, Outcome, Refuses}
 use Rattle.md_leaves.specs.HeadingRule.{Apart, before_opening, heading_at, heading_inside, in_heading, is_heading, is_heading_line, runs}
 use Rattle.md_leaves.proofs.HeadingLemmas.{before-is, before-no}
@@ -24,7 +24,7 @@ use Rattle.md_seam.proofs.WhiteSteps.{behind_white}
 abbrev pub taken_line : List Event → List Cell → Here → Outcome
 taken_line inside cells h =
     let p = line_end cells h.point in
-    Accepts (record h { events = h.events ++ around HeadingAtx h.point p inside; point = p; flags = record h.flags { leaf = open_leaf.None } }) (from_ending cells)
+    Accepts (record h { events = h.events ++ around HeadingAtx h.point p inside; point = p; flags = record h.flags { leaf = held_leaf.None } }) (from_ending cells)
 
 inside-none : (options : ParseOptions) (cells : List Cell) (p : Point) → begins_white cells ≡ false → heading_inside options cells p ≡ runs Apart (line_cells cells) p
 inside-none options cells p e =

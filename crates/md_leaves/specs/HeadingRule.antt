@@ -8,7 +8,7 @@ use Rattle.md_engine.specs.declared.event.Point.{Point}
 use Rattle.md_engine.specs.declared.state.Name.TheVariants as n
 use Rattle.md_engine.specs.declared.state.heading_atx.State.{State as HeadingState}
 use Rattle.md_engine.specs.declared.state.heading_atx.State.TheVariants as its
-use Rattle.md_engine.specs.declared.tokenizer.open_leaf.OpenLeaf.TheVariants as open_leaf
+use Rattle.md_engine.specs.declared.tokenizer.held_leaf.HeldLeaf.TheVariants as held_leaf
 use Rattle.md_engine.specs.Meaning.{Accepts, Behaviour, Cell, Here, Outcome, Refuses}
 use Rattle.md_leaves.specs.LeafStart.{start_at}
 use Rattle.md_leaves.specs.Heading.{heading_link, without_size}
@@ -58,7 +58,7 @@ runs run (c ∷ cs) p = if goes_on run c.byte then runs run cs c.after else clos
 unfoldable pub in_heading : Run → List Cell → Here → Outcome
 in_heading run cells h =
     let p = line_end cells h.point in
-    Accepts (record h { events = h.events ++ runs run (line_cells cells) h.point ++ exit HeadingAtx p ∷ []; point = p; flags = record h.flags { leaf = open_leaf.None } }) (from_ending cells)
+    Accepts (record h { events = h.events ++ runs run (line_cells cells) h.point ++ exit HeadingAtx p ∷ []; point = p; flags = record h.flags { leaf = held_leaf.None } }) (from_ending cells)
 
 -- behind a run and the whitespace that follows it
 unfoldable pub at_break : List Cell → Here → Outcome

@@ -27,7 +27,7 @@ use md_engine::resolve::Name as ResolveName;
 use md_engine::state::heading_atx::State as HeadingState;
 use md_engine::state::{Name as StateName, State};
 use md_engine::subtokenize::Subresult;
-use md_engine::tokenizer::{OpenLeaf, Tokenizer};
+use md_engine::tokenizer::{HeldLeaf, Tokenizer};
 use md_seam::space_or_tab::{is_space_or_tab, small_indent, space_or_tab, space_or_tab_min_max};
 
 /// An opening sequence has at most so many `#`.
@@ -143,7 +143,7 @@ pub fn at_break(tokenizer: &mut Tokenizer) -> State
         None | Some(b'\n') => {
             or_error!(tokenizer.exit(Name::HeadingAtx));
             or_error!(tokenizer.register_resolver(ResolveName::HeadingAtx));
-            tokenizer.flags.leaf = OpenLeaf::None;
+            tokenizer.flags.leaf = HeldLeaf::None;
             State::Ok
         }
         // All whitespace lies behind.

@@ -15,7 +15,7 @@ use Rattle.md_seam.specs.Events.Nested.{enter_link, exit}
 use Rattle.md_seam.specs.Standard.State.{Kept, Leaf, NoLeaf, OpenParagraph, shut_paragraph, texts, then_leaf, then_paragraph}
 use Rattle.md_seam.specs.Standard.Tree.{Blocks, Paragraph}
 use Rattle.markdown_blocks.specs.Leaf.Paragraph.{paragraph_leaf}
-use Rattle.markdown_blocks.specs.OpenLeaf.{IsBuiltLeaf}
+use Rattle.markdown_blocks.specs.HeldLeaf.{IsBuiltLeaf}
 use Rattle.markdown_blocks.proofs.EachEvent.{settled-each}
 use Rattle.markdown_blocks.proofs.OutsideFacts.{AreOutside, IsOutside, outside-append}
 use Rattle.markdown_blocks.proofs.SimpleBlocks.{AreSimple, simple-then}

@@ -6,7 +6,7 @@ use Rattle.md_engine.specs.declared.event.Event.{Event}
 use Rattle.md_engine.specs.declared.event.Name.TheVariants as n
 use Rattle.md_engine.specs.declared.event.Point.{Point}
 use Rattle.md_engine.specs.declared.tokenizer.Scratch.{Scratch}
-use Rattle.md_engine.specs.declared.tokenizer.open_leaf.OpenLeaf.TheVariants as open_leaf
+use Rattle.md_engine.specs.declared.tokenizer.held_leaf.HeldLeaf.TheVariants as held_leaf
 use Rattle.md_engine.specs.Meaning.{Accepts, Cell, Here, Outcome, Refuses}
 use Rattle.md_leaves.specs.Break.{may_begin, sees_marker, without_marker}
 use Rattle.md_leaves.specs.BreakRule.{Apart, before_marker, break_at, broken, runs}
@@ -99,7 +99,7 @@ break-took options cells h is e = go (begins_white cells) refl
 
     -- what it is up to its scratch, its events and its point
     new : List Event → Point → Scratch → List Cell → Outcome
-    new es x s rest = Accepts (record { events = es; point = x; scratch = s; flags = record h.flags { leaf = open_leaf.None } }) rest
+    new es x s rest = Accepts (record { events = es; point = x; scratch = s; flags = record h.flags { leaf = held_leaf.None } }) rest
 
     go : (x : Bool) → begins_white cells ≡ x →
         break_at options cells h ≡ shut_line (around n.ThematicBreak h.point (line_end cells h.point) (break_inside options cells h.point)) cells h

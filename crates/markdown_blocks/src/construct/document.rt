@@ -17,7 +17,7 @@ ghost use Rattle.md_engine.specs.declared.state.State.{State};
 ghost use Rattle.md_engine.specs.declared.state.document.State.{State as DocumentState};
 ghost use Rattle.markdown_blocks.specs.Flow.{containers_after_transition, existing_after_transition, existing_before_transition, flow_end_transition, new_after_transition, new_before_transition};
 ghost use Rattle.markdown_blocks.specs.LineFlags.{ending_name, next_container, stays};
-ghost use Rattle.markdown_blocks.specs.OpenLeaf.{takes_lazy};
+ghost use Rattle.markdown_blocks.specs.HeldLeaf.{takes_lazy};
 ghost use Rattle.markdown_blocks.specs.Document.{before_frontmatter_transition, document_own_transition, document_table_scheme, document_transition, start_transition};
 ghost use Rattle.md_seam.specs.Transition.{IsAt, NeedsNothing};
 
@@ -33,7 +33,7 @@ use md_engine::state::flow::State as FlowState;
 use md_engine::state::{Name as StateName, State};
 use md_engine::subtokenize::Subresult;
 use md_engine::table::Table;
-use md_engine::tokenizer::{Container, Flags, OpenLeaf, Tokenizer};
+use md_engine::tokenizer::{Container, Flags, HeldLeaf, Tokenizer};
 use md_leaves::partial_bom;
 
 /// At the start of the text: before a byte order mark, if there is one.
@@ -162,7 +162,7 @@ pub fn container_new_after(tokenizer: &mut Tokenizer) -> State
         kind: registry::new_kind()
     }));
     tokenizer.flags.continued = tokenizer.containers.len();
-    tokenizer.flags.leaf = OpenLeaf::None;
+    tokenizer.flags.leaf = HeldLeaf::None;
     State::Retry(StateName::Document(DocumentState::ContainerNewBefore))
 }
 
@@ -182,12 +182,12 @@ pub fn containers_after(tokenizer: &mut Tokenizer) -> State
 }
 
 /// Whether a line that starts no other leaf goes on this one, although not all containers went on (CommonMark 5.1, "laziness").
-fn takes_lazy(leaf: OpenLeaf) -> bool
+fn takes_lazy(leaf: HeldLeaf) -> bool
     ensures { result ≡ takes_lazy leaf }
 {
     match leaf {
-        OpenLeaf::None => false,
-        OpenLeaf::Text => true,
+        HeldLeaf::None => false,
+        HeldLeaf::Text => true,
     }
 }
 
@@ -285,7 +285,7 @@ fn call_state(tokenizer: &mut Tokenizer, name: StateName) -> State
 pub struct DocumentTable;
 
 impl Table for DocumentTable {
-    ghost use Rattle.markdown_blocks.specs.OpenLeaf.{takes_lazy};
+    ghost use Rattle.markdown_blocks.specs.HeldLeaf.{takes_lazy};
     ghost use Rattle.markdown_blocks.specs.Document.{DocumentStep};
     ghost use Rattle.markdown_blocks.specs.Resolved.{resolved_as};
 

@@ -32,7 +32,7 @@ use md_engine::state::thematic_break::State as BreakState;
 use md_engine::state::{Name as StateName, State};
 use md_engine::subtokenize::Subresult;
 use md_engine::table::Table;
-use md_engine::tokenizer::{OpenLeaf, Tokenizer};
+use md_engine::tokenizer::{HeldLeaf, Tokenizer};
 use md_leaves::blank_line;
 use md_seam::space_or_tab;
 
@@ -139,7 +139,7 @@ pub fn blank_line_after(tokenizer: &mut Tokenizer) -> State
     ensures to { result ≡ (blank_line_after_transition (world tokenizer.old)).to }
     ensures world { world tokenizer.new ≡ (blank_line_after_transition (world tokenizer.old)).world }
 {
-    tokenizer.flags.leaf = OpenLeaf::None;
+    tokenizer.flags.leaf = HeldLeaf::None;
     tokenizer.flags.blank = true;
     State::Retry(StateName::Document(DocumentState::FlowEnd))
 }

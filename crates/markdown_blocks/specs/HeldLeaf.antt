@@ -1,30 +1,30 @@
 -- The leaf that is open between two lines: what the frame asks of each kind.
 --
 -- A kind that keeps more than its name between lines (the fence of fenced code, the kind of HTML, where indented code ends) keeps it in
--- `OpenLeaf`; what it is by the line definition is said here, and so is whether containers may open in it, once one may not.
+-- `HeldLeaf`; what it is by the line definition is said here, and so is whether containers may open in it, once one may not.
 use Rattle.std.specs.Prelude.{◌≡◌, Bool, true, false, List, ◌∷◌}
-use Rattle.md_engine.specs.declared.tokenizer.open_leaf.OpenLeaf.{OpenLeaf}
-use Rattle.md_engine.specs.declared.tokenizer.open_leaf.OpenLeaf.TheVariants as open_leaf
+use Rattle.md_engine.specs.declared.tokenizer.held_leaf.HeldLeaf.{HeldLeaf}
+use Rattle.md_engine.specs.declared.tokenizer.held_leaf.HeldLeaf.TheVariants as held_leaf
 use Rattle.md_seam.specs.Standard.State.{Leaf, NoLeaf, OpenParagraph}
 use Rattle.markdown_blocks.specs.Leaf.Paragraph.{IsOpenText}
 
 -- whether a line goes on it that starts no other leaf, although not all containers went on (CommonMark 5.1, "laziness")
-abbrev pub takes_lazy : OpenLeaf → Bool
-takes_lazy open_leaf.None = false
-takes_lazy open_leaf.Text = true
+abbrev pub takes_lazy : HeldLeaf → Bool
+takes_lazy held_leaf.None = false
+takes_lazy held_leaf.Text = true
 
 -- whether a container that opens behind all others interrupts it
-abbrev pub is_interrupted : OpenLeaf → Bool
-is_interrupted open_leaf.None = false
-is_interrupted open_leaf.Text = true
+abbrev pub is_interrupted : HeldLeaf → Bool
+is_interrupted held_leaf.None = false
+is_interrupted held_leaf.Text = true
 
 -- the kind of an open leaf of the line definition
-abbrev pub kind_of_leaf : Leaf → OpenLeaf
-kind_of_leaf (OpenParagraph lines) = open_leaf.Text
-kind_of_leaf leaf = open_leaf.None
+abbrev pub kind_of_leaf : Leaf → HeldLeaf
+kind_of_leaf (OpenParagraph lines) = held_leaf.Text
+kind_of_leaf leaf = held_leaf.None
 
 -- What the tokenizer holds of the open leaf is this one.
-abbrev pub MatchesLeaf : OpenLeaf → Leaf → Type 0
+abbrev pub MatchesLeaf : HeldLeaf → Leaf → Type 0
 MatchesLeaf held leaf = held ≡ kind_of_leaf leaf
 
 -- What may be open in what is built: nothing, or a text with a line at least.

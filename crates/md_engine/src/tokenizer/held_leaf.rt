@@ -3,7 +3,7 @@
 /// The leaf block that is open: what the next line goes on, or ends. Of a leaf of several lines this holds what is kept of it from line to
 /// line.
 #[derive(Clone, Copy, Debug, PartialEq, Eq)]
-pub enum OpenLeaf {
+pub enum HeldLeaf {
     /// None: the last one has ended.
     None,
     /// Lines of text, which are read once it ends.
