@@ -2,8 +2,8 @@
 use Rattle.std.specs.Prelude.{◌≡◌, ℕ, false, List, []}
 use Rattle.md_engine.specs.declared.configuration.ParseOptions.{ParseOptions}
 use Rattle.md_program.specs.Listing.{Listing}
-use Rattle.md_seam.specs.Standard.Meaning.{tree}
-use Rattle.md_seam.specs.Standard.Outline.{outline}
+use Rattle.md_definition.specs.Meaning.{tree}
+use Rattle.md_definition.specs.Outline.{outline}
 
 -- what is asked for, as far as it is there: block quotes, ATX headings and breaks alone
 abbrev pub built_from : ParseOptions → ParseOptions

@@ -4,9 +4,9 @@ use crate::report::Report;
 use crate::rows::options_of;
 use blocks_cases::case::{Case, CaseError};
 use blocks_cases::constructs::{NAMES, switch};
+use md_definition::outline::Word;
 use md_engine::configuration::Constructs;
 use md_program::body::{Body, MOST};
-use md_seam::outline::Word;
 use std::alloc::Global;
 
 /// Whether only the construct of this name makes a word. Headings of depth 1 and 2 come from two constructs.

@@ -1,7 +1,7 @@
 // The printed form of each word, of virtual spaces and of labels.
+use md_definition::outline::{OutlineLine, Word};
 use md_program::body::Outlined;
 use md_program::print::print;
-use md_seam::outline::{OutlineLine, Word};
 use std::test::Fail;
 
 #[test]

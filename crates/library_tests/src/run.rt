@@ -1,12 +1,12 @@
 // Runs over readers and writers that fail, and over a body that takes every line as a line of one paragraph.
 ghost use Rattle.std.specs.Prelude.{◌≤◌};
 
+use md_definition::outline::{OutlineLine, Word};
 use md_engine::configuration::ParseOptions;
 use md_engine::message::Message;
 use md_program::body::{Body, Outlined};
 use md_program::printing::OutlineOf;
 use md_program::run::run;
-use md_seam::outline::{OutlineLine, Word};
 use std::alloc::{AllocError, Global};
 use std::io;
 use std::io::{ErrorKind, Read, Write};

@@ -14,10 +14,10 @@ use Rattle.md_engine.specs.declared.event.Point.{Point}
 use Rattle.md_seam.specs.Events.Inline.{line_end, pair_unless_empty, plain_chunk}
 use Rattle.md_seam.specs.Events.Nested.{Forward, around, enter, exit, last_point, pair}
 use Rattle.md_seam.specs.Events.Places.{at_or_before, same_place}
-use Rattle.md_seam.specs.Standard.Rest.{is_blank, is_white, trim_start}
+use Rattle.md_definition.specs.Rest.{is_blank, is_white, trim_start}
 use Rattle.md_seam.proofs.NestedLemmas.{at_or_before-trans, forward-last}
 use Rattle.md_seam.proofs.PlacesLemmas.{all-append}
-use Rattle.md_seam.proofs.TextsLemmas.{Both, Ending, LineFeed, Return, ending_bytes}
+use Rattle.md_definition.proofs.TextsLemmas.{Both, Ending, LineFeed, Return, ending_bytes}
 use Rattle.md_outline.specs.Between.{is_between}
 use Rattle.md_seam.proofs.FeedLines.{IsEnding}
 use Rattle.markdown_blocks.proofs.SpanLemmas.{order-grows}

@@ -8,7 +8,7 @@ use Rattle.md_engine.specs.declared.event.Event.{Event}
 use Rattle.md_engine.specs.declared.event.Name.{Name}
 use Rattle.md_engine.specs.declared.event.Point.{Point}
 use Rattle.md_seam.specs.Events.Nested.{exit}
-use Rattle.md_seam.specs.Standard.State.{Container}
+use Rattle.md_definition.specs.State.{Container}
 use Rattle.md_outline.specs.Between.{is_between}
 use Rattle.markdown_blocks.specs.Change.{ends_of}
 use Rattle.markdown_blocks.specs.Fronted.{contained, rest_from, rest_line}

@@ -7,7 +7,7 @@ use Rattle.md_engine.specs.declared.event.Point.{Point}
 use Rattle.md_seam.specs.Events.Endings.{line_start}
 use Rattle.md_seam.specs.Events.Nested.{pair}
 use Rattle.md_seam.specs.Events.Places.{past_text}
-use Rattle.md_seam.specs.Standard.Rest.{Rest, is_blank}
+use Rattle.md_definition.specs.Rest.{Rest, is_blank}
 use Rattle.md_seam.proofs.EndingsLemmas.{others-lead}
 use Rattle.md_seam.proofs.InlineLemmas.{before-text, same-refl}
 use Rattle.md_seam.proofs.NestedLemmas.{at_or_before-refl, balanced-none}

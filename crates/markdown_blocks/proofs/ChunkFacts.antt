@@ -14,12 +14,12 @@ use Rattle.md_seam.specs.Events.Inline.{is_one_line, line_end, pair_unless_empty
 use Rattle.md_seam.specs.Events.Nested.{pair}
 use Rattle.md_seam.specs.Events.Pieces.{is_in_line, is_line_ending, piece_stands, stands_over}
 use Rattle.md_seam.specs.Events.Places.{past_text, same_place}
-use Rattle.md_seam.specs.Standard.Lines.{is_ending, without_ending}
-use Rattle.md_seam.specs.Standard.Texts.{split_lines}
+use Rattle.md_definition.specs.Lines.{is_ending, without_ending}
+use Rattle.md_definition.specs.Texts.{split_lines}
 use Rattle.md_seam.proofs.FeedLines.{IsEnding, ending-some, slice-split}
 use Rattle.md_seam.proofs.GrammarLemmas.{IsWord, leads-append, leads-unless, maybe}
 use Rattle.md_seam.proofs.InlineLemmas.{past-index, past-vs}
-use Rattle.md_seam.proofs.TextsLemmas.{Both, Ending, LineFeed, NoEnding, Return, ending_bytes}
+use Rattle.md_definition.proofs.TextsLemmas.{Both, Ending, LineFeed, NoEnding, Return, ending_bytes}
 use Rattle.markdown_blocks.proofs.LineTexts.{one-last, one-next, past-whole, piece, without-none, without-one}
 use Rattle.markdown_blocks.proofs.PieceFacts.{Over, Starts, Stood, begins-cut, begins-whole, chunk-stands, chunk_span, over-front, over-stands, span, stood-append, stood-unless_empty}
 use Rattle.markdown_blocks.proofs.PiecesLemmas.{Tiled}

@@ -2,7 +2,7 @@
 use Rattle.std.proofs.Common.{◌≡◌, ℕ, ◌-◌, ◌≤◌, true, List, [], ◌∷◌, ◌++◌, take, drop, slice_range, ap, ◌∙◌, append_assoc, arith}
 use Rattle.std.proofs.lemmas.Bool.{and_from, and_parts}
 use Rattle.md_engine.specs.declared.event.Event.{Event}
-use Rattle.md_seam.specs.Standard.Rest.{is_blank, is_white}
+use Rattle.md_definition.specs.Rest.{is_blank, is_white}
 use Rattle.md_seam.specs.Events.Spelled.{Text, text_to}
 use Rattle.md_seam.proofs.FeedLines.{slice-split}
 use Rattle.md_seam.proofs.SpelledLemmas.{QuietOrEnding, Roles, text-inline, text_after, text_after-append}

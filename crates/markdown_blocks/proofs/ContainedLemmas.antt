@@ -5,10 +5,10 @@ use Rattle.std.proofs.Common.{◌≡◌, ◌+◌, Bool, true, false, List, [], �
 use Rattle.std.specs.Prelude.{Option, Some, None}
 use Rattle.std.proofs.lemmas.List.{length-append, length-map}
 use Rattle.md_engine.specs.declared.configuration.ParseOptions.{ParseOptions}
-use Rattle.md_seam.specs.Standard.Containers.{Taken, continues, opens}
-use Rattle.md_seam.specs.Standard.Rest.{Rest}
+use Rattle.md_definition.specs.Containers.{Taken, continues, opens}
+use Rattle.md_definition.specs.Rest.{Rest}
 use Rattle.md_seam.specs.Events.Spelled.{Shape}
-use Rattle.md_seam.specs.Standard.State.{Container}
+use Rattle.md_definition.specs.State.{Container}
 use Rattle.markdown_blocks.specs.Change.{change_by, interrupts, is_none, others_of}
 use Rattle.markdown_blocks.specs.Registry.{shape_of}
 use Rattle.markdown_blocks.specs.Fronted.{Prefixed, contained, no_prefix, one_more, prefixes_new, prefixes_on}

@@ -10,14 +10,14 @@ use Rattle.md_engine.specs.Meaning.{Cell, Here, Refuses}
 use Rattle.md_containers.proofs.Shorter.{Shortens}
 use Rattle.md_seam.specs.Look.{first_seen}
 use Rattle.md_seam.specs.Spaces.{IsRest}
-use Rattle.md_seam.specs.Standard.Containers.{Taken, continues}
-use Rattle.md_seam.specs.Standard.Preamble.{rest_at}
-use Rattle.md_seam.specs.Standard.Rest.{Rest}
-use Rattle.md_seam.specs.Standard.State.{Container, container_block}
-use Rattle.md_seam.specs.Standard.Tree.{Blocks}
+use Rattle.md_definition.specs.Containers.{Taken, continues}
+use Rattle.md_definition.specs.Preamble.{rest_at}
+use Rattle.md_definition.specs.Rest.{Rest}
+use Rattle.md_definition.specs.State.{Container, container_block}
+use Rattle.md_definition.specs.Tree.{Blocks}
 use Rattle.md_seam.proofs.FeedLines.{Stops}
 use Rattle.md_seam.proofs.RestCells.{RestAt, past_rest, rest_cells}
-use Rattle.md_seam.proofs.TextsLemmas.{NoEnding}
+use Rattle.md_definition.proofs.TextsLemmas.{NoEnding}
 use Rattle.markdown_blocks.specs.ContainerRules.{ContainerRules}
 use Rattle.markdown_blocks.specs.Passed.{Passed, passed_by}
 use Rattle.markdown_blocks.specs.Registry.{IsOf}

@@ -18,10 +18,10 @@ use Rattle.md_seam.specs.Events.Inline.{is_line_ending}
 use Rattle.md_seam.specs.Events.Nested.{enter, exit}
 use Rattle.md_seam.specs.Events.Prefix.{is_prefix}
 use Rattle.md_seam.specs.Events.Spelled.{Holds, Reading, Shape, block_around, left, read, role}
-use Rattle.md_seam.specs.Standard.Containers.{Taken, continues, footnote_continues, item_continues, quote_taken}
-use Rattle.md_seam.specs.Standard.Rest.{Rest}
-use Rattle.md_seam.specs.Standard.State.{Container, InFootnote, InItem, InQuote, container_block}
-use Rattle.md_seam.specs.Standard.Tree.{Blocks}
+use Rattle.md_definition.specs.Containers.{Taken, continues, footnote_continues, item_continues, quote_taken}
+use Rattle.md_definition.specs.Rest.{Rest}
+use Rattle.md_definition.specs.State.{Container, InFootnote, InItem, InQuote, container_block}
+use Rattle.md_definition.specs.Tree.{Blocks}
 use Rattle.md_seam.proofs.EndingsLemmas.{is_other}
 use Rattle.markdown_blocks.specs.Registry.{IsOf, container_name, shape_name, shape_of}
 use Rattle.markdown_blocks.proofs.PartedFacts.{Still}

@@ -33,7 +33,7 @@ use Rattle.md_leaves.specs.Bom.{mark, mark_at}
 use Rattle.md_leaves.specs.BomRule.{are_next, bom_at}
 use Rattle.md_seam.specs.Ahead.{point_after}
 use Rattle.md_seam.specs.Events.Nested.{pair}
-use Rattle.md_seam.specs.Standard.Preamble.{has_mark}
+use Rattle.md_definition.specs.Preamble.{has_mark}
 use Rattle.md_seam.specs.Spaces.{is_current}
 use Rattle.markdown_blocks.specs.Document.{DocumentStep, ReadsMark, body_point, document_table_scheme, document_transition, mark_end, mark_events}
 use Rattle.markdown_blocks.specs.DocumentRule.{document_at, document_behaves}
@@ -45,7 +45,7 @@ use Rattle.markdown_blocks.specs.LineFlags.{next_container, stays}
 use Rattle.markdown_blocks.proofs.DocumentMeans.{document_means, document_stands}
 use Rattle.md_seam.proofs.FeedLines.{feed-next, feed-none, line-feed, past-next}
 use Rattle.md_seam.proofs.PlacesLemmas.{at-next}
-use Rattle.md_seam.proofs.PreambleLemmas.{mark-bytes, mark-length}
+use Rattle.md_definition.proofs.PreambleLemmas.{mark-bytes, mark-length}
 use Rattle.markdown_blocks.proofs.FlowReads.{resolved-none}
 
 -- The mark among the cells.

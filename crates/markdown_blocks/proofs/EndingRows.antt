@@ -10,10 +10,10 @@ use Rattle.md_engine.specs.declared.event.Point.{Point}
 use Rattle.md_seam.specs.Events.Endings.{Spot, endings_stand, endings_stand_from, is_filled, line_start}
 use Rattle.md_seam.specs.Events.Nested.{exit, pair}
 use Rattle.md_seam.specs.Events.Places.{first_point}
-use Rattle.md_seam.specs.Standard.Preamble.{has_mark}
-use Rattle.md_seam.specs.Standard.State.{Container}
-use Rattle.md_seam.specs.Standard.Rest.{Rest}
-use Rattle.md_seam.specs.Standard.Tree.{Block}
+use Rattle.md_definition.specs.Preamble.{has_mark}
+use Rattle.md_definition.specs.State.{Container}
+use Rattle.md_definition.specs.Rest.{Rest}
+use Rattle.md_definition.specs.Tree.{Block}
 use Rattle.md_seam.proofs.EndingsLemmas.{AreOthers, Leads, leads-append, others-append, others-lead}
 use Rattle.markdown_blocks.specs.Registry.{container_name, text_leaf}
 use Rattle.markdown_blocks.specs.Change.{ends_of}
@@ -27,7 +27,7 @@ use Rattle.markdown_blocks.proofs.RowLeaf.{row-facts, block_of}
 use Rattle.markdown_blocks.proofs.FrontStands.{container-others, fronts-others}
 use Rattle.markdown_blocks.proofs.GroupFacts.{group-front, more-groups}
 use Rattle.markdown_blocks.proofs.Text.Facts.{kept-of, text-facts}
-use Rattle.md_seam.specs.Standard.State.{texts}
+use Rattle.md_definition.specs.State.{texts}
 use Rattle.markdown_blocks.proofs.LeafFacts.{LeafFacts, spot_behind}
 
 -- Events that are no ending, and no begin or end of a leaf.

@@ -8,7 +8,7 @@ use Rattle.md_engine.specs.World.{Flags}
 use Rattle.md_content.specs.ChunkRule.{chunk_at, inside_chunk}
 use Rattle.md_leaves.specs.BlankRule.{blank_at}
 use Rattle.md_seam.specs.Ahead.{line_bytes}
-use Rattle.md_seam.specs.Standard.Rest.{is_blank}
+use Rattle.md_definition.specs.Rest.{is_blank}
 use Rattle.markdown_blocks.specs.FlowRule.{Rule, behind_containers, blank_ended, ended, ended_to, existing_by, existing_from, flow_at, flow_lines, leaf_of, leaves_of, line_ended, line_then, new_from, new_of, opened, tried}
 use Rattle.markdown_blocks.specs.LineFlags.{begun_line, blanked, next_container, stays, went_on}
 use Rattle.markdown_blocks.specs.Registry.{LeafName, continues_at, leaf, new_container_at, trials}

@@ -21,9 +21,9 @@ use Rattle.md_engine.specs.World.{closed_events}
 use Rattle.md_content.specs.Chunks.{content_link}
 use Rattle.md_seam.specs.Ahead.{from_ending, line_bytes, line_end}
 use Rattle.md_seam.specs.Events.Nested.{enter, enter_link, exit, pair}
-use Rattle.md_seam.specs.Standard.Rest.{is_blank}
+use Rattle.md_definition.specs.Rest.{is_blank}
 use Rattle.md_seam.specs.Spaces.{IsRest}
-use Rattle.md_seam.specs.Standard.State.{Container}
+use Rattle.md_definition.specs.State.{Container}
 use Rattle.markdown_blocks.specs.Change.{Change, change_by, ends_of, interrupts, open_behind, others_of}
 use Rattle.markdown_blocks.specs.FlowRule.{Rule, behind_containers, blank_ended, ended, ended_to, existing_by, existing_from, flow_at, flow_lines, leaf_of, leaves_of, line_ended, line_then, new_from, new_of, nonblank_of, opened, tried}
 use Rattle.markdown_blocks.specs.LineFlags.{begun_line, ending_name, next_line, stays, went_on}

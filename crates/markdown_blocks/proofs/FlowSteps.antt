@@ -14,7 +14,7 @@ use Rattle.md_content.specs.ContentReads.{content_readings, wants_content}
 use Rattle.md_content.specs.Joined.{joined}
 use Rattle.md_seam.specs.Ahead.{begins_white, from_ending, line_end}
 use Rattle.md_seam.specs.Events.Nested.{pair}
-use Rattle.md_seam.specs.Standard.State.{Container}
+use Rattle.md_definition.specs.State.{Container}
 use Rattle.md_seam.specs.Substituted.{Readings, Substituted}
 use Rattle.markdown_blocks.proofs.ContainerNames.{is_front}
 use Rattle.markdown_blocks.specs.Change.{interrupts, open_behind, others_of}

@@ -3,7 +3,7 @@ use Rattle.std.proofs.Common.{ℕ, List, [], ◌∷◌, ◌++◌}
 use Rattle.md_engine.specs.declared.event.Event.{Event}
 use Rattle.md_engine.specs.declared.event.Point.{Point}
 use Rattle.md_seam.specs.Events.Nested.{enter}
-use Rattle.md_seam.specs.Standard.State.{Container}
+use Rattle.md_definition.specs.State.{Container}
 use Rattle.markdown_blocks.specs.Registry.{container_name}
 use Rattle.markdown_blocks.proofs.PrefixFacts.{Continues, Opens}
 

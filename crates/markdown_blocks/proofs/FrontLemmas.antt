@@ -8,7 +8,7 @@ use Rattle.md_seam.specs.Events.Nested.{Balanced, Matches, enter, exit, last_poi
 use Rattle.md_seam.specs.Events.Places.{at_or_before}
 use Rattle.md_seam.specs.Events.Spelled.{IsQuiet, Role, role}
 use Rattle.md_seam.specs.Events.Spelled as spelled
-use Rattle.md_seam.specs.Standard.State.{Container}
+use Rattle.md_definition.specs.State.{Container}
 use Rattle.md_seam.proofs.NestedLemmas.{at_or_before-refl, at_or_before-trans, balanced-append, balanced-matches, balanced-none, balanced-open, forward-last, matches-append, open_after-append}
 use Rattle.md_seam.proofs.SpelledLemmas.{Roles, roles-append}
 use Rattle.markdown_blocks.specs.Change.{ends_of}

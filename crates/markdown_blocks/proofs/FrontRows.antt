@@ -7,13 +7,13 @@ use Rattle.md_engine.specs.declared.event.Event.{Event}
 use Rattle.md_engine.specs.declared.event.Point.{Point}
 use Rattle.md_engine.specs.declared.tokenizer.Line.{Line}
 use Rattle.md_engine.specs.Meaning.{Cell}
-use Rattle.md_seam.specs.Standard.Containers.{Taken, continues, opens}
-use Rattle.md_seam.specs.Standard.Rest.{Rest}
-use Rattle.md_seam.specs.Standard.State.{Container}
-use Rattle.md_seam.proofs.ContainerLemmas.{opens-leaves}
+use Rattle.md_definition.specs.Containers.{Taken, continues, opens}
+use Rattle.md_definition.specs.Rest.{Rest}
+use Rattle.md_definition.specs.State.{Container}
+use Rattle.md_definition.proofs.ContainerLemmas.{opens-leaves}
 use Rattle.md_seam.proofs.FeedLines.{Stops}
 use Rattle.md_seam.proofs.RestCells.{RestAt, past_rest, rest_cells}
-use Rattle.md_seam.proofs.TextsLemmas.{NoEnding}
+use Rattle.md_definition.proofs.TextsLemmas.{NoEnding}
 use Rattle.markdown_blocks.specs.Change.{change_by, interrupts, open_behind, others_of}
 use Rattle.markdown_blocks.specs.Fronted.{Contained, Prefixed, contained, contained_behind, contained_by, contained_of, no_prefix, one_more, prefixes_new, prefixes_on}
 use Rattle.markdown_blocks.specs.Parsed.{IsBuilt}

@@ -7,7 +7,7 @@ use Rattle.md_engine.specs.declared.event.Name.{Name}
 use Rattle.md_engine.specs.declared.event.Point.{Point}
 use Rattle.md_seam.specs.Events.Nested.{enter}
 use Rattle.md_seam.specs.Events.Places.{last_line}
-use Rattle.md_seam.specs.Standard.State.{Container}
+use Rattle.md_definition.specs.State.{Container}
 use Rattle.md_seam.proofs.InlineLemmas.{same-refl}
 use Rattle.markdown_blocks.proofs.PiecesLemmas.{Tiled, tiled-append, tiled-none, tiled-within, pieces-before}
 use Rattle.markdown_blocks.proofs.FrontFacts.{Behind, Begins, LinePrefix, Goes}
@@ -16,7 +16,7 @@ use Rattle.markdown_blocks.specs.Registry.{container_name}
 use Rattle.markdown_blocks.proofs.PartsStand.{Inside, inside-append}
 use Rattle.markdown_blocks.proofs.ContainerNames.{container-facts}
 use Rattle.md_seam.specs.Events.Pieces.{pieces_stand}
-use Rattle.md_seam.proofs.TextsLemmas.{Both, Ending, LineFeed, Return, ending_bytes, EndsBefore, NoEnding, split-line, split-next}
+use Rattle.md_definition.proofs.TextsLemmas.{Both, Ending, LineFeed, Return, ending_bytes, EndsBefore, NoEnding, split-line, split-next}
 use Rattle.markdown_blocks.proofs.PieceFacts.{Stood, stood-append, stood-none}
 use Rattle.markdown_blocks.proofs.PrefixFacts.{Opens, Continues}
 use Rattle.md_outline.specs.Between.{is_between}
@@ -29,12 +29,12 @@ use Rattle.markdown_blocks.proofs.PartedFacts.{clear, clear-between, Marks, behi
 use Rattle.markdown_blocks.proofs.PrefixNames.{prefixes-roles, quiets-roles}
 use Rattle.std.proofs.lemmas.Bool.Decides.{nat_tests}
 use Rattle.md_seam.specs.Events.Endings.{on_line}
-use Rattle.md_seam.specs.Standard.Rest.{is_blank, is_white}
+use Rattle.md_definition.specs.Rest.{is_blank, is_white}
 use Rattle.md_seam.proofs.EndingsLemmas.{AreOthers, others-append, is_other}
 use Rattle.std.proofs.lemmas.List.{get_or-drop}
 use Rattle.std.proofs.lemmas.List.Folds.{list_all-append}
-use Rattle.md_seam.specs.Standard.Lines.{begins_with, ends_line, is_ending}
-use Rattle.md_seam.specs.Standard.Texts.{split_lines}
+use Rattle.md_definition.specs.Lines.{begins_with, ends_line, is_ending}
+use Rattle.md_definition.specs.Texts.{split_lines}
 
 -- the begin of a container in front of events
 pub begun-tiled : (name : Name) (p q : Point) (xs ys : List Event) → xs ≢ [] → Tiled p q (xs ++ ys) → Tiled p q (enter name p ∷ xs ++ ys)

@@ -11,7 +11,7 @@ use Rattle.md_engine.specs.declared.event.Point.{Point}
 use Rattle.md_engine.specs.Place.{first_point}
 use Rattle.md_seam.specs.Events.Grammar.{Expression, blocks, is_whole, keeps_grammar, left_of, plain_text, unread_text}
 use Rattle.md_seam.specs.Events.Nested.{pair}
-use Rattle.md_seam.specs.Standard.Preamble.{has_mark}
+use Rattle.md_definition.specs.Preamble.{has_mark}
 use Rattle.md_seam.proofs.GrammarLemmas.{Leads, keeps-blocks, leads-rest}
 use Rattle.markdown_blocks.specs.Change.{ends_of}
 use Rattle.markdown_blocks.specs.Document.{body_point, mark_end, mark_events}

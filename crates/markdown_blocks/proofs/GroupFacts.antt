@@ -2,8 +2,8 @@
 use Rattle.std.proofs.Common.{ℕ, List, ◌∷◌}
 use Rattle.std.specs.Prelude.{Option, Some}
 use Rattle.md_engine.specs.declared.configuration.ParseOptions.{ParseOptions}
-use Rattle.md_seam.specs.Standard.State.{texts}
-use Rattle.md_seam.specs.Standard.Tree.{Block}
+use Rattle.md_definition.specs.State.{texts}
+use Rattle.md_definition.specs.Tree.{Block}
 use Rattle.markdown_blocks.specs.Registry.{text_leaf}
 use Rattle.markdown_blocks.specs.Rows.{Group, Lines, Row, Single, final_row, first_row, group_done}
 use Rattle.markdown_blocks.specs.Unread.{group_unread}

@@ -19,12 +19,12 @@ use Rattle.md_content.specs.Paragraph.{text_link}
 use Rattle.md_seam.specs.declared.inline.Chunk.{Chunk}
 use Rattle.md_seam.specs.declared.inline.PartKind.TheVariants.{Text}
 use Rattle.md_seam.specs.Events.Inline.{are_lines, is_none, is_one_line, line_end, pair_unless_empty, plain_chunk, plain_events}
-use Rattle.md_seam.specs.Standard.Lines.{without_ending}
+use Rattle.md_definition.specs.Lines.{without_ending}
 use Rattle.md_seam.specs.Events.Nested.{around, enter, enter_link, exit, pair}
 use Rattle.md_seam.specs.Events.Places.{past_text, same_place}
-use Rattle.md_seam.specs.Standard.State.{Container}
+use Rattle.md_definition.specs.State.{Container}
 use Rattle.md_seam.specs.Substituted.{Readings, Substituted, belongs, chunks_behind}
-use Rattle.md_seam.specs.Standard.Texts.{split_lines}
+use Rattle.md_definition.specs.Texts.{split_lines}
 use Rattle.markdown_blocks.specs.Change.{ends_of}
 use Rattle.markdown_blocks.specs.Change as change
 use Rattle.markdown_blocks.specs.Registry.{container_name, first_of, leaf as line_leaf, LeafName, resolved, text_leaf, trials}
@@ -42,7 +42,7 @@ use Rattle.markdown_blocks.proofs.SubstitutedLemmas.{AllBelong, Becomes, CutAt, 
 use Rattle.markdown_blocks.proofs.LeafFacts.{ReadsText}
 use Rattle.markdown_blocks.proofs.ContentFacts.{no_content-unwanted}
 use Rattle.markdown_blocks.proofs.ContainerNames.{container-facts}
-use Rattle.md_seam.specs.Standard.Rest.{Rest as LineRest, is_blank}
+use Rattle.md_definition.specs.Rest.{Rest as LineRest, is_blank}
 use Rattle.markdown_blocks.proofs.LineTexts.{one-last, one-next, piece, without-none, without-one}
 use Rattle.markdown_blocks.proofs.OutsideFacts.{AreOutside}
 use Rattle.markdown_blocks.proofs.OutsideLemmas.{around-outside, ending-own, has_front-outside, leaf-set, linked-outside, tail-outside}

@@ -16,7 +16,7 @@ use Rattle.md_content.specs.Joined.{content_behind, goes_on, is_content, joined}
 use Rattle.md_seam.specs.Ahead.{begins_white, from_ending, line_end}
 use Rattle.md_seam.specs.Events.Inline.{is_line_ending}
 use Rattle.md_seam.specs.Events.Nested.{enter_link, exit, pair, is_enter, is_exit}
-use Rattle.md_seam.specs.Standard.State.{Container}
+use Rattle.md_definition.specs.State.{Container}
 use Rattle.md_seam.specs.Events.Prefix.{is_prefix}
 use Rattle.markdown_blocks.specs.Change.{ends_of, is_none, open_behind}
 use Rattle.markdown_blocks.specs.Rows.{leaf_behind, BlankRow, Group, Held, Lines, Row, RowKind, Single, TextRow, behind_row, ending_events, ending_of, groups, held_at, inside_of, is_text, last_row, leaf_events, onto_groups, onto_lines, row_events, row_events_by, row_kind, rows_at, rows_by, rows_events, tail_events, LeafRow}

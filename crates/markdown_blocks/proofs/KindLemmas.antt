@@ -1,7 +1,7 @@
 -- What a line is by its kind, whichever leaves there are.
 use Rattle.std.proofs.Common.{◌≡◌, Bool, true, false, cond, List, [], ◌∷◌, Option, Some, None, refl, ap₂}
 use Rattle.md_engine.specs.declared.configuration.ParseOptions.{ParseOptions}
-use Rattle.md_seam.specs.Standard.Rest.{Rest, is_blank}
+use Rattle.md_definition.specs.Rest.{Rest, is_blank}
 use Rattle.markdown_blocks.specs.Registry.{LeafName, first_of, leaf, trials}
 use Rattle.markdown_blocks.specs.Rows.{BlankRow, LeafRow, kind_of, line_kind}
 

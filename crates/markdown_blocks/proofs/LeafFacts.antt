@@ -16,14 +16,14 @@ use Rattle.md_seam.specs.Events.Grammar.{blocks, plain_text, unread_text}
 use Rattle.md_seam.specs.Events.Inline.{are_lines, plain_events}
 use Rattle.md_seam.specs.Events.Places.{past_text}
 use Rattle.md_seam.specs.Events.Spelled.{Reading, add_block, read}
-use Rattle.md_seam.specs.Standard.Rest.{Rest}
-use Rattle.md_seam.specs.Standard.Tree.{Block}
+use Rattle.md_definition.specs.Rest.{Rest}
+use Rattle.md_definition.specs.Tree.{Block}
 use Rattle.md_seam.specs.Substituted.{Readings}
 use Rattle.md_outline.specs.Between.{is_between}
 use Rattle.md_seam.proofs.EndingsLemmas as ending
 use Rattle.md_seam.proofs.GrammarLemmas as grammar
 use Rattle.md_seam.proofs.RestCells.{Cut}
-use Rattle.md_seam.proofs.TextsLemmas.{NoEnding}
+use Rattle.md_definition.proofs.TextsLemmas.{NoEnding}
 use Rattle.markdown_blocks.specs.Fronted.{rest_line}
 use Rattle.markdown_blocks.proofs.BetweenFacts.{AreBetween}
 use Rattle.markdown_blocks.proofs.FillFacts.{Fill}

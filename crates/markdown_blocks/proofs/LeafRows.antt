@@ -9,7 +9,7 @@ use Rattle.md_content.specs.Chunks.{content_link}
 use Rattle.md_leaves.specs.BlankRule.{blank_at, blank_events}
 use Rattle.md_seam.specs.Ahead.{from_ending, line_bytes, line_end}
 use Rattle.md_seam.specs.Events.Nested.{enter_link, exit}
-use Rattle.md_seam.specs.Standard.Rest.{is_blank}
+use Rattle.md_definition.specs.Rest.{is_blank}
 
 -- a blank line is taken to its end
 pub blank-took : (cells : List Cell) (h : Here) → is_blank (line_bytes cells) ≡ true → blank_at cells h ≡ Accepts (record h { events = h.events ++ blank_events cells h.point; point = line_end cells h.point }) (from_ending cells)

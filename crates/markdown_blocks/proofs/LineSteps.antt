@@ -7,15 +7,15 @@ use Rattle.std.specs.Prelude.{Option, Some, None}
 use Rattle.std.specs.Option.{is_some}
 use Rattle.std.proofs.lemmas.Bool.{and_parts}
 use Rattle.md_engine.specs.declared.configuration.ParseOptions.{ParseOptions}
-use Rattle.md_seam.specs.Standard.Containers.{Taken, continues, opens}
-use Rattle.md_seam.specs.Standard.Leaves.{Came, LazyText, NoText, Text, with_line}
-use Rattle.md_seam.specs.Standard.Rest.{Rest, is_blank}
-use Rattle.md_seam.specs.Standard.State.{At, Container, Kept, Leaf, Path, Spot, Within, at_spot, closed, container_block, kept, shut, spot, texts, then_block}
-use Rattle.md_seam.specs.Standard.Step.{all_continued, all_continued_by, entered, fresh_by, fresh_line, is_concrete, is_open_text, lazy_by, leaf_line, opened, spot_of, step, stopped, stopped_by, text_by, text_line, with_lazy}
-use Rattle.md_seam.specs.Standard.Tree.{Blocks, End}
-use Rattle.md_seam.proofs.ColumnLemmas.{opened_by, step_by}
-use Rattle.md_seam.proofs.ContainerLemmas.{opens-leaves}
-use Rattle.md_seam.proofs.TakenLemmas.{LeavesFewer}
+use Rattle.md_definition.specs.Containers.{Taken, continues, opens}
+use Rattle.md_definition.specs.Leaves.{Came, LazyText, NoText, Text, with_line}
+use Rattle.md_definition.specs.Rest.{Rest, is_blank}
+use Rattle.md_definition.specs.State.{At, Container, Kept, Leaf, Path, Spot, Within, at_spot, closed, container_block, kept, shut, spot, texts, then_block}
+use Rattle.md_definition.specs.Step.{all_continued, all_continued_by, entered, fresh_by, fresh_line, is_concrete, is_open_text, lazy_by, leaf_line, opened, spot_of, step, stopped, stopped_by, text_by, text_line, with_lazy}
+use Rattle.md_definition.specs.Tree.{Blocks, End}
+use Rattle.md_definition.proofs.ColumnLemmas.{opened_by, step_by}
+use Rattle.md_definition.proofs.ContainerLemmas.{opens-leaves}
+use Rattle.md_definition.proofs.TakenLemmas.{LeavesFewer}
 use Rattle.markdown_blocks.specs.Change.{Change, change_by, interrupts, is_none, open_behind, others_of}
 use Rattle.markdown_blocks.specs.Fronted.{Contained, Prefixed, contained, no_prefix, one_more, prefixes_new, prefixes_on}
 use Rattle.markdown_blocks.specs.Parsed.{IsBuilt}

@@ -28,7 +28,7 @@ use Rattle.md_engine.proofs.StepOf.{sees, steps-as}
 use Rattle.md_engine.proofs.TextFeed.{text-follows}
 use Rattle.md_seam.specs.Ahead.{from_ending, line_end}
 use Rattle.md_seam.specs.Events.Nested.{pair}
-use Rattle.md_seam.specs.Standard.State.{Container}
+use Rattle.md_definition.specs.State.{Container}
 use Rattle.md_seam.proofs.FeedLines.{Stops}
 use Rattle.markdown_blocks.specs.Change.{ends_of, open_behind}
 use Rattle.markdown_blocks.specs.Fed.{fed, feeds, flow_begins, line_begins, not_left, place_behind}

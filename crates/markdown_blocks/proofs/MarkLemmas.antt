@@ -7,11 +7,11 @@ use Rattle.md_engine.specs.declared.event.Event.{Event}
 use Rattle.md_engine.specs.declared.event.Name.TheVariants.{ByteOrderMark}
 use Rattle.md_engine.specs.Place.{IsPlaced, IsReached, first_point, walked}
 use Rattle.md_seam.specs.Events.Nested.{Balanced, Forward, Nested, pair}
-use Rattle.md_seam.specs.Standard.Preamble.{has_mark, without_mark}
+use Rattle.md_definition.specs.Preamble.{has_mark, without_mark}
 use Rattle.md_seam.specs.Events.Spelled.{Reading, read, spelled, unread}
 use Rattle.md_seam.proofs.NestedLemmas.{balanced-append}
 use Rattle.md_seam.proofs.PlacesLemmas.{all-append}
-use Rattle.md_seam.proofs.PreambleLemmas.{mark-bytes, mark-length}
+use Rattle.md_definition.proofs.PreambleLemmas.{mark-bytes, mark-length}
 use Rattle.md_seam.proofs.SpelledLemmas.{read-from, read-quiet}
 use Rattle.md_outline.specs.Between.{is_between}
 use Rattle.md_outline.specs.HeadingDepths.{are_shallow}

@@ -10,7 +10,7 @@ use Rattle.md_engine.specs.declared.event.Name.{Name}
 use Rattle.md_engine.specs.declared.event.Point.{Point}
 use Rattle.md_seam.specs.Events.Nested.{Balanced, Forward, Matches, last_point, open_after}
 use Rattle.md_seam.specs.Events.Places.{at_or_before}
-use Rattle.md_seam.specs.Standard.State.{Container}
+use Rattle.md_definition.specs.State.{Container}
 use Rattle.md_seam.proofs.NestedLemmas.{at_or_before-refl, balanced-none, forward-append, forward-from, matches-append, open_after-append}
 use Rattle.markdown_blocks.specs.Change.{Change, ends_of, is_none, open_behind}
 use Rattle.markdown_blocks.specs.Fronted.{contained, rest_from, rest_line}

@@ -24,7 +24,7 @@ use Rattle.md_seam.specs.Events.Places.{past_byte, past_text}
 use Rattle.md_seam.specs.Events.Nested.{around, enter, enter_link, exit}
 use Rattle.md_seam.proofs.FeedLines.{HasEnding, begun-none, cell, columns_more, ending-feed, ending-some, feed-next, feed-none, next_column, past-next, past_ending, point_after-append, tab-end, tab-feed, tab_cells, tab_end, tab_end-last, tab_end-next, tab_end-stop}
 use Rattle.md_seam.proofs.PlacesLemmas.{at-next}
-use Rattle.md_seam.proofs.TextsLemmas.{Ending, EndsBefore, NoEnding, ending_bytes}
+use Rattle.md_definition.proofs.TextsLemmas.{Ending, EndsBefore, NoEnding, ending_bytes}
 use Rattle.markdown_blocks.specs.Rows.{Row, TextRow, behind_row, chunks_of, last_row}
 use Rattle.markdown_blocks.specs.Unread.{linked}
 use Rattle.markdown_blocks.proofs.FrontPlaces.{fronts-grow, fronts-line}

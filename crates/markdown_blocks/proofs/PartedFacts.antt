@@ -10,9 +10,9 @@ use Rattle.md_seam.specs.declared.inline.Chunk.{Chunk}
 use Rattle.md_seam.specs.Events.Inline.{plain_chunk}
 use Rattle.md_seam.specs.Events.Nested.{around, enter, exit}
 use Rattle.md_seam.specs.Events.Spelled.{IsEnding as EndingRole, IsPrefix as PrefixRole, IsQuiet, Role, Tells, byte_at, role}
-use Rattle.md_seam.specs.Standard.Rest.{is_blank}
+use Rattle.md_definition.specs.Rest.{is_blank}
 use Rattle.md_seam.specs.Events.Places.{last_line}
-use Rattle.md_seam.specs.Standard.Texts.{split_lines}
+use Rattle.md_definition.specs.Texts.{split_lines}
 use Rattle.md_seam.proofs.SpelledLemmas.{Quiet, QuietOrEnding, Roles}
 use Rattle.md_outline.specs.Between.{is_between}
 use Rattle.md_outline.specs.Outlined.{TextSpan as Span, are_parted, parts_by, span_by, begins_line}

@@ -4,10 +4,10 @@ use Rattle.md_engine.specs.declared.event.Event.{Event}
 use Rattle.md_engine.specs.declared.event.Point.{Point}
 use Rattle.md_engine.specs.declared.tokenizer.Line.{Line}
 use Rattle.md_engine.specs.Meaning.{Cell}
-use Rattle.md_seam.specs.Standard.Containers.{Taken}
+use Rattle.md_definition.specs.Containers.{Taken}
 use Rattle.md_seam.specs.Events.Nested.{enter}
 use Rattle.md_seam.proofs.RestCells.{RestAt, past_rest, rest_cells}
-use Rattle.md_seam.proofs.TextsLemmas.{NoEnding}
+use Rattle.md_definition.proofs.TextsLemmas.{NoEnding}
 use Rattle.markdown_blocks.specs.Registry.{container_name}
 use Rattle.markdown_blocks.specs.Passed.{Passed}
 use Rattle.markdown_blocks.proofs.RegistryRead.{IsRead}

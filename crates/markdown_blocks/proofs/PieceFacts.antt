@@ -11,7 +11,7 @@ use Rattle.md_seam.specs.Events.Inline.{Piece, is_one_line, pair_unless_empty, p
 use Rattle.md_seam.specs.Events.Nested.{around, exit, pair}
 use Rattle.md_seam.specs.Events.Pieces.{begins_in_tab, ends_in_tab, piece_stands, pieces_stand, stands_over}
 use Rattle.md_seam.specs.Events.Places.{past_byte, past_text, same_place}
-use Rattle.md_seam.specs.Standard.Texts.{split_lines}
+use Rattle.md_definition.specs.Texts.{split_lines}
 use Rattle.md_seam.proofs.FeedLines.{past_text-whole, slice-front}
 use Rattle.md_seam.proofs.InlineLemmas.{past-index}
 use Rattle.md_seam.proofs.PlacesLemmas.{apart-later}

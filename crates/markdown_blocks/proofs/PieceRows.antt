@@ -12,10 +12,10 @@ use Rattle.md_seam.specs.Events.Inline.{pieces}
 use Rattle.md_seam.specs.Events.Nested.{exit, pair}
 use Rattle.md_seam.specs.Events.Pieces.{pieces_stand, stands_over}
 use Rattle.md_seam.specs.Events.Places.{first_point}
-use Rattle.md_seam.specs.Standard.Preamble.{has_mark}
-use Rattle.md_seam.specs.Standard.State.{Container}
-use Rattle.md_seam.proofs.TextsLemmas.{Both, Ending, LineFeed, Return, ending_bytes}
-use Rattle.md_seam.proofs.PreambleLemmas.{mark-bytes}
+use Rattle.md_definition.specs.Preamble.{has_mark}
+use Rattle.md_definition.specs.State.{Container}
+use Rattle.md_definition.proofs.TextsLemmas.{Both, Ending, LineFeed, Return, ending_bytes}
+use Rattle.md_definition.proofs.PreambleLemmas.{mark-bytes}
 use Rattle.markdown_blocks.specs.Registry.{container_name}
 use Rattle.markdown_blocks.specs.Change.{ends_of}
 use Rattle.markdown_blocks.specs.Document.{body_point, mark_end, mark_events}

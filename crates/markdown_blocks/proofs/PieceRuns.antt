@@ -16,7 +16,7 @@ use Rattle.md_seam.specs.Events.Inline.{pieces, pieces_from}
 use Rattle.md_seam.specs.Events.Nested.{Matches, enter, exit, open_after}
 use Rattle.md_seam.specs.Events.Pieces.{piece_stands, pieces_stand, stands_over}
 use Rattle.md_seam.specs.Events.Places.{at_or_before, past_byte, past_text}
-use Rattle.md_seam.specs.Standard.Rest.{is_white}
+use Rattle.md_definition.specs.Rest.{is_white}
 use Rattle.md_seam.proofs.FeedLines.{before-byte, drop-past}
 use Rattle.md_seam.proofs.InlineLemmas.{past-index, past_text-append, same-refl}
 use Rattle.md_seam.proofs.NestedLemmas.{at_or_before-refl, at_or_before-trans}

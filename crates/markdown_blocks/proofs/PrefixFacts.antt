@@ -3,12 +3,12 @@
 use Rattle.std.proofs.Common.{◌≡◌, ◌≢◌, ℕ, true, List, [], ◌∷◌, ◌++◌}
 use Rattle.md_engine.specs.declared.event.Event.{Event}
 use Rattle.md_engine.specs.declared.event.Point.{Point}
-use Rattle.md_seam.specs.Standard.State.{Container}
+use Rattle.md_definition.specs.State.{Container}
 use Rattle.md_seam.specs.Events.Grammar.{Expression, behind_block, blocks}
 use Rattle.md_seam.specs.Events.Nested.{enter}
 use Rattle.md_seam.specs.Events.Spelled.{Holds, Reading, byte_at, read}
-use Rattle.md_seam.specs.Standard.Rest.{is_blank}
-use Rattle.md_seam.specs.Standard.Tree.{End}
+use Rattle.md_definition.specs.Rest.{is_blank}
+use Rattle.md_definition.specs.Tree.{End}
 use Rattle.std.specs.Prelude.{None}
 use Rattle.markdown_blocks.specs.Stands.{around_of}
 use Rattle.markdown_blocks.proofs.CollectFacts.{Collects}

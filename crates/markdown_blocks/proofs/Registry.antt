@@ -32,9 +32,9 @@ use Rattle.md_leaves.proofs.HeadingGoods.{HeadingFits, heading_does}
 use Rattle.md_leaves.proofs.HeadingSteps.{heading_steps}
 use Rattle.md_seam.specs.Ahead.{HasWhite}
 use Rattle.md_seam.specs.Spaces.{IsRest, rest_ready}
-use Rattle.md_seam.specs.Standard.Containers.{Taken, opens, opens_footnote, opens_item, opens_quote}
-use Rattle.md_seam.specs.Standard.Leaves.{Came, Finished, break_at, heading_at}
-use Rattle.md_seam.specs.Standard.Rest.{Rest}
+use Rattle.md_definition.specs.Containers.{Taken, opens, opens_footnote, opens_item, opens_quote}
+use Rattle.md_definition.specs.Leaves.{Came, Finished, break_at, heading_at}
+use Rattle.md_definition.specs.Rest.{Rest}
 use Rattle.md_seam.proofs.SpacesGoods.{Does, WhiteFits}
 use Rattle.markdown_blocks.specs.FlowRule.{Rule}
 use Rattle.markdown_blocks.specs.Leaf.HeadingAtx.{heading_leaf}

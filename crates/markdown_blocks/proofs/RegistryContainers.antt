@@ -8,11 +8,11 @@ use Rattle.md_engine.specs.ContainerName.{name_of}
 use Rattle.md_engine.specs.Meaning.{Cell, Here}
 use Rattle.md_containers.proofs.Shorter.{Shortens}
 use Rattle.md_seam.specs.Spaces.{IsRest}
-use Rattle.md_seam.specs.Standard.Containers.{Taken, continues, opens}
-use Rattle.md_seam.specs.Standard.Preamble.{rest_at}
-use Rattle.md_seam.specs.Standard.Rest.{Rest}
-use Rattle.md_seam.specs.Standard.State.{Container, container_block}
-use Rattle.md_seam.specs.Standard.Tree.{Blocks}
+use Rattle.md_definition.specs.Containers.{Taken, continues, opens}
+use Rattle.md_definition.specs.Preamble.{rest_at}
+use Rattle.md_definition.specs.Rest.{Rest}
+use Rattle.md_definition.specs.State.{Container, container_block}
+use Rattle.md_definition.specs.Tree.{Blocks}
 use Rattle.md_seam.proofs.RestCells.{past_rest, rest_cells}
 use Rattle.markdown_blocks.specs.Parsed.{IsBuilt}
 use Rattle.markdown_blocks.specs.Passed.{Passed, passed_by}

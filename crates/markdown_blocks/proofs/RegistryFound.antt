@@ -2,10 +2,10 @@
 use Rattle.std.proofs.Common.{◌≡◌, ℕ, Bool, true, false, cond, ◌==◌, ◌&&◌, ◌||◌, List, [], ◌∷◌, refl}
 use Rattle.std.specs.Prelude.{None}
 use Rattle.md_engine.specs.declared.configuration.ParseOptions.{ParseOptions}
-use Rattle.md_seam.specs.Standard.Leaves.{ParagraphContext, code_at, fence_at, fence_from, html_at, is_fence_marker, starts, table_at, underline_depth}
-use Rattle.md_seam.specs.Standard.Rest.{Rest, has_small_indent, indent, trim_start}
-use Rattle.md_seam.specs.Standard.State.{Kept}
-use Rattle.md_seam.specs.Standard.Tree.{Blocks}
+use Rattle.md_definition.specs.Leaves.{ParagraphContext, code_at, fence_at, fence_from, html_at, is_fence_marker, starts, table_at, underline_depth}
+use Rattle.md_definition.specs.Rest.{Rest, has_small_indent, indent, trim_start}
+use Rattle.md_definition.specs.State.{Kept}
+use Rattle.md_definition.specs.Tree.{Blocks}
 use Rattle.markdown_blocks.specs.Parsed.{IsBuilt}
 use Rattle.markdown_blocks.proofs.Registry.{came_of, leaf_at, leaves-found}
 

@@ -3,8 +3,8 @@ use Rattle.std.proofs.Common.{◌≡◌, ℕ, zero, suc, List, [], ◌∷◌, �
 use Rattle.std.specs.Prelude.{Option, Some, None}
 use Rattle.md_engine.specs.declared.tokenizer.container.name.ContainerKind.{ContainerKind}
 use Rattle.md_seam.specs.Events.Spelled.{Shape}
-use Rattle.md_seam.specs.Standard.Containers.{Taken}
-use Rattle.md_seam.specs.Standard.State.{Container}
+use Rattle.md_definition.specs.Containers.{Taken}
+use Rattle.md_definition.specs.State.{Container}
 use Rattle.markdown_blocks.specs.Registry.{IsOf, kind_of, shape_of}
 
 -- one of them has a kind

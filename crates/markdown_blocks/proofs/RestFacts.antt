@@ -11,10 +11,10 @@ use Rattle.md_containers.proofs.QuoteLines.{large-room, small-room}
 use Rattle.md_seam.specs.Ahead.{begins_white, line_bytes, line_cells, line_end, point_after, white_end, white_rest}
 use Rattle.md_seam.specs.Events.Places.{past_byte, past_text}
 use Rattle.md_seam.specs.Spaces.{small_indent}
-use Rattle.md_seam.specs.Standard.Rest.{Rest, behind_indent, cut_tab, has_small_indent, indent, is_white, lose, tab_columns, trim_start}
+use Rattle.md_definition.specs.Rest.{Rest, behind_indent, cut_tab, has_small_indent, indent, is_white, lose, tab_columns, trim_start}
 use Rattle.md_seam.proofs.FeedLines.{Stops, behind_last, bytes_of, cell, columns_more, line_cells-append, next_column, no_feed-spread, spread, spread-end, tab_cells, tab_end, tab_end-stop}
 use Rattle.md_seam.proofs.RestCells.{Bare, Cut, HasIndent, RestAt, bare, bare-cells, cells_by, indent-length, indent-over, indent-taken, rest_cells, without_first}
-use Rattle.md_seam.proofs.TextsLemmas.{NoEnding, no_ending-drop}
+use Rattle.md_definition.proofs.TextsLemmas.{NoEnding, no_ending-drop}
 use Rattle.markdown_blocks.specs.Fronted.{rest_line}
 use Rattle.markdown_blocks.proofs.LineTexts.{count-none, count-one}
 

@@ -10,10 +10,10 @@ use Rattle.md_leaves.specs.BlankRule.{blank_events}
 use Rattle.md_seam.specs.Ahead.{begins_white, from_ending, line_bytes, line_end}
 use Rattle.md_seam.specs.Events.Nested.{pair}
 use Rattle.md_seam.specs.Events.Places.{past_byte, past_text}
-use Rattle.md_seam.specs.Standard.Rest.{Rest, cut_tab, is_blank, is_white}
+use Rattle.md_definition.specs.Rest.{Rest, cut_tab, is_blank, is_white}
 use Rattle.md_seam.proofs.FeedLines.{Stops, all-spread, bytes_of, cell, columns_more, from_ending-append, no_feed-spread, past_text-whole, spread, stops-white, tab_cells, tab_end, tab_end-stop}
 use Rattle.md_seam.proofs.RestCells.{Cut, past_cut, past_rest, rest_cells}
-use Rattle.md_seam.proofs.TextsLemmas.{NoEnding}
+use Rattle.md_definition.proofs.TextsLemmas.{NoEnding}
 use Rattle.markdown_blocks.specs.Fronted.{rest_line}
 use Rattle.markdown_blocks.specs.Rows.{blank_line}
 use Rattle.markdown_blocks.proofs.PieceFacts.{CutsFirst, whole-first}

@@ -7,12 +7,12 @@ use Rattle.md_engine.specs.declared.event.Point.{Point}
 use Rattle.md_seam.specs.Events.Places.{past_text}
 pub use Rattle.md_seam.proofs.FeedLines.{IsEnding, slice-split}
 use Rattle.md_seam.proofs.RestCells.{Cut}
-use Rattle.md_seam.proofs.TextsLemmas.{NoEnding, ending_bytes}
-use Rattle.md_seam.specs.Standard.State.{Container}
+use Rattle.md_definition.proofs.TextsLemmas.{NoEnding, ending_bytes}
+use Rattle.md_definition.specs.State.{Container}
 use Rattle.markdown_blocks.specs.Registry.{LeafName, leaf}
 use Rattle.markdown_blocks.specs.Change.{open_behind}
 use Rattle.markdown_blocks.proofs.LeafFacts.{LineAt}
-use Rattle.md_seam.specs.Standard.Rest.{Rest}
+use Rattle.md_definition.specs.Rest.{Rest}
 use Rattle.markdown_blocks.specs.Fronted.{contained, rest_from, rest_line}
 use Rattle.markdown_blocks.specs.Rows.{leaf_behind, BlankRow, LeafRow, Row, TextRow, blank_line, is_text, line_kind}
 use Rattle.markdown_blocks.proofs.FrontFacts.{LinePrefix}

@@ -14,13 +14,13 @@ use Rattle.md_engine.specs.World.{Setting}
 use Rattle.md_engine.proofs.TextFeed.{text-follows}
 use Rattle.md_seam.specs.Ahead.{from_ending, line_end}
 use Rattle.md_seam.specs.Events.Places.{past_text}
-use Rattle.md_seam.specs.Standard.Rest.{Rest}
-use Rattle.md_seam.specs.Standard.State.{Container}
-use Rattle.md_seam.specs.Standard.Texts.{split_lines}
+use Rattle.md_definition.specs.Rest.{Rest}
+use Rattle.md_definition.specs.State.{Container}
+use Rattle.md_definition.specs.Texts.{split_lines}
 use Rattle.md_seam.proofs.FeedLines.{HasEnding, HasLine, Stops, begun-none, cell, drop-past, ending-feed, ending-some, feed-none, front-within, is-ending, line-feed, past_ending, slice-front, spread}
 use Rattle.md_seam.proofs.InlineLemmas.{past-index}
 use Rattle.md_seam.proofs.RestCells.{RestAt, rest_cells}
-use Rattle.md_seam.proofs.TextsLemmas.{Both, Ending, EndsBefore, LineFeed, NoEnding, Return, ending_bytes, split-line, split-next}
+use Rattle.md_definition.proofs.TextsLemmas.{Both, Ending, EndsBefore, LineFeed, NoEnding, Return, ending_bytes, split-line, split-next}
 use Rattle.markdown_blocks.specs.Change.{open_behind}
 use Rattle.markdown_blocks.specs.FlowReads.{text_cells, text_rows, text_setting}
 use Rattle.markdown_blocks.specs.Fronted.{Contained, contained, rest_from, rest_line}

@@ -1,9 +1,9 @@
 -- Blocks that make no list, and that an outline can show: what they come to is what stands in the tree of a text.
 use Rattle.std.proofs.Common.{◌≡◌, true, refl, ap, ◌∙◌}
 use Rattle.std.proofs.lemmas.Bool.{and_from}
-use Rattle.md_seam.specs.Standard.Grouped.{grouped, grouped_block, with_front}
-use Rattle.md_seam.specs.Standard.State.{then_block}
-use Rattle.md_seam.specs.Standard.Tree.{Block, Blocks, End, More}
+use Rattle.md_definition.specs.Grouped.{grouped, grouped_block, with_front}
+use Rattle.md_definition.specs.State.{then_block}
+use Rattle.md_definition.specs.Tree.{Block, Blocks, End, More}
 use Rattle.md_outline.specs.HeadingDepths.{are_shallow, is_shallow}
 
 pub record IsSimple (b : Block) : Type 0 where

@@ -10,18 +10,18 @@ use Rattle.md_engine.specs.declared.event.Name.TheVariants as n
 use Rattle.md_engine.specs.declared.event.Point.{Point}
 use Rattle.md_seam.specs.declared.inline.Chunk.{Chunk}
 use Rattle.md_seam.specs.Events.Inline.{plain_chunk}
-use Rattle.md_seam.specs.Standard.Lines.{begins_with}
+use Rattle.md_definition.specs.Lines.{begins_with}
 use Rattle.md_seam.specs.Events.Nested.{around}
-use Rattle.md_seam.specs.Standard.Rest.{is_blank, is_white, trim_start}
+use Rattle.md_definition.specs.Rest.{is_blank, is_white, trim_start}
 use Rattle.md_seam.specs.Events.Spelled.{Reading, Text, add_block, begun, byte_at, read, text_to}
-use Rattle.md_seam.specs.Standard.State.{Container, Kept, kept, texts}
-use Rattle.md_seam.specs.Standard.Texts.{trim_each}
-use Rattle.md_seam.specs.Standard.Tree.{Paragraph}
+use Rattle.md_definition.specs.State.{Container, Kept, kept, texts}
+use Rattle.md_definition.specs.Texts.{trim_each}
+use Rattle.md_definition.specs.Tree.{Paragraph}
 use Rattle.md_seam.proofs.ParagraphReads.{read-paragraph}
 use Rattle.md_seam.proofs.FeedLines.{slice-inside}
 use Rattle.md_seam.proofs.RestCells.{Cut}
 use Rattle.md_seam.proofs.SpelledLemmas.{Between, QuietOrEnding, Roles, roles-append, text_after}
-use Rattle.md_seam.proofs.TextsLemmas.{Both, Ending, EndsBefore, IsOfLines, LineFeed, NoEnding, Return, ending_bytes}
+use Rattle.md_definition.proofs.TextsLemmas.{Both, Ending, EndsBefore, IsOfLines, LineFeed, NoEnding, Return, ending_bytes}
 use Rattle.md_outline.proofs.TextCuts.{trim-blank}
 use Rattle.markdown_blocks.specs.Fronted.{cut_tab}
 use Rattle.markdown_blocks.specs.Registry.{LeafName}

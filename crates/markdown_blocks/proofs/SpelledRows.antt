@@ -10,12 +10,12 @@ use Rattle.md_engine.specs.declared.event.Name.{Name}
 use Rattle.md_engine.specs.declared.event.Name.TheVariants as n
 use Rattle.md_engine.specs.declared.event.Point.{Point}
 use Rattle.md_seam.specs.Events.Nested.{around, enter, exit}
-use Rattle.md_seam.specs.Standard.Preamble.{rest_at}
-use Rattle.md_seam.specs.Standard.Rest.{Rest}
+use Rattle.md_definition.specs.Preamble.{rest_at}
+use Rattle.md_definition.specs.Rest.{Rest}
 use Rattle.md_seam.specs.Events.Spelled.{Around, Reading, Shape, add_block, left, read, role, spelled, unread}
-use Rattle.md_seam.specs.Standard.State.{At, Container, Kept, Leaf, NoLeaf, Path, Spot, Within, closed, kept, shut, spot, texts, then_block, then_leaf}
-use Rattle.md_seam.specs.Standard.Step.{spot_of, step, steps}
-use Rattle.md_seam.specs.Standard.Tree.{Block, Blocks, End}
+use Rattle.md_definition.specs.State.{At, Container, Kept, Leaf, NoLeaf, Path, Spot, Within, closed, kept, shut, spot, texts, then_block, then_leaf}
+use Rattle.md_definition.specs.Step.{spot_of, step, steps}
+use Rattle.md_definition.specs.Tree.{Block, Blocks, End}
 use Rattle.md_seam.proofs.SpelledLemmas.{Between, QuietOrPrefix, Roles, read-between, read-from, read-prefixes}
 use Rattle.markdown_blocks.specs.Registry.{container_name, shape_of, text_leaf}
 use Rattle.markdown_blocks.specs.Change.{Change, ends_of, is_none}

@@ -10,12 +10,12 @@ use Rattle.md_engine.specs.Resolvers.{same_name}
 use Rattle.md_engine.specs.Run.{Runs}
 use Rattle.md_engine.specs.TextFeed.{text_feed}
 use Rattle.md_engine.specs.World.{Flags, World}
-use Rattle.md_seam.specs.Standard.Rest.{Rest}
+use Rattle.md_definition.specs.Rest.{Rest}
 use Rattle.md_seam.specs.Events.Spelled.{Reading, read, unread}
-use Rattle.md_seam.specs.Standard.State.{At, Container, Path}
-use Rattle.md_seam.specs.Standard.Step.{spot_of, step, steps}
-use Rattle.md_seam.specs.Standard.Texts.{split_lines}
-use Rattle.md_seam.specs.Standard.Tree.{End}
+use Rattle.md_definition.specs.State.{At, Container, Path}
+use Rattle.md_definition.specs.Step.{spot_of, step, steps}
+use Rattle.md_definition.specs.Texts.{split_lines}
+use Rattle.md_definition.specs.Tree.{End}
 use Rattle.markdown_blocks.specs.Change.{open_behind}
 use Rattle.markdown_blocks.specs.Fed.{FlowRan, StandsBehind, fed, flow_begins, last_leaves, close_containers, line_begins, rests_from}
 use Rattle.markdown_blocks.specs.Fronted.{rest_from}

@@ -4,8 +4,8 @@ use Rattle.std.proofs.Common.{◌≡◌, ℕ, false, List, ◌∷◌}
 use Rattle.md_engine.specs.declared.configuration.ParseOptions.{ParseOptions}
 use Rattle.md_content.specs.ContentReads.{content_events}
 use Rattle.md_seam.specs.declared.inline.Chunk.{Chunk}
-use Rattle.md_seam.specs.Standard.State.{Kept, Leaf, NoLeaf, texts, then_leaf}
-use Rattle.md_seam.specs.Standard.Tree.{Blocks}
+use Rattle.md_definition.specs.State.{Kept, Leaf, NoLeaf, texts, then_leaf}
+use Rattle.md_definition.specs.Tree.{Blocks}
 use Rattle.markdown_blocks.specs.HeldLeaf.{IsBuiltLeaf}
 use Rattle.markdown_blocks.specs.TextLeaf.{TextLeaf}
 use Rattle.markdown_blocks.proofs.OutsideFacts.{AreOutside}

@@ -2,12 +2,12 @@
 use Rattle.std.proofs.Common.{◌≡◌, ℕ, true, List, ap, ◌∙◌, sym}
 use Rattle.md_engine.specs.declared.configuration.ParseOptions.{ParseOptions}
 use Rattle.md_engine.specs.declared.event.Event.{Event}
-use Rattle.md_seam.specs.Standard.Lines.{lines_of}
-use Rattle.md_seam.specs.Standard.Meaning.{tree}
+use Rattle.md_definition.specs.Lines.{lines_of}
+use Rattle.md_definition.specs.Meaning.{tree}
 use Rattle.md_seam.specs.Events.Spelled.{spelled}
-use Rattle.md_seam.specs.Standard.Tree.{Blocks, End, More, Quote}
-use Rattle.md_seam.specs.Standard.Wrapped.{quoted}
-use Rattle.md_seam.proofs.QuoteLaw.{quote-law}
+use Rattle.md_definition.specs.Tree.{Blocks, End, More, Quote}
+use Rattle.md_definition.specs.Wrapped.{quoted}
+use Rattle.md_definition.proofs.QuoteLaw.{quote-law}
 use Rattle.markdown_blocks.specs.Parsed.{IsBuilt, IsQuotable}
 use Rattle.markdown_blocks.proofs.TreeRows.{front-off}
 

@@ -13,8 +13,8 @@ use Rattle.md_content.specs.Paragraph.{text_link}
 use Rattle.md_seam.specs.Events.Inline.{Covers, pieces}
 use Rattle.md_seam.specs.Events.Nested.{around, enter_link, exit, pair}
 use Rattle.md_seam.specs.Events.Places.{first_point, same_place}
-use Rattle.md_seam.specs.Standard.Preamble.{has_mark}
-use Rattle.md_seam.specs.Standard.State.{Container}
+use Rattle.md_definition.specs.Preamble.{has_mark}
+use Rattle.md_definition.specs.State.{Container}
 use Rattle.md_seam.specs.Events.Tiles.{end_point}
 use Rattle.md_seam.proofs.InlineLemmas.{same-refl}
 use Rattle.markdown_blocks.specs.Registry.{container_name, text_leaf}

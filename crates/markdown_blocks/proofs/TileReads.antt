@@ -13,8 +13,8 @@ use Rattle.md_engine.specs.Place.{first_point}
 use Rattle.md_engine.specs.TextFeed.{text_feed}
 use Rattle.md_seam.specs.Events.Inline.{Part, together}
 use Rattle.md_seam.specs.Events.Nested.{pair}
-use Rattle.md_seam.specs.Standard.Preamble.{has_mark}
-use Rattle.md_seam.specs.Standard.State.{Container}
+use Rattle.md_definition.specs.Preamble.{has_mark}
+use Rattle.md_definition.specs.State.{Container}
 use Rattle.md_seam.specs.Events.Tiles.{EachRead, filled, filled_from, part_kind, parts, plain_lists, plain_read}
 use Rattle.markdown_blocks.specs.Change.{ends_of}
 use Rattle.markdown_blocks.specs.Document.{body_point, mark_end, mark_events}

@@ -9,18 +9,18 @@ use Rattle.std.proofs.lemmas.List.Sums.{take_while-cons}
 use Rattle.md_engine.specs.declared.configuration.ParseOptions.{ParseOptions}
 use Rattle.md_engine.specs.declared.event.Point.{Point}
 use Rattle.md_engine.specs.Place.{first_point}
-use Rattle.md_seam.specs.Standard.Containers.{Taken, opens}
-use Rattle.md_seam.specs.Standard.Grouped.{grouped}
-use Rattle.md_seam.specs.Standard.Lines.{begins_with, ends_line, full_lines_of, is_ending, lines_of, without_ending}
-use Rattle.md_seam.specs.Standard.Meaning.{tree, with_frontmatter}
-use Rattle.md_seam.specs.Standard.Preamble.{Preamble, first_column, front_of, has_mark, preamble, preamble_by, rest_at, rests_at, without_mark}
-use Rattle.md_seam.specs.Standard.Rest.{Rest}
+use Rattle.md_definition.specs.Containers.{Taken, opens}
+use Rattle.md_definition.specs.Grouped.{grouped}
+use Rattle.md_definition.specs.Lines.{begins_with, ends_line, full_lines_of, is_ending, lines_of, without_ending}
+use Rattle.md_definition.specs.Meaning.{tree, with_frontmatter}
+use Rattle.md_definition.specs.Preamble.{Preamble, first_column, front_of, has_mark, preamble, preamble_by, rest_at, rests_at, without_mark}
+use Rattle.md_definition.specs.Rest.{Rest}
 use Rattle.md_seam.specs.Events.Spelled.{spelled}
-use Rattle.md_seam.specs.Standard.State.{At, Container, Kept, Leaf, Path, Spot, Within, closed, container_block, kept, shut, texts, then_leaf}
-use Rattle.md_seam.specs.Standard.Step.{fresh_line, spot_of, step, steps}
-use Rattle.md_seam.specs.Standard.Texts.{split_lines}
-use Rattle.md_seam.specs.Standard.Tree.{Blocks, End}
-use Rattle.md_seam.proofs.LinesLemmas.{without_ending-onto}
+use Rattle.md_definition.specs.State.{At, Container, Kept, Leaf, Path, Spot, Within, closed, container_block, kept, shut, texts, then_leaf}
+use Rattle.md_definition.specs.Step.{fresh_line, spot_of, step, steps}
+use Rattle.md_definition.specs.Texts.{split_lines}
+use Rattle.md_definition.specs.Tree.{Blocks, End}
+use Rattle.md_definition.proofs.LinesLemmas.{without_ending-onto}
 use Rattle.markdown_blocks.specs.Change.{change_by, interrupts, others_of}
 use Rattle.markdown_blocks.specs.Document.{body_point, mark_end}
 use Rattle.markdown_blocks.specs.Fed.{rests_from}

@@ -8,9 +8,9 @@ use Rattle.md_engine.specs.declared.event.Point.{Point}
 use Rattle.md_engine.specs.declared.state.Name.{Name as StateName}
 use Rattle.md_engine.specs.declared.tokenizer.container.Container.{Container as Held}
 use Rattle.md_engine.specs.Meaning.{Cell, Here, Outcome}
-use Rattle.md_seam.specs.Standard.Containers.{Taken}
-use Rattle.md_seam.specs.Standard.Rest.{Rest}
-use Rattle.md_seam.specs.Standard.State.{Container}
+use Rattle.md_definition.specs.Containers.{Taken}
+use Rattle.md_definition.specs.Rest.{Rest}
+use Rattle.md_definition.specs.State.{Container}
 use Rattle.markdown_blocks.specs.Passed.{Passed}
 
 pub record ContainerRules : Type 1 where

@@ -15,7 +15,7 @@ use Rattle.md_engine.specs.Scheme.{Rank, Scheme, Spot, nowhere, of_owners, ranke
 use Rattle.md_engine.specs.World.{World}
 use Rattle.md_leaves.specs.Bom.{bom_scheme, bom_transition}
 use Rattle.md_seam.specs.Events.Nested.{pair}
-use Rattle.md_seam.specs.Standard.Preamble.{has_mark}
+use Rattle.md_definition.specs.Preamble.{has_mark}
 use Rattle.md_seam.specs.Spaces.{rest_ready}
 use Rattle.md_seam.specs.Transition.{Transition, tried}
 use Rattle.markdown_blocks.specs.Flow.{containers_after_transition, existing_after_transition, existing_before_transition, flow_end_transition, new_after_transition, new_before_transition}

@@ -12,13 +12,13 @@ use Rattle.md_engine.specs.Resolvers.{same_name}
 use Rattle.md_engine.specs.Run.{Calls, Runs, Step}
 use Rattle.md_engine.specs.Run.Runs.{Stays, ThenCalls, ThenLeaves}
 use Rattle.md_engine.specs.World.{World, fresh, looks, reads_to}
-use Rattle.md_seam.specs.Standard.Preamble.{rest_at}
-use Rattle.md_seam.specs.Standard.Rest.{Rest}
+use Rattle.md_definition.specs.Preamble.{rest_at}
+use Rattle.md_definition.specs.Rest.{Rest}
 use Rattle.md_seam.specs.Events.Spelled.{Reading, left, read, unread}
-use Rattle.md_seam.specs.Standard.State.{At, Container, Path}
-use Rattle.md_seam.specs.Standard.Step.{spot_of, steps}
-use Rattle.md_seam.specs.Standard.Texts.{split_lines}
-use Rattle.md_seam.specs.Standard.Tree.{End}
+use Rattle.md_definition.specs.State.{At, Container, Path}
+use Rattle.md_definition.specs.Step.{spot_of, steps}
+use Rattle.md_definition.specs.Texts.{split_lines}
+use Rattle.md_definition.specs.Tree.{End}
 use Rattle.markdown_blocks.specs.Fronted.{rest_from}
 use Rattle.markdown_blocks.specs.Parsed.{IsBuilt}
 use Rattle.markdown_blocks.specs.Rows.{Row, behind_row, groups, groups_events, rows_events}

@@ -3,10 +3,10 @@ use Rattle.md_engine.specs.declared.tokenizer.held_leaf.HeldLeaf.{HeldLeaf}
 use Rattle.std.specs.Prelude.{ℕ, zero, suc, ◌-◌, Bool, false, List, [], ◌∷◌, ◌++◌, length, Some, None}
 use Rattle.md_engine.specs.declared.configuration.ParseOptions.{ParseOptions}
 use Rattle.md_engine.specs.declared.event.Point.{Point}
-use Rattle.md_seam.specs.Standard.Containers.{continues, opens}
-pub use Rattle.md_seam.specs.Standard.Rest.{cut_tab}
-use Rattle.md_seam.specs.Standard.Rest.{Rest}
-use Rattle.md_seam.specs.Standard.State.{Container}
+use Rattle.md_definition.specs.Containers.{continues, opens}
+pub use Rattle.md_definition.specs.Rest.{cut_tab}
+use Rattle.md_definition.specs.Rest.{Rest}
+use Rattle.md_definition.specs.State.{Container}
 use Rattle.markdown_blocks.specs.Change.{Change, change_by, interrupts, others_of}
 use Rattle.markdown_blocks.specs.Rows.{is_lazy, line_kind}
 

@@ -5,7 +5,7 @@
 use Rattle.std.specs.Prelude.{◌≡◌, Bool, true, false, List, ◌∷◌}
 use Rattle.md_engine.specs.declared.tokenizer.held_leaf.HeldLeaf.{HeldLeaf}
 use Rattle.md_engine.specs.declared.tokenizer.held_leaf.HeldLeaf.TheVariants as held_leaf
-use Rattle.md_seam.specs.Standard.State.{Leaf, NoLeaf, OpenParagraph}
+use Rattle.md_definition.specs.State.{Leaf, NoLeaf, OpenParagraph}
 use Rattle.markdown_blocks.specs.Leaf.Paragraph.{IsOpenText}
 
 -- whether a line goes on it that starts no other leaf, although not all containers went on (CommonMark 5.1, "laziness")

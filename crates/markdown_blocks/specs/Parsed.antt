@@ -8,16 +8,16 @@ use Rattle.md_seam.specs.Events.Endings.{endings_stand}
 use Rattle.md_seam.specs.Events.Grammar.{keeps_grammar, plain_text}
 use Rattle.md_seam.specs.Events.Held.{Holds}
 use Rattle.md_seam.specs.Events.Inline.{Part, pieces, plain_events}
-use Rattle.md_seam.specs.Standard.Meaning.{tree}
+use Rattle.md_definition.specs.Meaning.{tree}
 use Rattle.md_seam.specs.Events.Nested.{Nested}
 use Rattle.md_seam.specs.Events.On.{are_on}
 use Rattle.md_seam.specs.Events.Pieces.{pieces_stand}
 use Rattle.md_seam.specs.Events.Places.{are_placed}
-use Rattle.md_seam.specs.Standard.Preamble.{has_mark}
+use Rattle.md_definition.specs.Preamble.{has_mark}
 use Rattle.md_seam.specs.Events.Spelled.{spelled}
 use Rattle.md_seam.specs.Events.Tiles.{Tiles, plain_read}
-use Rattle.md_seam.specs.Standard.Tree.{End, More, Quote}
-use Rattle.md_seam.specs.Standard.Wrapped.{quoted}
+use Rattle.md_definition.specs.Tree.{End, More, Quote}
+use Rattle.md_definition.specs.Wrapped.{quoted}
 use Rattle.md_outline.specs.Outlined.{IsOutlined}
 use Rattle.markdown_blocks.specs.BlockList.{block_list}
 

@@ -3,7 +3,7 @@ use Rattle.std.specs.Prelude.{List, ◌++◌, Option, Some, None}
 use Rattle.md_engine.specs.declared.event.Event.{Event}
 use Rattle.md_engine.specs.declared.event.Point.{Point}
 use Rattle.md_engine.specs.Meaning.{Accepts, Cell, Here, Outcome, Refuses}
-use Rattle.md_seam.specs.Standard.State.{Container}
+use Rattle.md_definition.specs.State.{Container}
 
 -- one that goes on or opens: what stands in front of its content, and what is left behind it
 pub record Passed : Type 0 where

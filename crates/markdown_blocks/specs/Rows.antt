@@ -16,8 +16,8 @@ use Rattle.md_seam.specs.Ahead.{from_ending, line_bytes, line_end}
 use Rattle.md_seam.specs.Events.Inline.{plain_chunk}
 use Rattle.md_seam.specs.Events.Places.{past_text}
 use Rattle.md_seam.specs.Events.Nested.{around, enter_link, exit, pair}
-use Rattle.md_seam.specs.Standard.Rest.{Rest, is_blank}
-use Rattle.md_seam.specs.Standard.State.{Container}
+use Rattle.md_definition.specs.Rest.{Rest, is_blank}
+use Rattle.md_definition.specs.State.{Container}
 use Rattle.markdown_blocks.specs.Passed.{Passed}
 use Rattle.markdown_blocks.specs.Registry.{LeafName, first_of, goes_at, leaf, opens_at, text_leaf, trials}
 use Rattle.markdown_blocks.specs.Change.{Change, change_by, ends_of, interrupts, is_none, open_behind, others_of}

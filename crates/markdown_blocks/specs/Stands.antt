@@ -12,10 +12,10 @@ use Rattle.md_engine.specs.declared.tokenizer.container.Container.{Container as 
 use Rattle.md_engine.specs.World.{Flags}
 use Rattle.md_seam.specs.Events.Spelled.{Around, Reading}
 use Rattle.markdown_blocks.specs.Registry.{MatchesContainer, shape_of}
-use Rattle.md_seam.specs.Standard.State.{At, Container, Leaf, NoLeaf, Path, Within, closed, shut, spot}
+use Rattle.md_definition.specs.State.{At, Container, Leaf, NoLeaf, Path, Within, closed, shut, spot}
 use Rattle.markdown_blocks.specs.Leaf.Paragraph.{IsOpenText}
-use Rattle.md_seam.specs.Standard.Step.{is_open_text}
-use Rattle.md_seam.specs.Standard.Tree.{Blocks}
+use Rattle.md_definition.specs.Step.{is_open_text}
+use Rattle.md_definition.specs.Tree.{Blocks}
 
 -- What was read.
 

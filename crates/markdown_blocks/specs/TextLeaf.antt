@@ -2,8 +2,8 @@
 use Rattle.std.specs.Prelude.{ℕ, List}
 use Rattle.md_engine.specs.declared.event.Link.{Link}
 use Rattle.md_engine.specs.declared.event.Name.{Name}
-use Rattle.md_seam.specs.Standard.State.{Kept, Leaf}
-use Rattle.md_seam.specs.Standard.Tree.{Block, Blocks}
+use Rattle.md_definition.specs.State.{Kept, Leaf}
+use Rattle.md_definition.specs.Tree.{Block, Blocks}
 
 pub record TextLeaf : Type 0 where
   -- its name, from the point where its first line begins to the one where its last ends

@@ -11,7 +11,7 @@ use Rattle.md_containers.specs.QuoteRule.{at_marker, behind_end, behind_events, 
 use Rattle.md_containers.proofs.QuoteSteps.{quote-off, quote-on}
 use Rattle.md_seam.specs.Ahead.{begins_white, white_end, white_rest}
 use Rattle.md_seam.specs.Events.Nested.{enter, exit, pair}
-use Rattle.md_seam.specs.Standard.Rest.{is_white}
+use Rattle.md_definition.specs.Rest.{is_white}
 use Rattle.md_seam.specs.Spaces.{IsRest, small_indent}
 use Rattle.md_seam.proofs.AheadLemmas.{none-end, none-rest}
 use Rattle.md_seam.proofs.RestCells.{white-length}

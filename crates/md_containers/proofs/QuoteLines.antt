@@ -13,21 +13,21 @@ use Rattle.md_engine.specs.declared.tokenizer.Line.{Line}
 use Rattle.md_engine.specs.Meaning.{Cell}
 use Rattle.md_containers.specs.QuoteRule.{behind_end, behind_events, behind_rest, has_marker, marker_end, marker_events, marker_rest, prefix_end, prefix_events, prefix_rest, takes_prefix}
 use Rattle.md_seam.specs.Ahead.{begins_white, white_end, white_rest}
-use Rattle.md_seam.specs.Standard.Containers.{Taken, quote_taken}
+use Rattle.md_definition.specs.Containers.{Taken, quote_taken}
 use Rattle.md_seam.specs.Events.Inline.{pair_unless_empty}
-use Rattle.md_seam.specs.Standard.Lines.{begins_with}
+use Rattle.md_definition.specs.Lines.{begins_with}
 use Rattle.md_seam.specs.Events.Nested.{enter, exit, pair}
 use Rattle.md_seam.specs.Events.Places.{at_or_before, past_byte, past_text, same_place}
-use Rattle.md_seam.specs.Standard.Rest.{Rest, behind, behind_indent, has_small_indent, indent, is_blank, is_white, lose, white_columns}
+use Rattle.md_definition.specs.Rest.{Rest, behind, behind_indent, has_small_indent, indent, is_blank, is_white, lose, white_columns}
 use Rattle.md_seam.specs.Spaces.{any_size, small_indent}
-use Rattle.md_seam.specs.Standard.State.{InQuote}
+use Rattle.md_definition.specs.State.{InQuote}
 use Rattle.md_seam.proofs.AheadLemmas.{none-end}
 use Rattle.md_seam.proofs.FeedLines.{Stops, behind_last, byte-one, cell, columns_more, next_column, past-next, slice-front, slice-split, spread, tab_cells}
 use Rattle.md_seam.proofs.InlineLemmas.{same-refl}
 use Rattle.md_seam.proofs.NestedLemmas.{at_or_before-refl, at_or_before-trans}
 use Rattle.md_seam.proofs.PlainSteps.{range-none}
 use Rattle.md_seam.proofs.RestCells.{Bare, HasColumn, RestAt, bare, bare-cells, bare-same, behind-no_ending, cells_by, column-end, column-first, indent-length, indent-over, indent-taken, lose-no_ending, past_cut, past_rest, rest_cells, white-length, without_first}
-use Rattle.md_seam.proofs.TextsLemmas.{NoEnding}
+use Rattle.md_definition.proofs.TextsLemmas.{NoEnding}
 
 -- The prefix of a quote, from a point to a point: whitespace, `>`, and at most one column of whitespace.
 pub record IsPrefix (bytes : List ℕ) (p q : Point) (es : List Event) : Type 0 where

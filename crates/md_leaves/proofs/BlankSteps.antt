@@ -17,7 +17,7 @@ use Rattle.md_leaves.specs.Blank.{after_code, blank_transition, start_code}
 use Rattle.md_leaves.specs.BlankRule.{HasBlank, after_blank, blank_at}
 use Rattle.md_seam.specs.Ahead.{begins_white, from_ending, line_bytes, line_end, white_end, white_rest}
 use Rattle.md_seam.specs.Events.Nested.{enter, exit}
-use Rattle.md_seam.specs.Standard.Rest.{is_blank, is_white}
+use Rattle.md_definition.specs.Rest.{is_blank, is_white}
 use Rattle.md_seam.specs.Spaces.{IsRest, any_size, asking, calmed, ends_line, sees_white}
 use Rattle.md_seam.proofs.WhiteSteps.{begins-seen, behind_white, white-tried}
 use Rattle.md_seam.proofs.AheadLemmas.{white-no_ending}

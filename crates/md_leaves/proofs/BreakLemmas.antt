@@ -11,7 +11,7 @@ use Rattle.md_leaves.specs.BreakRule.{Apart, Marks, Run, White, at_break, before
 use Rattle.md_leaves.proofs.LeafSteps.{TakesWhite}
 use Rattle.md_seam.specs.Ahead.{line_bytes}
 use Rattle.md_seam.specs.Events.Nested.{enter, exit}
-use Rattle.md_seam.specs.Standard.Rest.{is_white}
+use Rattle.md_definition.specs.Rest.{is_white}
 use Rattle.md_seam.proofs.AheadLemmas.{white-no_ending}
 
 pub marks-none : (m : ℕ) → marks m [] ≡ 0

@@ -24,7 +24,7 @@ use Rattle.md_leaves.proofs.LeafStart.{HasStart, start-steps}
 use Rattle.md_leaves.proofs.LeafSteps.{sees-one, white_frame, behind-joined, white-run}
 use Rattle.md_seam.specs.Ahead.{white_rest}
 use Rattle.md_seam.specs.Events.Nested.{enter, exit}
-use Rattle.md_seam.specs.Standard.Rest.{is_white}
+use Rattle.md_definition.specs.Rest.{is_white}
 use Rattle.md_seam.specs.Spaces.{IsRest, any_size, ends_line, is_current, sees_white}
 use Rattle.md_seam.proofs.WhiteSteps.{begins-seen, white-tried}
 

@@ -28,7 +28,7 @@ use Rattle.md_leaves.proofs.LeafSteps.{sees-one, white_frame, behind-joined, whi
 use Rattle.md_leaves.proofs.HeadingLemmas.{apart-none, apart-white, before-hash, before-other, opening-ends, opening-full, opening-more, opening-none, opening-text, opening-white, run-begins, run-ends, run-ends_line, run-ends_none, run-more, white-no_hash, takes-white}
 use Rattle.md_seam.specs.Ahead.{white_rest}
 use Rattle.md_seam.specs.Events.Nested.{enter, exit}
-use Rattle.md_seam.specs.Standard.Rest.{is_white}
+use Rattle.md_definition.specs.Rest.{is_white}
 use Rattle.md_seam.specs.Spaces.{IsRest, any_size, calmed, ends_line, is_current, sees_white}
 use Rattle.md_seam.specs.Transition.{Transition}
 use Rattle.md_seam.proofs.WhiteSteps.{begins-seen, white-tried}

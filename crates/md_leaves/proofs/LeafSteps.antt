@@ -11,7 +11,7 @@ use Rattle.md_engine.specs.World.{World, after}
 use Rattle.md_engine.proofs.StepOf.{Sees, ahead, cell_here}
 use Rattle.md_seam.specs.Ahead.{white_rest, white_end}
 use Rattle.md_seam.specs.Events.Nested.{enter, exit}
-use Rattle.md_seam.specs.Standard.Rest.{is_white}
+use Rattle.md_definition.specs.Rest.{is_white}
 use Rattle.md_seam.specs.Spaces.{calmed}
 use Rattle.md_seam.proofs.WhiteSteps.{behind_white}
 

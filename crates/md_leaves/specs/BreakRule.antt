@@ -13,9 +13,9 @@ use Rattle.md_engine.specs.Meaning.{Accepts, Behaviour, Cell, Here, Outcome, Ref
 use Rattle.md_leaves.specs.LeafStart.{start_at}
 use Rattle.md_leaves.specs.Break.{without_marker}
 use Rattle.md_seam.specs.Ahead.{HasWhite, begins_white, from_ending, line_bytes, line_cells, line_end}
-use Rattle.md_seam.specs.Standard.Leaves.{is_rule}
+use Rattle.md_definition.specs.Leaves.{is_rule}
 use Rattle.md_seam.specs.Events.Nested.{enter, exit}
-use Rattle.md_seam.specs.Standard.Rest.{is_white}
+use Rattle.md_definition.specs.Rest.{is_white}
 
 -- in which run of a line a place lies
 pub data Run : Type 0 where

@@ -16,7 +16,7 @@ use Rattle.md_engine.specs.Scheme.{After, Ends, Rank, Scheme, Spot, ranked, seen
 use Rattle.md_engine.specs.World.{World, registered}
 use Rattle.md_leaves.specs.LeafStart as leaf
 use Rattle.md_seam.specs.Look.{white_or}
-use Rattle.md_seam.specs.Standard.Rest.{is_white}
+use Rattle.md_definition.specs.Rest.{is_white}
 use Rattle.md_seam.specs.Spaces.{any_size, ends_line, IsRest, is_current, rest_ready, sees_white, white_then}
 use Rattle.md_seam.specs.Transition.{Transition, entered, entered_link, exited, taken}
 

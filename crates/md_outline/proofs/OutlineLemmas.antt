@@ -11,15 +11,15 @@ use Rattle.md_engine.specs.declared.event.Event.{Event}
 use Rattle.md_engine.specs.declared.event.Kind.{Kind}
 use Rattle.md_engine.specs.declared.event.Kind.TheVariants.{Enter, Exit}
 use Rattle.md_engine.specs.declared.event.Point.{Point}
-use Rattle.md_seam.specs.declared.outline.Word.{Word}
-use Rattle.md_seam.specs.Standard.Outline.{Entry, block_entries, entry, outline}
+use Rattle.md_definition.specs.declared.outline.Word.{Word}
+use Rattle.md_definition.specs.Outline.{Entry, block_entries, entry, outline}
 use Rattle.md_seam.specs.Events.Places.{last_line}
-use Rattle.md_seam.specs.Standard.Rest.{is_blank}
+use Rattle.md_definition.specs.Rest.{is_blank}
 use Rattle.md_seam.specs.Events.Spelled.{Around, Holds, IsPrefix, OpenLeaf, Opens, Reading, Shape, Tells, Text, after_prefix, at_ending, before_prefix, begun, block_around, block_of, byte_at, finished, left, next_line, on_leaf, read, read_by, read_enter, read_exit, spelled, text_to, unread}
 use Rattle.md_seam.specs.Events.Spelled as spelled
-use Rattle.md_seam.specs.Standard.State.{then_block}
-use Rattle.md_seam.specs.Standard.Texts.{split_lines}
-use Rattle.md_seam.specs.Standard.Tree.{Block, Blocks, End, Line, More}
+use Rattle.md_definition.specs.State.{then_block}
+use Rattle.md_definition.specs.Texts.{split_lines}
+use Rattle.md_definition.specs.Tree.{Block, Blocks, End, Line, More}
 use Rattle.md_seam.proofs.ThroughoutLemmas.{all-then}
 use Rattle.md_outline.specs.Between.{is_between}
 use Rattle.md_outline.specs.HeadingDepths.{are_shallow, fits}

@@ -1,12 +1,12 @@
 -- The pieces of a text that is a block of its own, as an outline shows them.
 use Rattle.std.proofs.Common.{◌≡◌, ℕ, ◌+◌, Bool, true, false, ◌||◌, not, List, [], ◌∷◌, ◌++◌, refl, sym, ◌∙◌, ap, append_assoc, append-nil}
 use Rattle.std.proofs.lemmas.Bool.{true≢false}
-use Rattle.md_seam.specs.declared.outline.Word.TheVariants as word
-use Rattle.md_seam.specs.Standard.Lines.{begins_with}
-use Rattle.md_seam.specs.Standard.Outline.{Entry, block_entries, entry}
+use Rattle.md_definition.specs.declared.outline.Word.TheVariants as word
+use Rattle.md_definition.specs.Lines.{begins_with}
+use Rattle.md_definition.specs.Outline.{Entry, block_entries, entry}
 use Rattle.md_seam.specs.Events.Places.{last_line}
-use Rattle.md_seam.specs.Standard.Rest.{is_blank}
-use Rattle.md_seam.specs.Standard.Texts.{split_lines}
+use Rattle.md_definition.specs.Rest.{is_blank}
+use Rattle.md_definition.specs.Texts.{split_lines}
 use Rattle.md_outline.specs.ParagraphState.{begin_entries, text_block}
 use Rattle.md_outline.specs.TextLines.{full_entries, text_entries}
 use Rattle.md_outline.proofs.TextCuts.{piece-entries}

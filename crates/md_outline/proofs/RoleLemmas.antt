@@ -5,12 +5,12 @@ use Rattle.std.proofs.Common.{◌≡◌, ℕ, ◌+◌, Bool, true, not, List, �
 use Rattle.std.specs.Prelude.{Option, Some, None, nat_lt}
 use Rattle.std.proofs.lemmas.Bool.{true≢false}
 use Rattle.md_engine.specs.declared.event.Point.{Point}
-use Rattle.md_seam.specs.declared.outline.Word.{Word}
-use Rattle.md_seam.specs.declared.outline.Word.TheVariants as word
-use Rattle.md_seam.specs.Standard.Outline.{block_entries, entry, outline}
+use Rattle.md_definition.specs.declared.outline.Word.{Word}
+use Rattle.md_definition.specs.declared.outline.Word.TheVariants as word
+use Rattle.md_definition.specs.Outline.{block_entries, entry, outline}
 use Rattle.md_seam.specs.Events.Spelled.{AsDigits, AsFootnoteLabel, AsHeading, AsItemMarker, AsMarkers, AsParagraph, BreakLeaf, HeadingAtxLeaf, Holds, IsEnding, IsPrefix, IsQuiet, LeafKind, OfBreak, OfHeadingAtx, OpenLeaf, Opens, QuoteShape, Reading, Shape, Tells, Text, add_block, at_ending, block_around, fresh, named, next_line, on_leaf, on_shape, spelled, text_to}
 use Rattle.md_seam.specs.Events.Spelled as spelled
-use Rattle.md_seam.specs.Standard.Tree.{Block, Blocks, Line}
+use Rattle.md_definition.specs.Tree.{Block, Blocks, Line}
 use Rattle.md_outline.specs.Outlined.{begins_line, parts_exit, piece_to}
 use Rattle.md_outline.specs.ParagraphState.{text_block}
 use Rattle.md_outline.specs.Roles.{is_plain, leaf_of, noted, shown_as}

@@ -11,18 +11,18 @@ use Rattle.std.proofs.lemmas.Bool.Decides.{nat_tests}
 use Rattle.std.proofs.lemmas.List.{drop_all, length-drop, take_all}
 use Rattle.std.proofs.lemmas.List.Sums.{prefix_len_stops}
 use Rattle.std.proofs.lemmas.Str.{IsCharBoundary-after_ascii, IsCharBoundary-before_ascii, IsCharBoundary-end, IsCharBoundary-past_char, IsCharBoundary-start, IsUtf8-between, IsUtf8-drop, IsUtf8-nil, IsUtf8-take}
-use Rattle.md_seam.specs.declared.outline.Word.TheVariants as word
-use Rattle.md_seam.specs.Standard.Lines.{begins_with, ends_line, is_ending}
-use Rattle.md_seam.specs.Standard.Preamble.{has_mark}
-use Rattle.md_seam.specs.Standard.Outline.{Entry, entries, entry_with}
+use Rattle.md_definition.specs.declared.outline.Word.TheVariants as word
+use Rattle.md_definition.specs.Lines.{begins_with, ends_line, is_ending}
+use Rattle.md_definition.specs.Preamble.{has_mark}
+use Rattle.md_definition.specs.Outline.{Entry, entries, entry_with}
 use Rattle.md_seam.specs.Events.Places.{last_line}
-use Rattle.md_seam.specs.Standard.Rest.{is_blank, is_white, trim_start}
+use Rattle.md_definition.specs.Rest.{is_blank, is_white, trim_start}
 use Rattle.md_seam.specs.Events.Spelled.{without_last}
-use Rattle.md_seam.specs.Standard.Texts.{split_lines, trim_each}
+use Rattle.md_definition.specs.Texts.{split_lines, trim_each}
 use Rattle.md_seam.proofs.PlacesLemmas.{Some_line, last-next, some-split}
 use Rattle.md_seam.proofs.PlainSteps.{range-none}
-use Rattle.md_seam.proofs.PreambleLemmas.{mark-bytes}
-use Rattle.md_seam.proofs.TextsLemmas.{split-byte}
+use Rattle.md_definition.proofs.PreambleLemmas.{mark-bytes}
+use Rattle.md_definition.proofs.TextsLemmas.{split-byte}
 use Rattle.md_outline.specs.Between.{is_between}
 use Rattle.md_outline.specs.TextLines.{after_ending, full_entries, line_len, text_entries}
 

@@ -6,14 +6,14 @@ use Rattle.md_engine.specs.declared.event.Event.{Event}
 use Rattle.md_engine.specs.declared.event.Kind.{Kind}
 use Rattle.md_engine.specs.declared.event.Kind.TheVariants.{Enter, Exit}
 use Rattle.md_engine.specs.declared.event.Point.{Point}
-use Rattle.md_seam.specs.declared.outline.OutlineLine.{OutlineLine}
-use Rattle.md_seam.specs.Standard.Lines.{begins_with}
+use Rattle.md_definition.specs.declared.outline.OutlineLine.{OutlineLine}
+use Rattle.md_definition.specs.Lines.{begins_with}
 use Rattle.md_seam.specs.Events.Nested.{Balanced}
-use Rattle.md_seam.specs.Standard.Outline.{entries_of, outline}
+use Rattle.md_definition.specs.Outline.{entries_of, outline}
 use Rattle.md_seam.specs.Events.Places.{last_line}
-use Rattle.md_seam.specs.Standard.Rest.{is_blank}
+use Rattle.md_definition.specs.Rest.{is_blank}
 use Rattle.md_seam.specs.Events.Spelled.{IsEnding, IsPrefix, IsQuiet, Role, Tells, byte_at, role, spelled}
-use Rattle.md_seam.specs.Standard.Texts.{split_lines}
+use Rattle.md_definition.specs.Texts.{split_lines}
 use Rattle.md_outline.specs.Between.{is_between}
 use Rattle.md_outline.specs.HeadingDepths.{are_shallow}
 use Rattle.md_outline.specs.Roles.{is_block, is_plain, is_told}

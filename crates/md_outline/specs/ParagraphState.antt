@@ -1,9 +1,9 @@
 -- A text that is a block of its own, and what an outline shows of it in front of its lines.
 use Rattle.std.specs.Prelude.{ℕ, Bool, if◌then◌else◌, List, [], ◌∷◌}
-use Rattle.md_seam.specs.declared.outline.Word.TheVariants as word
-use Rattle.md_seam.specs.Standard.Outline.{Entry, entry}
-use Rattle.md_seam.specs.Standard.Texts.{split_lines, trim_each}
-use Rattle.md_seam.specs.Standard.Tree.{Block, Paragraph}
+use Rattle.md_definition.specs.declared.outline.Word.TheVariants as word
+use Rattle.md_definition.specs.Outline.{Entry, entry}
+use Rattle.md_definition.specs.Texts.{split_lines, trim_each}
+use Rattle.md_definition.specs.Tree.{Block, Paragraph}
 
 -- the block that a text is
 abbrev pub text_block : List ℕ → Block

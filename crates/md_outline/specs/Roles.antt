@@ -9,8 +9,8 @@
 -- - A text that tells a leaf block something: the same three, and `told_as` here, `Note` in code, `knows-noted` in the
 --   lemmas.
 use Rattle.std.specs.Prelude.{ℕ, Bool, true, false, List, None}
-use Rattle.md_seam.specs.declared.outline.Word.TheVariants as word
-use Rattle.md_seam.specs.Standard.Outline.{Entry, block_entries}
+use Rattle.md_definition.specs.declared.outline.Word.TheVariants as word
+use Rattle.md_definition.specs.Outline.{Entry, block_entries}
 use Rattle.md_seam.specs.Events.Spelled.{AsHeading, AsMarkers, AsParagraph, BreakLeaf, HeadingAtxLeaf, Holds, IsEnding, IsPrefix, IsQuiet, OfBreak, OfHeadingAtx, OpenLeaf, Opens, QuoteShape, Tells, block_of}
 use Rattle.md_seam.specs.Events.Spelled as spelled
 use Rattle.md_outline.specs.HeadingDepths.{fitted}

@@ -1,11 +1,11 @@
 -- The lines of a text, as an outline shows them.
 use Rattle.std.specs.Prelude.{ℕ, ◌&&◌, ◌==◌, not, if◌then◌else◌, List, [], ◌∷◌, drop}
 use Rattle.std.specs.List.{prefix_len}
-use Rattle.md_seam.specs.declared.outline.Word.TheVariants as word
-use Rattle.md_seam.specs.Standard.Lines.{begins_with, is_ending}
-use Rattle.md_seam.specs.Standard.Outline.{Entry, entries}
+use Rattle.md_definition.specs.declared.outline.Word.TheVariants as word
+use Rattle.md_definition.specs.Lines.{begins_with, is_ending}
+use Rattle.md_definition.specs.Outline.{Entry, entries}
 use Rattle.md_seam.specs.Events.Spelled.{without_last}
-use Rattle.md_seam.specs.Standard.Texts.{split_lines, trim_each}
+use Rattle.md_definition.specs.Texts.{split_lines, trim_each}
 
 -- how many bytes stand before the first line ending
 abbrev pub line_len : List ℕ → ℕ

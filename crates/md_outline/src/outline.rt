@@ -15,10 +15,10 @@ mod role;
 use crate::outline::lines::{next, part, push, text_of};
 use crate::outline::paragraph::{push_block, push_piece};
 use crate::outline::role::{Leaf, Note, Purpose, Role, push_leaf, role_of};
+pub use md_definition::outline::{OutlineLine, Word};
 use md_engine::event::{Event, Kind, Point};
 use md_engine::message::Message;
 use md_engine::parse_state::ParseState;
-pub use md_seam::outline::{OutlineLine, Word};
 use std::alloc::Global;
 
 /// A text that is read.

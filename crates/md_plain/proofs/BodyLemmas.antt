@@ -2,14 +2,14 @@
 use Rattle.std.proofs.Common.{◌≡◌, ℕ, List, drop, Option, Some, None, sym, ◌∙◌, ap}
 use Rattle.std.specs.Option.{option_map}
 use Rattle.md_engine.specs.declared.configuration.ParseOptions.{ParseOptions}
-use Rattle.md_seam.specs.Standard.Tree as t
-use Rattle.md_seam.specs.Standard.Lines.{lines_of}
-use Rattle.md_seam.specs.Standard.Preamble as p
-use Rattle.md_seam.specs.Standard.Rest as r
-use Rattle.md_seam.specs.Standard.State.{At, closed}
-use Rattle.md_seam.specs.Standard.Step.{spot_of, steps}
-use Rattle.md_seam.specs.Standard.Grouped.{grouped}
-use Rattle.md_seam.specs.Standard.Meaning.{with_frontmatter, tree}
+use Rattle.md_definition.specs.Tree as t
+use Rattle.md_definition.specs.Lines.{lines_of}
+use Rattle.md_definition.specs.Preamble as p
+use Rattle.md_definition.specs.Rest as r
+use Rattle.md_definition.specs.State.{At, closed}
+use Rattle.md_definition.specs.Step.{spot_of, steps}
+use Rattle.md_definition.specs.Grouped.{grouped}
+use Rattle.md_definition.specs.Meaning.{with_frontmatter, tree}
 use Rattle.plain_grammars.specs.declared.preamble.Front.{Front}
 use Rattle.plain_grammars.specs.declared.rest.Rest.{Rest}
 use Rattle.plain_grammars.specs.Fronts.{lines_in, front_meaning, IsEnd}

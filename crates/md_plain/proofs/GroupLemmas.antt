@@ -2,8 +2,8 @@
 use Rattle.std.proofs.Common.{◌≡◌, ◌≢◌, ℕ, Bor, Vec, Global, Bool, true, false, cond, ◌==◌, List, [], ◌∷◌, ◌++◌, length, refl, sym, ◌∙◌, ap, subst, arith}
 use Rattle.std.proofs.lemmas.Bool.Decides.{nat_tests}
 use Rattle.std.proofs.lemmas.Bool.{eqb-true}
-use Rattle.md_seam.specs.Standard.Tree as t
-use Rattle.md_seam.specs.Standard.Grouped.{with_item, with_front}
+use Rattle.md_definition.specs.Tree as t
+use Rattle.md_definition.specs.Grouped.{with_item, with_front}
 use Rattle.plain_grammars.specs.declared.tree.Block.{Block}
 use Rattle.plain_grammars.specs.declared.tree.Block.TheVariants as b
 use Rattle.plain_grammars.specs.declared.tree.Block.TheOpen as layer

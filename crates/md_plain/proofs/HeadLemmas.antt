@@ -2,11 +2,11 @@
 use Rattle.std.proofs.Common.{◌≡◌, ℕ, Bool, true, false, cond, ◌&&◌, List, [], ◌∷◌, ◌++◌, reverse, length, Option, Some, None, refl, ◌∙◌, ap, arith}
 use Rattle.std.proofs.lemmas.List.{reverse-append, reverse-reverse}
 use Rattle.md_engine.specs.declared.configuration.ParseOptions.{ParseOptions}
-use Rattle.md_seam.specs.Standard.Tree.{Blocks}
-use Rattle.md_seam.specs.Standard.Rest.{Rest, has_small_indent, trim}
-use Rattle.md_seam.specs.Standard.Table.{delimiter_columns, row_cells}
-use Rattle.md_seam.specs.Standard.State.{Kept, OpenTable, Spot, shut_paragraph, texts}
-use Rattle.md_seam.specs.Standard.Leaves.{is_head_of, table_by, table_at}
+use Rattle.md_definition.specs.Tree.{Blocks}
+use Rattle.md_definition.specs.Rest.{Rest, has_small_indent, trim}
+use Rattle.md_definition.specs.Table.{delimiter_columns, row_cells}
+use Rattle.md_definition.specs.State.{Kept, OpenTable, Spot, shut_paragraph, texts}
+use Rattle.md_definition.specs.Leaves.{is_head_of, table_by, table_at}
 use Rattle.md_plain.specs.Paragraphs.{head_by, head_of, table_spot}
 
 -- the table with this head, if it is one

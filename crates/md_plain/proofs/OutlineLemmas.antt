@@ -1,8 +1,8 @@
 -- How the entries of an outline grow.
 use Rattle.std.proofs.Common.{◌≡◌, List, [], ◌∷◌, ◌++◌}
 use Rattle.std.proofs.lemmas.List.{map_push}
-use Rattle.md_seam.specs.declared.outline.OutlineLine.{OutlineLine}
-use Rattle.md_seam.specs.Standard.Outline.{entry_of, entries_of}
+use Rattle.md_definition.specs.declared.outline.OutlineLine.{OutlineLine}
+use Rattle.md_definition.specs.Outline.{entry_of, entries_of}
 
 -- a line that is added is the last
 pub entries_push : (lines : List OutlineLine) (line : OutlineLine) → entries_of (lines ++ line ∷ []) ≡ entries_of lines ++ entry_of line ∷ []

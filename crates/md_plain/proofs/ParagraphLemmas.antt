@@ -2,9 +2,9 @@
 use Rattle.std.proofs.Common.{◌≡◌, ◌-◌, ◌+◌, cond, Bool, List, [], ◌∷◌, ◌++◌, map, take, length, reverse, refl, sym, ◌∙◌, ap}
 use Rattle.std.specs.List.{prefix_len, suffix_len}
 use Rattle.std.proofs.lemmas.List.{take-map, length-map, map-append, reverse-append}
-use Rattle.md_seam.specs.Standard.Definition as d
-use Rattle.md_seam.specs.Standard.Tree as t
-use Rattle.md_seam.specs.Standard.State.{then_block, then_definitions}
+use Rattle.md_definition.specs.Definition as d
+use Rattle.md_definition.specs.Tree as t
+use Rattle.md_definition.specs.State.{then_block, then_definitions}
 use Rattle.plain_grammars.specs.declared.definition.Defined.{Defined}
 use Rattle.plain_grammars.specs.Definitions.{defined_meaning}
 use Rattle.md_plain.specs.Paragraphs.{definitions_of}

@@ -2,11 +2,11 @@
 use Rattle.std.proofs.Common.{◌≡◌, ℕ, zero, suc, ◌+◌, ◌-◌, ◌<◌, ◌≤◌, false, List, [], ◌∷◌, ◌++◌, length, take, drop, Option, Some, None, option_to_list, refl, sym, ◌∙◌, ap, length-append, arith}
 use Rattle.std.proofs.lemmas.List.{take-append-le, drop-append-le}
 use Rattle.md_engine.specs.declared.configuration.ParseOptions.{ParseOptions}
-use Rattle.md_seam.specs.Standard.Tree.{Blocks, End}
-use Rattle.md_seam.specs.Standard.Rest as r
-use Rattle.md_seam.specs.Standard.State as s
-use Rattle.md_seam.specs.Standard.Containers.{Taken, opens}
-use Rattle.md_seam.specs.Standard.Step.{spot_of, fresh_line, opened}
+use Rattle.md_definition.specs.Tree.{Blocks, End}
+use Rattle.md_definition.specs.Rest as r
+use Rattle.md_definition.specs.State as s
+use Rattle.md_definition.specs.Containers.{Taken, opens}
+use Rattle.md_definition.specs.Step.{spot_of, fresh_line, opened}
 use Rattle.md_plain.specs.declared.state.Frame.{Frame}
 use Rattle.plain_grammars.specs.Trees.{meanings}
 use Rattle.md_plain.specs.States.{container_meaning, within}

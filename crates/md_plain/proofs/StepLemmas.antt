@@ -3,12 +3,12 @@ use Rattle.std.proofs.Common.{◌≡◌, ℕ, ◌+◌, ◌-◌, ◌<◌, Bool, t
 use Rattle.std.proofs.lemmas.Bool.{true≢false, false≢true}
 use Rattle.std.proofs.lemmas.List.{take-append-drop, take_more, take_more_set, drop_more, drop-set-lt, get_or_read, length-drop, map-append}
 use Rattle.md_engine.specs.declared.configuration.ParseOptions.{ParseOptions}
-use Rattle.md_seam.specs.Standard.Tree.{Blocks}
-use Rattle.md_seam.specs.Standard.Rest as r
-use Rattle.md_seam.specs.Standard.State as s
-use Rattle.md_seam.specs.Standard.Containers.{Taken, opens, continues}
-use Rattle.md_seam.specs.Standard.Leaves.{LazyText, starts}
-use Rattle.md_seam.specs.Standard.Step.{fresh_line, entered, with_lazy, lazy_by, stopped_by, stopped, step, steps}
+use Rattle.md_definition.specs.Tree.{Blocks}
+use Rattle.md_definition.specs.Rest as r
+use Rattle.md_definition.specs.State as s
+use Rattle.md_definition.specs.Containers.{Taken, opens, continues}
+use Rattle.md_definition.specs.Leaves.{LazyText, starts}
+use Rattle.md_definition.specs.Step.{fresh_line, entered, with_lazy, lazy_by, stopped_by, stopped, step, steps}
 use Rattle.plain_grammars.specs.Trees.{meanings}
 use Rattle.plain_grammars.specs.declared.rest.Rest.{Rest}
 use Rattle.plain_grammars.specs.Rests.{rest_meaning, rest_meanings}

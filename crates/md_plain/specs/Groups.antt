@@ -1,7 +1,7 @@
 -- What blocks stand for while they are grouped into lists.
 use Rattle.std.specs.Prelude.{◌≡◌, ℕ}
-use Rattle.md_seam.specs.Standard.Tree.{Block, Blocks, End, More}
-use Rattle.md_seam.specs.Standard.Grouped as g
+use Rattle.md_definition.specs.Tree.{Block, Blocks, End, More}
+use Rattle.md_definition.specs.Grouped as g
 use Rattle.md_plain.specs.declared.grouped.Groups.{Groups}
 use Rattle.plain_grammars.specs.Trees.{meanings}
 

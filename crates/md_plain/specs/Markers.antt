@@ -1,7 +1,7 @@
 -- What the markers of items and the labels of footnotes mean.
 use Rattle.std.specs.Prelude.{ℕ, ◌+◌, List, take, drop, Option, Some, None}
 use Rattle.std.specs.Option.{option_map}
-use Rattle.md_seam.specs.Standard.Containers as c
+use Rattle.md_definition.specs.Containers as c
 use Rattle.md_plain.specs.declared.containers.Marker.{Marker}
 
 abbrev pub marker_meaning : Marker → c.Marker

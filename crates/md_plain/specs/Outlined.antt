@@ -1,7 +1,7 @@
 -- What the lines of an outline say.
 use Rattle.std.specs.Prelude.{ℕ, List}
-use Rattle.md_seam.specs.Standard.Outline.{Entry}
-use Rattle.md_seam.specs.declared.outline.Word.{Word}
+use Rattle.md_definition.specs.Outline.{Entry}
+use Rattle.md_definition.specs.declared.outline.Word.{Word}
 
 -- a line with all of its parts
 abbrev pub entry_as : ℕ → Word → ℕ → List ℕ → Entry

@@ -1,12 +1,12 @@
 -- The parts of what turns a paragraph.
 use Rattle.std.specs.Prelude.{ℕ, ◌&&◌, if◌then◌else◌, List, [], ◌∷◌, map, Option, Some, None}
 use Rattle.md_engine.specs.declared.configuration.ParseOptions.{ParseOptions}
-use Rattle.md_seam.specs.Standard.Tree.{Block, Definition, Blocks}
-use Rattle.md_seam.specs.Standard.Rest.{Rest, has_small_indent, trim}
-use Rattle.md_seam.specs.Standard.Table.{delimiter_columns, row_cells}
-use Rattle.md_seam.specs.Standard.Definition as d
-use Rattle.md_seam.specs.Standard.State.{Kept, OpenTable, Spot, shut_paragraph, texts}
-use Rattle.md_seam.specs.Standard.Leaves.{is_head_of}
+use Rattle.md_definition.specs.Tree.{Block, Definition, Blocks}
+use Rattle.md_definition.specs.Rest.{Rest, has_small_indent, trim}
+use Rattle.md_definition.specs.Table.{delimiter_columns, row_cells}
+use Rattle.md_definition.specs.Definition as d
+use Rattle.md_definition.specs.State.{Kept, OpenTable, Spot, shut_paragraph, texts}
+use Rattle.md_definition.specs.Leaves.{is_head_of}
 use Rattle.plain_grammars.specs.declared.definition.Defined.{Defined}
 use Rattle.plain_grammars.specs.Definitions.{defined_meaning}
 

@@ -1,9 +1,9 @@
 -- What the states of the program mean.
 use Rattle.std.specs.Prelude.{◌≡◌, List, [], ◌∷◌, map, Option, Some, None}
 use Rattle.std.specs.Option.{option_copied, option_map}
-use Rattle.md_seam.specs.Standard.State as s
-use Rattle.md_seam.specs.Standard.Leaves as l
-use Rattle.md_seam.specs.Standard.Containers as c
+use Rattle.md_definition.specs.State as s
+use Rattle.md_definition.specs.Leaves as l
+use Rattle.md_definition.specs.Containers as c
 use Rattle.md_plain.specs.declared.state.Container.{Container}
 use Rattle.md_plain.specs.declared.state.Container.TheVariants as container
 use Rattle.md_plain.specs.declared.state.Kept.{Kept}

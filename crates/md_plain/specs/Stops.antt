@@ -1,9 +1,9 @@
 -- What a line comes to where a container does not continue.
 use Rattle.std.specs.Prelude.{List, [], ◌∷◌, ◌++◌}
 use Rattle.md_engine.specs.declared.configuration.ParseOptions.{ParseOptions}
-use Rattle.md_seam.specs.Standard.Rest.{Rest}
-use Rattle.md_seam.specs.Standard.State.{Leaf, OpenParagraph, Spot, Path, kept}
-use Rattle.md_seam.specs.Standard.Step.{stopped}
+use Rattle.md_definition.specs.Rest.{Rest}
+use Rattle.md_definition.specs.State.{Leaf, OpenParagraph, Spot, Path, kept}
+use Rattle.md_definition.specs.Step.{stopped}
 use Rattle.plain_grammars.specs.Trees.{meanings}
 use Rattle.md_plain.specs.declared.state.Frame.{Frame}
 use Rattle.md_plain.specs.States.{container_meaning, within}

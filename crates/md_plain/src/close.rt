@@ -2,8 +2,8 @@
 
 ghost use Rattle.std.specs.Prelude.{◌≡◌, ◌≤◌, length, take, drop, IfOk};
 ghost use Rattle.std.specs.List.{suffix_len};
-ghost use Rattle.md_seam.specs.Standard.Rest.{is_blank};
-ghost use Rattle.md_seam.specs.Standard.State as state;
+ghost use Rattle.md_definition.specs.Rest.{is_blank};
+ghost use Rattle.md_definition.specs.State as state;
 ghost use Rattle.plain_grammars.specs.Trees.{meaning, meanings, line_meanings};
 ghost use Rattle.md_plain.specs.States.{container_meaning, spot_meaning, path_meaning, within};
 

@@ -2,7 +2,7 @@
 
 ghost use Rattle.std.specs.Prelude.{◌≡◌, ◌+◌, ◌≤◌, false, length, IfSome};
 ghost use Rattle.std.specs.List.{prefix_len};
-ghost use Rattle.md_seam.specs.Standard.Containers as containers;
+ghost use Rattle.md_definition.specs.Containers as containers;
 ghost use Rattle.plain_grammars.specs.Rests.{rest_meaning};
 ghost use Rattle.md_plain.specs.States.{container_meaning, taken_option};
 ghost use Rattle.md_plain.specs.Markers.{marker_meaning, marker_option, label_split};
@@ -15,7 +15,7 @@ use plain_grammars::bytes::{is_blank, is_parted, is_white};
 use plain_grammars::rest::Rest;
 
 /// A quote's prefix: a small indent, `>`, and one column of whitespace if there is one (CommonMark 5.1).
-#[tactic(auto, unfolding(md_seam::specs::Standard::Containers::quote_taken))]
+#[tactic(auto, unfolding(md_definition::specs::Containers::quote_taken))]
 fn quote_taken<'a>(options: &ParseOptions, rest: &Rest<'a>) -> Option<Taken<'a>>
     ensures { taken_option result ≡ containers.quote_taken options.now (rest_meaning rest.now) }
 {
@@ -31,7 +31,7 @@ fn quote_taken<'a>(options: &ParseOptions, rest: &Rest<'a>) -> Option<Taken<'a>>
 
 /// A nonblank line continues an item if it is indented by its width; a blank line does, unless it comes directly after a
 /// first line that was blank (CommonMark 5.2).
-#[tactic(auto, unfolding(md_seam::specs::Standard::Containers::item_continues))]
+#[tactic(auto, unfolding(md_definition::specs::Containers::item_continues))]
 fn item_continues<'a>(
     digits: &'a [u8],
     marker: u8,
@@ -61,7 +61,7 @@ fn item_continues<'a>(
 }
 
 /// A footnote definition goes on with blank lines and with lines indented by 4 columns (own choice, as on GitHub).
-#[tactic(auto, unfolding(md_seam::specs::Standard::Containers::footnote_continues))]
+#[tactic(auto, unfolding(md_definition::specs::Containers::footnote_continues))]
 fn footnote_continues<'a>(label: &'a [u8], rest: &Rest<'a>) -> Option<Taken<'a>>
     ensures { taken_option result ≡ containers.footnote_continues label.now (rest_meaning rest.now) }
 {
@@ -94,7 +94,7 @@ pub fn continues<'a>(
     }
 }
 
-#[tactic(auto, unfolding(md_seam::specs::Standard::Containers::opens_quote))]
+#[tactic(auto, unfolding(md_definition::specs::Containers::opens_quote))]
 fn opens_quote<'a>(options: &ParseOptions, rest: &Rest<'a>) -> Option<Taken<'a>>
     ensures { taken_option result ≡ containers.opens_quote options.now (rest_meaning rest.now) }
 {
@@ -186,7 +186,7 @@ fn may_interrupt(marker: &Marker, rest: &Rest) -> bool
 }
 
 /// A small indent, a marker, and whitespace or the end of the line (CommonMark 5.2).
-#[tactic(auto, unfolding(md_seam::specs::Standard::Containers::opens_item))]
+#[tactic(auto, unfolding(md_definition::specs::Containers::opens_item))]
 fn opens_item<'a>(options: &ParseOptions, interrupting: bool, rest: &Rest<'a>) -> Option<Taken<'a>>
     ensures { taken_option result ≡ containers.opens_item options.now interrupting (rest_meaning rest.now) }
 {
@@ -246,7 +246,7 @@ fn label_len(bytes: &[u8]) -> Option<usize>
 }
 
 /// A small indent, `[^`, a label of 1 to 999 bytes, `]:`, and all whitespace behind it (own choice, as on GitHub).
-#[tactic(auto, unfolding(md_seam::specs::Standard::Containers::opens_footnote))]
+#[tactic(auto, unfolding(md_definition::specs::Containers::opens_footnote))]
 fn opens_footnote<'a>(options: &ParseOptions, rest: &Rest<'a>) -> Option<Taken<'a>>
     ensures { taken_option result ≡ containers.opens_footnote options.now (rest_meaning rest.now) }
 {

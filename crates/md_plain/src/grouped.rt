@@ -1,8 +1,8 @@
 // Lists: neighbouring items with the same marker byte (CommonMark 5.3).
 
 ghost use Rattle.std.specs.Prelude.{◌≡◌, ◌++◌, IfOk, OnOk};
-ghost use Rattle.md_seam.specs.Standard.Tree as tree;
-ghost use Rattle.md_seam.specs.Standard.Grouped as grouped;
+ghost use Rattle.md_definition.specs.Tree as tree;
+ghost use Rattle.md_definition.specs.Grouped as grouped;
 ghost use Rattle.plain_grammars.specs.Trees.{meaning, meanings};
 ghost use Rattle.md_plain.specs.Groups.{then_groups, AddsItem, Adds};
 

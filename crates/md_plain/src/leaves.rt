@@ -3,9 +3,9 @@
 ghost use Rattle.std.specs.Prelude.{◌≡◌, ◌≤◌, ◌==◌, ◌||◌, not, length, reverse, count_by, if◌then◌else◌, IsFalse, IfOk};
 ghost use Rattle.std.specs.List.{list_all, prefix_len, suffix_len};
 ghost use Rattle.std.specs.Option.{option_copied};
-ghost use Rattle.md_seam.specs.Standard.Leaves as leaves;
-ghost use Rattle.md_seam.specs.Standard.Rest.{is_white, is_parted};
-ghost use Rattle.md_seam.specs.Standard.State.{fence_block, OpenCode};
+ghost use Rattle.md_definition.specs.Leaves as leaves;
+ghost use Rattle.md_definition.specs.Rest.{is_white, is_parted};
+ghost use Rattle.md_definition.specs.State.{fence_block, OpenCode};
 ghost use Rattle.plain_grammars.specs.Rests.{rest_meaning};
 ghost use Rattle.plain_grammars.specs.Trees.{meaning, line_meanings};
 ghost use Rattle.plain_grammars.specs.Kinds.{kind_meaning};
@@ -51,7 +51,7 @@ pub fn is_rule(bytes: &[u8]) -> bool
 }
 
 /// A thematic break (CommonMark 4.1).
-#[tactic(auto, unfolding(md_seam::specs::Standard::Leaves::break_at))]
+#[tactic(auto, unfolding(md_definition::specs::Leaves::break_at))]
 fn break_at<'a>(options: &ParseOptions, rest: &Rest<'a>) -> Option<Came<'a>>
     ensures { came_option result ≡ leaves.break_at options.now (rest_meaning rest.now) }
 {
@@ -95,7 +95,7 @@ fn heading_text(after: &[u8]) -> &[u8]
 }
 
 /// An ATX heading: a small indent, 1 to 6 `#`, and then whitespace or the end of the line (CommonMark 4.2).
-#[tactic(auto, unfolding(md_seam::specs::Standard::Leaves::heading_at))]
+#[tactic(auto, unfolding(md_definition::specs::Leaves::heading_at))]
 fn heading_at<'a>(
     alloc: Global,
     options: &ParseOptions,
@@ -123,7 +123,7 @@ fn heading_at<'a>(
 }
 
 /// Indented code: an indent of 4 columns, and no open paragraph (CommonMark 4.4).
-#[tactic(auto, unfolding(md_seam::specs::Standard::Leaves::code_at))]
+#[tactic(auto, unfolding(md_definition::specs::Leaves::code_at))]
 fn code_at<'a>(
     alloc: Global,
     options: &ParseOptions,
@@ -144,7 +144,7 @@ fn code_at<'a>(
 }
 
 /// A line of indented code; a line that is neither blank nor indented by 4 columns ends it.
-#[tactic(auto, unfolding(md_seam::specs::Standard::Leaves::code_goes_on))]
+#[tactic(auto, unfolding(md_definition::specs::Leaves::code_goes_on))]
 fn code_goes_on<'a>(lines: &mut Vec<Line<'a>>, rest: &Rest<'a>) -> Result<bool, Message>
     ensures on { IfOk result (λ b. (if b then Some (leaves.Opened (OpenCode (line_meanings lines.new.items))) else None) ≡ leaves.code_goes_on (line_meanings lines.old.items) (rest_meaning rest.now)) }
     ensures off { IfOk result (λ b. IsFalse b → lines.new.items ≡ lines.old.items) }
@@ -205,7 +205,7 @@ fn opening<'a>(marker: u8, size: usize, indent: usize, text: &'a [u8]) -> Openin
 }
 
 /// An opening fence: a small indent, a run of markers, and what may follow it (CommonMark 4.5; math is an own choice).
-#[tactic(auto, unfolding(md_seam::specs::Standard::Leaves::fence_at))]
+#[tactic(auto, unfolding(md_definition::specs::Leaves::fence_at))]
 fn fence_at<'a>(alloc: Global, options: &ParseOptions, rest: &Rest<'a>) -> Option<Came<'a>>
     ensures { came_option result ≡ leaves.fence_at options.now (rest_meaning rest.now) }
 {
@@ -248,7 +248,7 @@ pub fn fence_block<'a>(opening: &Opening<'a>, lines: Vec<Line<'a>>, closed: bool
 }
 
 /// A line of fenced code or math: the closing fence, or a line that loses at most the indent of the opening one.
-#[tactic(auto, unfolding(md_seam::specs::Standard::Leaves::fence_goes_on))]
+#[tactic(auto, unfolding(md_definition::specs::Leaves::fence_goes_on))]
 pub fn fence_goes_on<'a>(
     options: &ParseOptions,
     opening: &Opening<'a>,
@@ -279,7 +279,7 @@ fn html_line<'a>(kind: HtmlKind, lines: Vec<Line<'a>>, rest: &Rest<'a>) -> Resul
 }
 
 /// HTML: a small indent, and then one of the seven beginnings (CommonMark 4.6).
-#[tactic(auto, unfolding(md_seam::specs::Standard::Leaves::html_at))]
+#[tactic(auto, unfolding(md_definition::specs::Leaves::html_at))]
 fn html_at<'a>(
     alloc: Global,
     options: &ParseOptions,
@@ -301,7 +301,7 @@ fn html_at<'a>(
 }
 
 /// The first leaf, other than a paragraph, that starts at this rest.
-#[tactic(auto, unfolding(md_seam::specs::Standard::Leaves::starts))]
+#[tactic(auto, unfolding(md_definition::specs::Leaves::starts))]
 pub fn starts<'a>(
     alloc: Global,
     options: &ParseOptions,
@@ -333,7 +333,7 @@ pub enum Transition<'a> {
 }
 
 /// How an open leaf goes on.
-#[tactic(auto, unfolding(md_seam::specs::Standard::Leaves::html_goes_on, md_seam::specs::Standard::Leaves::table_goes_on))]
+#[tactic(auto, unfolding(md_definition::specs::Leaves::html_goes_on, md_definition::specs::Leaves::table_goes_on))]
 pub fn goes_on<'a>(
     alloc: Global,
     options: &ParseOptions,

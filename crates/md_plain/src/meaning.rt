@@ -1,12 +1,12 @@
 // What a text means: its block tree.
 
 ghost use Rattle.std.specs.Prelude.{◌≡◌, ◌^◌, ◌<◌, length, IfOk};
-ghost use Rattle.md_seam.specs.Standard.Lines.{lines_of};
-ghost use Rattle.md_seam.specs.Standard.Meaning as meaning;
-ghost use Rattle.md_seam.specs.Standard.Preamble.{without_mark, first_column, rests_at};
-ghost use Rattle.md_seam.specs.Standard.State as state;
-ghost use Rattle.md_seam.specs.Standard.Step as definition;
-ghost use Rattle.md_seam.specs.Standard.Tree.{End};
+ghost use Rattle.md_definition.specs.Lines.{lines_of};
+ghost use Rattle.md_definition.specs.Meaning as meaning;
+ghost use Rattle.md_definition.specs.Preamble.{without_mark, first_column, rests_at};
+ghost use Rattle.md_definition.specs.State as state;
+ghost use Rattle.md_definition.specs.Step as definition;
+ghost use Rattle.md_definition.specs.Tree.{End};
 ghost use Rattle.plain_grammars.specs.Rests.{rest_meanings};
 ghost use Rattle.plain_grammars.specs.Trees.{meanings};
 ghost use Rattle.plain_grammars.specs.WholeTrees.{tree_meaning};

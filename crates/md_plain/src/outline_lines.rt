@@ -2,15 +2,15 @@
 
 ghost use Rattle.std.specs.Prelude.{◌≡◌, ◌+◌, [], ◌∷◌, ◌++◌, map, IfOk, OnOk};
 ghost use Rattle.std.specs.Option.{option_copied, option_map};
-ghost use Rattle.md_seam.specs.Standard.Outline as spec;
-ghost use Rattle.md_seam.specs.declared.outline.Word.TheVariants as words;
+ghost use Rattle.md_definition.specs.Outline as spec;
+ghost use Rattle.md_definition.specs.declared.outline.Word.TheVariants as words;
 ghost use Rattle.plain_grammars.specs.Trees.{meaning, meanings, line_meanings, slices};
 ghost use Rattle.plain_grammars.specs.WholeTrees.{tree_meaning};
 ghost use Rattle.md_plain.specs.Outlined.{entry_as};
-ghost use Rattle.md_seam.specs.Standard.Outline.{entries_of};
+ghost use Rattle.md_definition.specs.Outline.{entries_of};
 
+use md_definition::outline::{OutlineLine, Word};
 use md_engine::message::Message;
-use md_seam::outline::{OutlineLine, Word};
 use plain_grammars::memory;
 use plain_grammars::tree::{Block, Line, Tree};
 use std::alloc::Global;

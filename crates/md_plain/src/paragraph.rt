@@ -1,14 +1,14 @@
 // Paragraphs, and the lines that turn them into headings and tables.
 
 ghost use Rattle.std.specs.Prelude.{◌≡◌, ◌==◌, length, OnOk, IfOk};
-ghost use Rattle.md_seam.specs.Standard.State as state;
-ghost use Rattle.md_seam.specs.Standard.Leaves as leaves;
+ghost use Rattle.md_definition.specs.State as state;
+ghost use Rattle.md_definition.specs.Leaves as leaves;
 ghost use Rattle.plain_grammars.specs.Definitions.{cut_meaning, defined_meaning};
 ghost use Rattle.plain_grammars.specs.Rests.{rest_meaning};
 ghost use Rattle.plain_grammars.specs.Trees.{meaning, meanings, slices};
 ghost use Rattle.md_plain.specs.States.{kept_meaning, kept_meanings, spot_meaning};
 ghost use Rattle.md_plain.specs.Paragraphs.{block_of, definitions_of, head_of, table_spot};
-ghost use Rattle.md_seam.specs.Standard.Table as table;
+ghost use Rattle.md_definition.specs.Table as table;
 ghost use Rattle.std.specs.List.{list_all};
 ghost use Rattle.std.specs.Option.{option_map};
 
@@ -71,7 +71,7 @@ fn push_definitions<'a>(
 }
 
 /// Closes a paragraph: its definitions, and then what remains, if anything does.
-#[tactic(auto, unfolding(md_seam::specs::Standard::State::shut_paragraph))]
+#[tactic(auto, unfolding(md_definition::specs::State::shut_paragraph))]
 pub fn shut_paragraph<'a>(
     alloc: Global,
     options: &ParseOptions,
@@ -129,7 +129,7 @@ fn is_run(marker: u8, bytes: &[u8]) -> bool
 }
 
 /// The depth of the heading that this line underlines (CommonMark 4.3).
-#[tactic(auto, unfolding(md_seam::specs::Standard::Leaves::underline_depth))]
+#[tactic(auto, unfolding(md_definition::specs::Leaves::underline_depth))]
 pub fn underline_depth(options: &ParseOptions, rest: &Rest) -> Option<u8>
     ensures { result ≡ leaves.underline_depth options.now (rest_meaning rest.now) }
 {
@@ -175,7 +175,7 @@ fn underlined_by<'a>(
 }
 
 /// A paragraph with an underline.
-#[tactic(auto, unfolding(md_seam::specs::Standard::Leaves::underlined))]
+#[tactic(auto, unfolding(md_definition::specs::Leaves::underlined))]
 pub fn underlined<'a>(
     alloc: Global,
     options: &ParseOptions,

@@ -1,10 +1,10 @@
 // The step of one line: what is open after it (CommonMark, appendix).
 
 ghost use Rattle.std.specs.Prelude.{◌≡◌, ◌<◌, length, take, drop, is_some, IfOk};
-ghost use Rattle.md_seam.specs.Standard.Tree.{End};
-ghost use Rattle.md_seam.specs.Standard.State as state;
-ghost use Rattle.md_seam.specs.Standard.Leaves.{table_at};
-ghost use Rattle.md_seam.specs.Standard.Step as definition;
+ghost use Rattle.md_definition.specs.Tree.{End};
+ghost use Rattle.md_definition.specs.State as state;
+ghost use Rattle.md_definition.specs.Leaves.{table_at};
+ghost use Rattle.md_definition.specs.Step as definition;
 ghost use Rattle.plain_grammars.specs.Rests.{rest_meaning};
 ghost use Rattle.plain_grammars.specs.Trees.{meanings};
 ghost use Rattle.md_plain.specs.States.{kept_meanings, leaf_meaning, spot_meaning, came_meaning, taken_meaning, path_meaning, within};
@@ -44,7 +44,7 @@ fn came<'a>(here: Vec<Block<'a>>, came: Came<'a>) -> Result<Spot<'a>, Message>
 }
 
 /// A rest where no leaf is open: a blank one does nothing, and what starts no other leaf is a paragraph.
-#[tactic(auto, unfolding(md_seam::specs::Standard::Step::fresh_line))]
+#[tactic(auto, unfolding(md_definition::specs::Step::fresh_line))]
 fn fresh_line<'a>(
     alloc: Global,
     options: &ParseOptions,
@@ -86,7 +86,7 @@ fn table_or_text<'a>(
 
 /// A rest where a paragraph is open: a blank one closes it. Otherwise it is an underline, another leaf, a delimiter row
 /// or a line of the paragraph.
-#[tactic(auto, unfolding(md_seam::specs::Standard::Step::text_line))]
+#[tactic(auto, unfolding(md_definition::specs::Step::text_line))]
 fn text_line<'a>(
     alloc: Global,
     options: &ParseOptions,
@@ -188,7 +188,7 @@ fn enter<'a>(
 }
 
 /// All containers continued.
-#[tactic(auto, unfolding(md_seam::specs::Standard::Step::all_continued))]
+#[tactic(auto, unfolding(md_definition::specs::Step::all_continued))]
 fn all_continued<'a>(
     alloc: Global,
     options: &ParseOptions,

@@ -5,7 +5,7 @@ use Rattle.md_engine.specs.declared.event.Point.{Point}
 use Rattle.md_engine.specs.declared.event.Event.{Event}
 use Rattle.md_engine.specs.declared.event.Name.{Name}
 use Rattle.md_engine.specs.declared.event.Name.TheVariants as n
-use Rattle.md_seam.specs.Standard.Tree as t
+use Rattle.md_definition.specs.Tree as t
 use Rattle.md_seam.specs.Events.Nested.{exit, around, pair}
 use Rattle.md_seam.specs.Events.Spelled.{Reading, Text, OpenLeaf, LeafKind, Shape, Role, Holds, Opens, Tells, Purpose, AsLine, role, add_block, block_of, block_around, finished, left, fresh, begun, byte_at, columns_left, text_to, noted, next_line, on_leaf, at_ending, told, told_at, read_enter, read_exit, read}
 use Rattle.md_seam.proofs.SpelledLemmas.{Roles, Between, read-append, read-text, text_after}

@@ -6,7 +6,7 @@ use Rattle.md_engine.specs.declared.event.Event.{Event}
 use Rattle.md_engine.specs.declared.event.Kind.TheVariants.{Enter}
 use Rattle.md_engine.specs.declared.event.Content.TheVariants as c
 use Rattle.md_engine.specs.declared.event.Name.TheVariants as n
-use Rattle.md_seam.specs.Standard.Tree as t
+use Rattle.md_definition.specs.Tree as t
 use Rattle.md_seam.specs.Events.Spelled.{spelled}
 use Rattle.md_seam.specs.Events.Places.{first_point, are_placed}
 use Rattle.md_seam.specs.Events.Nested.{exit, Nested}

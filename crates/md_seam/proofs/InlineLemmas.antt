@@ -11,11 +11,11 @@ use Rattle.md_engine.specs.declared.event.Event.{Event}
 use Rattle.md_engine.specs.declared.event.Name.{Name}
 use Rattle.md_engine.specs.declared.event.Name.TheVariants as n
 use Rattle.md_seam.specs.declared.inline.Chunk.{Chunk}
-use Rattle.md_seam.specs.Standard.Lines.{is_ending, without_ending}
+use Rattle.md_definition.specs.Lines.{is_ending, without_ending}
 use Rattle.md_seam.specs.Events.Places.{first_point, is_placed, are_placed, same_place, at_or_before, past_byte, past_text}
 use Rattle.md_seam.specs.Events.Nested.{pair, Balanced, Forward, last_point}
 use Rattle.md_seam.specs.Events.Inline.{Part, pieces, Covers, in_order, chunk_placed, chunk_text, line_end, pair_unless_empty, endings_of, plain_chunk, plain_chunks, together, plain_events, is_inline, is_line_ending, line_endings, Fills, Framed, IsPart, KeepsFrame}
-use Rattle.md_seam.proofs.TextsLemmas.{NoEnding}
+use Rattle.md_definition.proofs.TextsLemmas.{NoEnding}
 use Rattle.md_seam.proofs.PlacesLemmas.{all-append, placed-facts, placed-from, placed-text}
 use Rattle.md_seam.proofs.NestedLemmas.{balanced-none, balanced-append, at_or_before-refl, at_or_before-trans, forward-from}
 

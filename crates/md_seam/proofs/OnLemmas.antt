@@ -2,22 +2,22 @@
 use Rattle.std.proofs.Common.{◌≡◌, ℕ, zero, suc, Bool, true, false, cond, arith, ◌==◌, ◌&&◌, ◌||◌, List, [], ◌∷◌, ◌++◌, length, Option, Some, None, refl, ◌∙◌}
 use Rattle.std.proofs.lemmas.Bool.{and_from, and_parts, or_right}
 use Rattle.md_engine.specs.declared.configuration.ParseOptions.{ParseOptions}
-use Rattle.md_seam.specs.Standard.Containers.{Labelled, Marker, Taken, continues, footnote_by, footnote_continues, item_by, item_continues, opens, opens_footnote, opens_item, opens_quote, quote_taken}
-use Rattle.md_seam.specs.Standard.Definition.{Defined, cut_definitions}
-use Rattle.md_seam.specs.Standard.Grouped.{grouped, grouped_block, with_front, with_item}
-use Rattle.md_seam.specs.Standard.Html.{HtmlKind, html_ends}
-use Rattle.md_seam.specs.Standard.Leaves.{ParagraphContext, Came, Finished, NoText, Opened, Text, break_at, closes, code_at, code_goes_on, fence_at, fence_from, fence_goes_on, goes_on, heading_at, html_at, html_by, html_goes_on, html_line, is_fence_marker, starts, table_at, table_by, table_goes_on, underline_depth, underlined, underlined_by}
-use Rattle.md_seam.specs.Standard.Lines.{lines_of}
-use Rattle.md_seam.specs.Standard.Meaning.{tree}
+use Rattle.md_definition.specs.Containers.{Labelled, Marker, Taken, continues, footnote_by, footnote_continues, item_by, item_continues, opens, opens_footnote, opens_item, opens_quote, quote_taken}
+use Rattle.md_definition.specs.Definition.{Defined, cut_definitions}
+use Rattle.md_definition.specs.Grouped.{grouped, grouped_block, with_front, with_item}
+use Rattle.md_definition.specs.Html.{HtmlKind, html_ends}
+use Rattle.md_definition.specs.Leaves.{ParagraphContext, Came, Finished, NoText, Opened, Text, break_at, closes, code_at, code_goes_on, fence_at, fence_from, fence_goes_on, goes_on, heading_at, html_at, html_by, html_goes_on, html_line, is_fence_marker, starts, table_at, table_by, table_goes_on, underline_depth, underlined, underlined_by}
+use Rattle.md_definition.specs.Lines.{lines_of}
+use Rattle.md_definition.specs.Meaning.{tree}
 use Rattle.md_seam.specs.Events.On.{are_on, is_on, is_setext_depth}
-use Rattle.md_seam.specs.Standard.Preamble.{Front, front_by, first_column, front_of, preamble_by, rests_at, without_mark}
-use Rattle.md_seam.specs.Standard.Rest.{Rest, is_blank, line_of, lose}
-use Rattle.md_seam.specs.Standard.State.{At, Container, InFootnote, InItem, InQuote, Kept, Leaf, NoLeaf, OpenCode, OpenFence, OpenHtml, OpenParagraph, OpenTable, Opening, Path, Spot, Within, at_spot, closed, container_block, cut, fence_block, shut, shut_paragraph, spot, texts, then_block, then_definitions, then_leaf, then_paragraph}
-use Rattle.md_seam.specs.Standard.Step.{all_continued, all_continued_by, came, leaf_line_by, on_or_fresh, row_or_text, entered, fresh_by, fresh_line, is_concrete, is_open_text, stopped_by, leaf_line, lazy_by, opened, spot_of, step, steps, stopped, text_by, text_line, underline_or_text, with_lazy}
-use Rattle.md_seam.specs.Standard.Tree.{Block, Blocks, Definition, End, Fence, Footnote, Heading, Html, Item, Line, ListOf, Math, More, Paragraph, Quote, Table}
-use Rattle.md_seam.proofs.ColumnLemmas.{opened_by, step_by}
-use Rattle.md_seam.proofs.FindsLemmas.{Finds, first-found, none-found, some-found, unless-found, when-found}
-use Rattle.md_seam.proofs.QuoteLaw.{tree_by}
+use Rattle.md_definition.specs.Preamble.{Front, front_by, first_column, front_of, preamble_by, rests_at, without_mark}
+use Rattle.md_definition.specs.Rest.{Rest, is_blank, line_of, lose}
+use Rattle.md_definition.specs.State.{At, Container, InFootnote, InItem, InQuote, Kept, Leaf, NoLeaf, OpenCode, OpenFence, OpenHtml, OpenParagraph, OpenTable, Opening, Path, Spot, Within, at_spot, closed, container_block, cut, fence_block, shut, shut_paragraph, spot, texts, then_block, then_definitions, then_leaf, then_paragraph}
+use Rattle.md_definition.specs.Step.{all_continued, all_continued_by, came, leaf_line_by, on_or_fresh, row_or_text, entered, fresh_by, fresh_line, is_concrete, is_open_text, stopped_by, leaf_line, lazy_by, opened, spot_of, step, steps, stopped, text_by, text_line, underline_or_text, with_lazy}
+use Rattle.md_definition.specs.Tree.{Block, Blocks, Definition, End, Fence, Footnote, Heading, Html, Item, Line, ListOf, Math, More, Paragraph, Quote, Table}
+use Rattle.md_definition.proofs.ColumnLemmas.{opened_by, step_by}
+use Rattle.md_definition.proofs.FindsLemmas.{Finds, first-found, none-found, some-found, unless-found, when-found}
+use Rattle.md_definition.proofs.QuoteLaw.{tree_by}
 
 -- Blocks.
 

@@ -7,11 +7,11 @@ use Rattle.md_engine.specs.declared.tokenizer.Line.{Line}
 use Rattle.md_engine.specs.Meaning.{Cell}
 use Rattle.md_seam.specs.Ahead.{begins_white, point_after, white_end, white_rest}
 use Rattle.md_seam.specs.Events.Places.{at_or_before, past_byte, past_text}
-use Rattle.md_seam.specs.Standard.Preamble.{rest_at}
-use Rattle.md_seam.specs.Standard.Rest.{Rest, behind, behind_indent, cut_tab, indent, is_white, lose, tab_columns, white_columns, without_column}
+use Rattle.md_definition.specs.Preamble.{rest_at}
+use Rattle.md_definition.specs.Rest.{Rest, behind, behind_indent, cut_tab, indent, is_white, lose, tab_columns, white_columns, without_column}
 use Rattle.md_seam.proofs.FeedLines.{Stops, before-byte, before-column, behind_last, byte-one, cell, columns_more, next_column, past-next, point_after-append, spread, spread-end, stops-white, tab-end, tab_cells, tab_end, tab_end-last, tab_end-next, tab_end-stop}
 use Rattle.md_seam.proofs.NestedLemmas.{at_or_before-refl, at_or_before-trans}
-use Rattle.md_seam.proofs.TextsLemmas.{NoEnding, no_ending-drop}
+use Rattle.md_definition.proofs.TextsLemmas.{NoEnding, no_ending-drop}
 use Rattle.md_seam.proofs.AheadLemmas.{none-end, none-rest}
 
 -- the columns that are left of a cut tab, and then the cells of the bytes

@@ -182,7 +182,7 @@ leads-stays wants reads events left all new chunks at many d h stay count is lea
     let behind : drop run es ≡ drop (at + many) events = drop-drop run (at + 1) events ∙ ap (λ (k : ℕ). drop k events) (omega arith) in
     let one : many ≡ suc run = omega arith in
     let whole : (all ++ e ∷ []) ++ take run es ≡ new =
-        append_assoc all (e ∷ []) (take run es) ∙ sym (is ∙ ap (λ (l : List Event). all ++ take many l) (drop_more events at d h) ∙ ap (λ (k : ℕ). all ++ take k (e ∷ es)) one) in
+    append_assoc all (e ∷ []) (take run es) ∙ sym (is ∙ ap (λ (l : List Event). all ++ take many l) (drop_more events at d h) ∙ ap (λ (k : ℕ). all ++ take k (e ∷ es)) one) in
     subst (λ (l : List Event). Leads wants reads events left chunks l new) behind (subst (Leads wants reads events left chunks (drop run es)) whole more)
 
 -- a chunk begins

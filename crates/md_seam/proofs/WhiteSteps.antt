@@ -14,7 +14,7 @@ use Rattle.md_engine.specs.World.{World, after}
 use Rattle.md_engine.proofs.StepOf.{Sees, ahead, cell_here, moves, passes}
 use Rattle.md_seam.specs.Ahead.{HasWhite, after_white, begins_white, inside_white, white_at, white_end, white_rest, white_size}
 use Rattle.md_seam.specs.Events.Nested.{enter, exit}
-use Rattle.md_seam.specs.Standard.Rest.{is_white}
+use Rattle.md_definition.specs.Rest.{is_white}
 use Rattle.md_seam.specs.Spaces.{after_code, asking, calmed, inside_code, sees_white, start_code, white_transition}
 use Rattle.md_seam.proofs.AheadLemmas.{none-end, none-rest, none-size}
 

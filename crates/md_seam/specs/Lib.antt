@@ -5,5 +5,4 @@ pub mod Lent
 pub mod Ahead
 pub mod Look
 pub mod Substituted
-pub mod Standard
 pub mod Events

@@ -12,7 +12,7 @@ use Rattle.md_engine.specs.declared.tokenizer.TheConstants.Scratch.{REST}
 use Rattle.md_engine.specs.declared.configuration.ParseOptions.{ParseOptions}
 use Rattle.md_engine.specs.World.{World}
 use Rattle.md_engine.specs.Scheme.{Spot, After, Rank, Scheme, Ends, EndsLater, cells_before, ranked}
-use Rattle.md_seam.specs.Standard.Rest.{is_white}
+use Rattle.md_definition.specs.Rest.{is_white}
 use Rattle.md_seam.specs.Transition.{Transition, entered, exited, taken, tried}
 
 -- whether a space or a column of a tab stands here

@@ -1,10 +1,9 @@
-// The seam between the engine and the constructs: whitespace, slices, the inline layer, what a line of the outline is, and
-// the definitions of what the parser promises (`specs/`).
+// The seam between the engine and the constructs: whitespace, slices, the inline layer, and what a list of events means
+// (`specs/Events`).
 #![tactic(auto)]
 
 pub mod inline;
 pub mod names;
-pub mod outline;
 pub mod plain;
 pub mod slice;
 pub mod space_or_tab;

@@ -4,7 +4,7 @@ ghost use Rattle.std.specs.Prelude.{◌≡◌, ◌≤◌, ◌++◌, IsTrue, OnOk
 ghost use Rattle.md_engine.specs.World.{world};
 ghost use Rattle.md_engine.specs.declared.event.Name.{Name};
 ghost use Rattle.md_seam.specs.Events.Inline.{PlainReads, ends_whole, is_line, pair_unless_empty, plain_chunk};
-ghost use Rattle.md_seam.specs.Standard.Lines.{is_ending, without_ending};
+ghost use Rattle.md_definition.specs.Lines.{is_ending, without_ending};
 ghost use Rattle.md_seam.specs.Parts.{IsChunk};
 ghost use Rattle.md_seam.specs.Events.Places.{past_text};
 

@@ -1,10 +1,10 @@
 // Worked texts and their outlines, as the program `blocks` prints them.
 
+use md_definition::outline::{OutlineLine, Word};
 use md_engine::configuration::ParseOptions;
 use md_engine::message::Message;
 use md_plain::meaning::tree;
 use md_plain::outline_lines::outline;
-use md_seam::outline::{OutlineLine, Word};
 use plain_grammars::memory;
 use std::alloc::Global;
 

@@ -5,9 +5,9 @@ use Rattle.std.proofs.Math.Seq.{take-append_seam}
 use Rattle.std.proofs.lemmas.List.Folds.{list_all-map}
 use Rattle.std.proofs.Math.ListN.{drop_of_length-le}
 use Rattle.std.proofs.lemmas.List.{length-append, length-drop, length-map, map-append}
-use Rattle.md_seam.specs.Standard.Enclosed.{Enclosed, Closed, Open, Broken, with_byte, enclosed, Lines, with_line, enclosed_lines}
-use Rattle.md_seam.specs.Standard.Definition.{Defined, balanced, definition_at, with_definition, cut_definitions}
-use Rattle.md_seam.proofs.DefinitionLemmas.{length-definition_at, cut_definitions-some, cut_definitions-none}
+use Rattle.md_definition.specs.Enclosed.{Enclosed, Closed, Open, Broken, with_byte, enclosed, Lines, with_line, enclosed_lines}
+use Rattle.md_definition.specs.Definition.{Defined, balanced, definition_at, with_definition, cut_definitions}
+use Rattle.md_definition.proofs.DefinitionLemmas.{length-definition_at, cut_definitions-some, cut_definitions-none}
 use Rattle.plain_grammars.specs.declared.definition.Found.{Found}
 use Rattle.plain_grammars.specs.declared.definition.Defined as plain
 use Rattle.plain_grammars.specs.Definitions.{texts, defined_meaning, found_meaning, is_bare, depth_behind}

@@ -2,13 +2,13 @@
 use Rattle.std.proofs.Common.{◌≡◌, ℕ, zero, suc, ◌+◌, ◌<◌, ◌≤◌, Bool, true, false, cond, not, ◌||◌, List, [], ◌∷◌, map, length, take, drop, Some, None, refl, sym, ◌∙◌, ap, subst, arith}
 use Rattle.std.proofs.lemmas.List.{drop-map, take-map, length-map}
 use Rattle.std.specs.List.{list_any, prefix_len}
-use Rattle.md_seam.specs.Standard.Tree as t
-use Rattle.md_seam.specs.Standard.Rest as r
-use Rattle.md_seam.specs.Standard.Preamble as p
+use Rattle.md_definition.specs.Tree as t
+use Rattle.md_definition.specs.Rest as r
+use Rattle.md_definition.specs.Preamble as p
 use Rattle.plain_grammars.specs.declared.rest.Rest.{Rest}
 use Rattle.plain_grammars.specs.Fronts.{lines_in, IsEnd}
 use Rattle.plain_grammars.specs.Rests.{rest_meaning, rest_meanings}
-use Rattle.md_seam.proofs.LinesLemmas.{rests_at-zero}
+use Rattle.md_definition.proofs.LinesLemmas.{rests_at-zero}
 
 -- one passes where those that do not are fewer than all
 any-some : {A : Type 0} (f : A → Bool) (xs : List A) → prefix_len (λ x. not (f x)) xs < length xs → list_any f xs ≡ true

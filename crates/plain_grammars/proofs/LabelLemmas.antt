@@ -1,7 +1,7 @@
 -- The label of a footnote, read byte by byte.
 use Rattle.std.proofs.Common.{ℕ, false, cond, ◌==◌, ◌||◌, List, [], ◌++◌, Option, Some, None}
-use Rattle.md_seam.specs.Standard.Rest.{is_white}
-use Rattle.md_seam.specs.Standard.Containers.{Labelled, with_label_byte, footnote_label}
+use Rattle.md_definition.specs.Rest.{is_white}
+use Rattle.md_definition.specs.Containers.{Labelled, with_label_byte, footnote_label}
 
 -- with these bytes before it
 abbrev pub label_behind : List ℕ → Option Labelled → Option Labelled

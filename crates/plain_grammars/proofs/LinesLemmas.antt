@@ -3,10 +3,10 @@ use Rattle.std.proofs.Common.{◌≡◌, ℕ, suc, ◌+◌, Bool, true, false, c
 use Rattle.std.proofs.lemmas.Bool.{eqb-true}
 use Rattle.std.proofs.lemmas.List.{map-append}
 use Rattle.std.specs.List.{prefix_len, onto_first}
-use Rattle.md_seam.specs.Standard.Lines.{is_ending, begins_with, ends_line, full_lines_of, without_ending, lines_of}
-use Rattle.md_seam.specs.Standard.Rest as r
-use Rattle.md_seam.specs.Standard.Preamble.{rest_at, rests_at}
-use Rattle.md_seam.proofs.LinesLemmas.{rests_at-zero, without_ending-onto}
+use Rattle.md_definition.specs.Lines.{is_ending, begins_with, ends_line, full_lines_of, without_ending, lines_of}
+use Rattle.md_definition.specs.Rest as r
+use Rattle.md_definition.specs.Preamble.{rest_at, rests_at}
+use Rattle.md_definition.proofs.LinesLemmas.{rests_at-zero, without_ending-onto}
 use Rattle.plain_grammars.specs.declared.rest.Rest.{Rest}
 use Rattle.plain_grammars.specs.Rests.{after_ending, rest_meaning, rest_meanings}
 

@@ -1,7 +1,7 @@
 -- What each block means.
 use Rattle.std.proofs.Common.{◌≡◌, ℕ, Bool, List, map, Option, Bor, Vec, Global, sym, ◌∙◌, ap}
 use Rattle.std.specs.Option.{option_copied, option_map}
-use Rattle.md_seam.specs.Standard.Tree as t
+use Rattle.md_definition.specs.Tree as t
 use Rattle.plain_grammars.specs.declared.tree.Line.{Line}
 use Rattle.plain_grammars.specs.declared.tree.Block.{Block}
 use Rattle.plain_grammars.specs.declared.tree.Block.TheVariants as b

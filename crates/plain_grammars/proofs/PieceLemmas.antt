@@ -1,9 +1,9 @@
 -- A row is its first piece, and then the pieces behind the pipe that ends it.
 use Rattle.std.proofs.Common.{◌≡◌, ℕ, ◌<◌, ◌≤◌, Bool, true, false, ◌==◌, if◌then◌else◌, List, [], ◌∷◌, ◌++◌, map, length, take, drop, Bor, refl, sym, ◌∙◌, arith, append_assoc, append-nil, eqb-true}
 use Rattle.std.proofs.lemmas.List.{map-append}
-use Rattle.md_seam.specs.Standard.Rest.{trim}
-use Rattle.md_seam.specs.Standard.Bytes.{is_end}
-use Rattle.md_seam.specs.Standard.Table.{pieces}
+use Rattle.md_definition.specs.Rest.{trim}
+use Rattle.md_definition.specs.Bytes.{is_end}
+use Rattle.md_definition.specs.Table.{pieces}
 use Rattle.plain_grammars.specs.Pieces.{piece_len}
 
 -- the pieces from a pipe on

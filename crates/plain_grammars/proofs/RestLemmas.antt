@@ -1,6 +1,6 @@
 -- Losing columns of whitespace.
 use Rattle.std.proofs.Common.{◌≡◌, ℕ, zero, suc, ◌+◌, ◌-◌, ◌<◌, Bool, true, false, cond, ◌==◌, List, [], ◌∷◌, refl, sym, ◌∙◌, ap, subst, arith}
-use Rattle.md_seam.specs.Standard.Rest as r
+use Rattle.md_definition.specs.Rest as r
 
 abbrev rest : ℕ → ℕ → List ℕ → r.Rest
 rest c s bytes = record { column = c; spaces = s; bytes = bytes }

@@ -1,7 +1,7 @@
 -- What lists of blocks mean.
 use Rattle.std.proofs.Common.{◌≡◌, List, [], ◌∷◌, ◌++◌, refl, ap}
-use Rattle.md_seam.specs.Standard.Tree as t
-use Rattle.md_seam.specs.Standard.State.{then_block}
+use Rattle.md_definition.specs.Tree as t
+use Rattle.md_definition.specs.State.{then_block}
 use Rattle.plain_grammars.specs.declared.tree.Block.{Block}
 use Rattle.plain_grammars.specs.Trees.{meaning, meanings}
 

@@ -1,9 +1,9 @@
 -- The words of a line, and words with spaces between them.
 use Rattle.std.proofs.Common.{◌≡◌, ℕ, suc, ◌+◌, ◌<◌, ◌≤◌, Bool, true, false, not, List, [], ◌∷◌, ◌++◌, filter, flat_map, length, take, drop, Bor, get_or, refl, sym, ap, subst, ◌∙◌, arith, append_assoc}
 use Rattle.std.specs.List.{list_all, prefix_len, slice_split, onto_first, join_with_byte}
-use Rattle.md_seam.specs.Standard.Rest.{is_white}
-use Rattle.md_seam.specs.Standard.Bytes.{is_end}
-use Rattle.md_seam.specs.Standard.Label.{words, spaced}
+use Rattle.md_definition.specs.Rest.{is_white}
+use Rattle.md_definition.specs.Bytes.{is_end}
+use Rattle.md_definition.specs.Label.{words, spaced}
 use Rattle.plain_grammars.specs.Definitions.{texts}
 use Rattle.plain_grammars.proofs.DefinitionLemmas.{texts-drop, texts-drop_all}
 use Rattle.plain_grammars.specs.Words.{with_word, with_words}

@@ -2,8 +2,8 @@
 use Rattle.std.specs.Prelude.{ℕ, ◌+◌, ◌-◌, Bool, ◌&&◌, not, ◌==◌, if◌then◌else◌, List, [], ◌∷◌, map, drop, Option, Some, None}
 use Rattle.std.specs.Borrow.{Bor}
 use Rattle.std.specs.Option.{option_map}
-use Rattle.md_seam.specs.Standard.Enclosed as e
-use Rattle.md_seam.specs.Standard.Definition as d
+use Rattle.md_definition.specs.Enclosed as e
+use Rattle.md_definition.specs.Definition as d
 use Rattle.plain_grammars.specs.declared.definition.Defined.{Defined}
 use Rattle.plain_grammars.specs.declared.definition.Cut.{Cut}
 use Rattle.plain_grammars.specs.declared.definition.Ahead.{Ahead}

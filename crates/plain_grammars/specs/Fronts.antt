@@ -1,6 +1,6 @@
 -- The lines that rests are, and the frontmatter in front of them.
 use Rattle.std.specs.Prelude.{◌≡◌, ℕ, List, map, drop}
-use Rattle.md_seam.specs.Standard.Preamble as p
+use Rattle.md_definition.specs.Preamble as p
 use Rattle.plain_grammars.specs.declared.preamble.Front.{Front}
 use Rattle.plain_grammars.specs.declared.rest.Rest.{Rest}
 use Rattle.plain_grammars.specs.Trees.{meaning}

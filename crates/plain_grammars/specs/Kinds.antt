@@ -1,5 +1,5 @@
 -- What the kinds of HTML of the program mean.
-use Rattle.md_seam.specs.Standard.Html as h
+use Rattle.md_definition.specs.Html as h
 use Rattle.plain_grammars.specs.declared.html.HtmlKind.{HtmlKind}
 use Rattle.plain_grammars.specs.declared.html.HtmlKind.TheVariants as kind
 

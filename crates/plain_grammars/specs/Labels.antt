@@ -1,6 +1,6 @@
 -- What the lists of labels mean.
 use Rattle.std.specs.Prelude.{map, string_bytes}
-use Rattle.md_seam.specs.Standard.Label as l
+use Rattle.md_definition.specs.Label as l
 use Rattle.plain_grammars.specs.declared.label.Labels.{Labels}
 
 abbrev pub labels_meaning : Labels → l.Labels

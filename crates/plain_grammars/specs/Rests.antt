@@ -1,7 +1,7 @@
 -- What the rests of the program mean.
 use Rattle.std.specs.Prelude.{ℕ, ◌==◌, ◌&&◌, if◌then◌else◌, List, [], ◌∷◌, map, drop}
-use Rattle.md_seam.specs.Standard.Lines.{begins_with}
-use Rattle.md_seam.specs.Standard.Rest as r
+use Rattle.md_definition.specs.Lines.{begins_with}
+use Rattle.md_definition.specs.Rest as r
 use Rattle.plain_grammars.specs.declared.rest.Rest.{Rest}
 
 abbrev pub rest_meaning : Rest → r.Rest

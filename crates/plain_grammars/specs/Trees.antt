@@ -2,7 +2,7 @@
 use Rattle.std.specs.Prelude.{ℕ, List, [], ◌∷◌, map}
 use Rattle.std.specs.Borrow.{Bor}
 use Rattle.std.specs.Option.{option_copied, option_map}
-use Rattle.md_seam.specs.Standard.Tree as t
+use Rattle.md_definition.specs.Tree as t
 use Rattle.plain_grammars.specs.declared.tree.Line.{Line}
 use Rattle.plain_grammars.specs.declared.tree.Block.{Block}
 use Rattle.plain_grammars.specs.declared.tree.Block.TheOpen.{Block-F}

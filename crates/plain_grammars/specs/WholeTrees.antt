@@ -1,7 +1,7 @@
 -- What a whole tree means.
 use Rattle.std.specs.Option.{option_map}
-use Rattle.md_seam.specs.Standard.Meaning.{with_frontmatter}
-use Rattle.md_seam.specs.Standard.Tree as t
+use Rattle.md_definition.specs.Meaning.{with_frontmatter}
+use Rattle.md_definition.specs.Tree as t
 use Rattle.plain_grammars.specs.Trees.{meaning, meanings}
 use Rattle.plain_grammars.specs.declared.tree.Tree.{Tree}
 

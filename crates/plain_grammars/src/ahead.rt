@@ -1,8 +1,8 @@
 // What comes first in what is left of a line.
 ghost use Rattle.std.specs.Prelude.{◌≡◌};
-ghost use Rattle.md_seam.specs.Standard.Bytes as ahead;
-ghost use Rattle.md_seam.specs.Standard.Lines as lines;
-ghost use Rattle.md_seam.specs.Standard.Rest.{is_white};
+ghost use Rattle.md_definition.specs.Bytes as ahead;
+ghost use Rattle.md_definition.specs.Lines as lines;
+ghost use Rattle.md_definition.specs.Rest.{is_white};
 
 use crate::bytes::is_white;
 

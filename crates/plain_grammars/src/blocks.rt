@@ -1,7 +1,7 @@
 // Adding blocks, one by one.
 
 ghost use Rattle.std.specs.Prelude.{◌≡◌, OnOk};
-ghost use Rattle.md_seam.specs.Standard.State.{then_block, then_paragraph};
+ghost use Rattle.md_definition.specs.State.{then_block, then_paragraph};
 ghost use Rattle.plain_grammars.specs.Trees.{meaning, meanings, slices};
 
 use crate::memory;

@@ -2,7 +2,7 @@
 
 ghost use Rattle.std.specs.Prelude.{◌≡◌, ◌≤◌, length};
 ghost use Rattle.std.specs.List.{prefix_len, suffix_len};
-ghost use Rattle.md_seam.specs.Standard.Rest as rest;
+ghost use Rattle.md_definition.specs.Rest as rest;
 
 /// Whether this is a space or a tab.
 pub fn is_white(byte: u8) -> bool

@@ -1,7 +1,7 @@
 // Columns of whitespace (CommonMark 2.2).
 
 ghost use Rattle.std.specs.Prelude.{◌≡◌, ◌+◌, ◌*◌, ◌^◌, ◌≤◌, length};
-ghost use Rattle.md_seam.specs.Standard.Rest as rest;
+ghost use Rattle.md_definition.specs.Rest as rest;
 
 use md_engine::configuration::ParseOptions;
 

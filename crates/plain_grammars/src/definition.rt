@@ -2,10 +2,10 @@
 ghost use Rattle.std.specs.Prelude.{◌≡◌, ℕ, ◌+◌, ◌^◌, ◌<◌, ◌≤◌, ◌&&◌, not, false, List, length, drop, nat_le, sum_by, option_map, IfOk};
 ghost use Rattle.std.specs.Borrow.{Bor};
 ghost use Rattle.std.specs.List.{list_all, prefix_len};
-ghost use Rattle.md_seam.specs.Standard.Bytes.{is_end};
-ghost use Rattle.md_seam.specs.Standard.Definition as definition;
-ghost use Rattle.md_seam.specs.Standard.Enclosed as text;
-ghost use Rattle.md_seam.specs.Standard.Rest.{is_blank};
+ghost use Rattle.md_definition.specs.Bytes.{is_end};
+ghost use Rattle.md_definition.specs.Definition as definition;
+ghost use Rattle.md_definition.specs.Enclosed as text;
+ghost use Rattle.md_definition.specs.Rest.{is_blank};
 ghost use Rattle.plain_grammars.specs.Definitions as m;
 
 use crate::ahead::{after_optional, begins_with};
@@ -164,7 +164,7 @@ fn is_label(lines: &[&[u8]]) -> bool
 }
 
 /// The label whose `[` comes first, and what follows its `]` (CommonMark 6.3).
-#[tactic(auto, unfolding(md_seam::specs::Standard::Definition::label_at))]
+#[tactic(auto, unfolding(md_definition::specs::Definition::label_at))]
 fn label_at<'a>(
     alloc: Global,
     lines: &[&'a [u8]],
@@ -286,7 +286,7 @@ fn is_raw(text: &[u8]) -> bool
 }
 
 /// The destination that comes first (CommonMark 6.3).
-#[tactic(auto, unfolding(md_seam::specs::Standard::Definition::destination_at))]
+#[tactic(auto, unfolding(md_definition::specs::Definition::destination_at))]
 fn destination_at(line: &[u8]) -> Option<Destination<'_>>
     ensures { option_map m.destination_meaning result ≡ definition.destination_at line.now }
 {
@@ -316,7 +316,7 @@ fn title_closer(b: u8) -> Option<u8>
 }
 
 /// The title that comes first, and the lines behind it (CommonMark 6.3).
-#[tactic(auto, unfolding(md_seam::specs::Standard::Definition::title_at))]
+#[tactic(auto, unfolding(md_definition::specs::Definition::title_at))]
 fn title_at<'a>(
     alloc: Global,
     lines: &[&'a [u8]],
@@ -353,7 +353,7 @@ fn title_at<'a>(
 }
 
 /// The title behind a destination, after whitespace with at most one line ending.
-#[tactic(auto, unfolding(md_seam::specs::Standard::Definition::title_at))]
+#[tactic(auto, unfolding(md_definition::specs::Definition::title_at))]
 fn title_after<'a>(
     alloc: Global,
     lines: &[&'a [u8]],
@@ -418,7 +418,7 @@ fn with_destination<'a>(
 }
 
 /// The definition that begins with this line.
-#[tactic(auto, unfolding(md_seam::specs::Standard::Definition::definition_at))]
+#[tactic(auto, unfolding(md_definition::specs::Definition::definition_at))]
 fn definition_at<'a>(
     alloc: Global,
     lines: &[&'a [u8]],

@@ -3,8 +3,8 @@ ghost use Rattle.std.specs.Prelude.{◌≡◌, ◌≤◌, length, nat_eq, option
 ghost use Rattle.std.specs.Char.{is_ascii_alphabetic};
 ghost use Rattle.std.specs.List.{prefix_len, starts_with};
 ghost use Rattle.std.specs.Str.{str_eq_ignore_ascii_case};
-ghost use Rattle.md_seam.specs.Standard.Bytes.{begins};
-ghost use Rattle.md_seam.specs.Standard.Html as h;
+ghost use Rattle.md_definition.specs.Bytes.{begins};
+ghost use Rattle.md_definition.specs.Html as h;
 ghost use Rattle.plain_grammars.specs.Kinds.{kind_meaning};
 
 use crate::ahead::{after_optional, begins_white, begins_with};
@@ -143,7 +143,7 @@ fn ends_name(rest: &[u8]) -> bool
 }
 
 /// Whether `HtmlKind::Raw` begins, after `<`.
-#[tactic(auto, unfolding(md_seam::specs::Standard::Html::begins_raw))]
+#[tactic(auto, unfolding(md_definition::specs::Html::begins_raw))]
 fn begins_raw(rest: &[u8]) -> bool
     ensures { result ≡ h.begins_raw rest.now }
 {
@@ -152,7 +152,7 @@ fn begins_raw(rest: &[u8]) -> bool
 }
 
 /// Whether `HtmlKind::Basic` begins, after `<` or `</`.
-#[tactic(auto, unfolding(md_seam::specs::Standard::Html::begins_basic))]
+#[tactic(auto, unfolding(md_definition::specs::Html::begins_basic))]
 fn begins_basic(rest: &[u8]) -> bool
     ensures { result ≡ h.begins_basic rest.now }
 {
@@ -214,7 +214,7 @@ fn after_next(byte: u8, bytes: &[u8]) -> Option<&[u8]>
 }
 
 /// What follows a value (CommonMark 6.6).
-#[tactic(auto, unfolding(md_seam::specs::Standard::Html::after_value))]
+#[tactic(auto, unfolding(md_definition::specs::Html::after_value))]
 fn after_value(rest: &[u8]) -> Option<&[u8]>
     ensures { option_copied result ≡ h.after_value rest.now }
 {
@@ -226,7 +226,7 @@ fn after_value(rest: &[u8]) -> Option<&[u8]>
 }
 
 /// What follows the value of an attribute that may have one, after its name.
-#[tactic(auto, unfolding(md_seam::specs::Standard::Html::after_assignment))]
+#[tactic(auto, unfolding(md_definition::specs::Html::after_assignment))]
 fn after_assignment(rest: &[u8]) -> Option<&[u8]>
     ensures { option_copied result ≡ h.after_assignment rest.now }
 {
@@ -239,7 +239,7 @@ fn after_assignment(rest: &[u8]) -> Option<&[u8]>
 }
 
 /// What follows an attribute: whitespace, a name, and perhaps `=` and a value.
-#[tactic(auto, unfolding(md_seam::specs::Standard::Html::after_attribute))]
+#[tactic(auto, unfolding(md_definition::specs::Html::after_attribute))]
 fn after_attribute(rest: &[u8]) -> Option<&[u8]>
     ensures { option_copied result ≡ h.after_attribute rest.now }
 {
@@ -270,7 +270,7 @@ fn closes_tag(rest: &[u8]) -> bool
 }
 
 /// Whether this is the rest of an opening tag after its name, and then spaces and tabs alone.
-#[tactic(auto, unfolding(md_seam::specs::Standard::Html::ends_opening))]
+#[tactic(auto, unfolding(md_definition::specs::Html::ends_opening))]
 fn ends_opening(rest: &[u8]) -> bool
     ensures { result ≡ h.ends_opening rest.now }
 {
@@ -278,7 +278,7 @@ fn ends_opening(rest: &[u8]) -> bool
 }
 
 /// Whether `HtmlKind::Complete` begins, after `<`.
-#[tactic(auto, unfolding(md_seam::specs::Standard::Html::begins_complete))]
+#[tactic(auto, unfolding(md_definition::specs::Html::begins_complete))]
 fn begins_complete(bytes: &[u8]) -> bool
     ensures { result ≡ h.begins_complete bytes.now }
 {
@@ -290,7 +290,7 @@ fn begins_complete(bytes: &[u8]) -> bool
 }
 
 /// The kind that begins here, after `<`.
-#[tactic(auto, unfolding(md_seam::specs::Standard::Html::kind_after))]
+#[tactic(auto, unfolding(md_definition::specs::Html::kind_after))]
 fn kind_after(rest: &[u8]) -> Option<HtmlKind>
     ensures { option_map kind_meaning result ≡ h.kind_after rest.now }
 {
@@ -314,7 +314,7 @@ fn kind_after(rest: &[u8]) -> Option<HtmlKind>
 }
 
 /// The kind that a line begins, given from its `<` on.
-#[tactic(auto, unfolding(md_seam::specs::Standard::Html::html_kind))]
+#[tactic(auto, unfolding(md_definition::specs::Html::html_kind))]
 pub fn html_kind(line: &[u8]) -> Option<HtmlKind>
     ensures { option_map kind_meaning result ≡ h.html_kind line.now }
 {
@@ -368,7 +368,7 @@ fn holds_word(word: &[u8], line: &[u8]) -> bool
 }
 
 /// Whether the line holds the end of this kind. The last two kinds end before a blank line.
-#[tactic(auto, unfolding(md_seam::specs::Standard::Html::html_ends))]
+#[tactic(auto, unfolding(md_definition::specs::Html::html_ends))]
 pub fn html_ends(kind: HtmlKind, line: &[u8]) -> bool
     ensures { result ≡ h.html_ends (kind_meaning kind) line.now }
 {

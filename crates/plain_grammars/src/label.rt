@@ -1,8 +1,8 @@
 // The normal forms of labels (CommonMark 6.3).
 ghost use Rattle.std.specs.Prelude.{◌≡◌, ◌≤◌, not, [], length, string_bytes, IfOk, OnOk};
 ghost use Rattle.std.specs.List.{prefix_len};
-ghost use Rattle.md_seam.specs.Standard.Label as label;
-ghost use Rattle.md_seam.specs.Standard.Rest.{is_white};
+ghost use Rattle.md_definition.specs.Label as label;
+ghost use Rattle.md_definition.specs.Rest.{is_white};
 ghost use Rattle.plain_grammars.specs.Definitions.{texts};
 ghost use Rattle.plain_grammars.specs.Labels.{labels_meaning};
 ghost use Rattle.plain_grammars.specs.Trees.{meaning, meanings};
@@ -66,7 +66,7 @@ fn spaced(alloc: Global, lines: &[&[u8]]) -> Result<Vec<u8>, Message>
 }
 
 /// The normal form of a label, given its lines. Bytes that are no UTF-8, which no label of a text has, are refused.
-#[tactic(auto, unfolding(md_seam::specs::Standard::Label::normal_form))]
+#[tactic(auto, unfolding(md_definition::specs::Label::normal_form))]
 pub fn normal_form(alloc: Global, lines: &[&[u8]]) -> Result<String, Message>
     ensures { IfOk result (λ form. string_bytes form ≡ label.normal_form (texts lines.now)) }
 {

@@ -2,8 +2,8 @@
 
 ghost use Rattle.std.specs.Prelude.{◌≡◌, ◌≤◌, ◌<◌, ◌+◌, ◌-◌, ◌*◌, ◌^◌, length, not, IfOk};
 ghost use Rattle.std.specs.List.{prefix_len};
-ghost use Rattle.md_seam.specs.Standard.Lines as lines;
-ghost use Rattle.md_seam.specs.Standard.Preamble.{rests_at};
+ghost use Rattle.md_definition.specs.Lines as lines;
+ghost use Rattle.md_definition.specs.Preamble.{rests_at};
 ghost use Rattle.plain_grammars.specs.Rests.{rest_meanings, after_ending};
 
 use crate::memory;

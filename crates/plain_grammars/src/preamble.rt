@@ -3,7 +3,7 @@
 ghost use Rattle.std.specs.Prelude.{◌≡◌, ◌≤◌, not, length, drop, Some, IfOk, IfSome};
 ghost use Rattle.std.specs.List.{prefix_len};
 ghost use Rattle.std.specs.Option.{option_map};
-ghost use Rattle.md_seam.specs.Standard.Preamble as preamble;
+ghost use Rattle.md_definition.specs.Preamble as preamble;
 ghost use Rattle.plain_grammars.specs.Trees.{slices};
 ghost use Rattle.plain_grammars.specs.Fronts as fronts;
 
@@ -93,7 +93,7 @@ fn front_by<'a, 'b>(
 }
 
 /// The frontmatter at the front of these lines, if the first is a fence.
-#[tactic(auto, unfolding(md_seam::specs::Standard::Preamble::front_of))]
+#[tactic(auto, unfolding(md_definition::specs::Preamble::front_of))]
 pub fn front_of<'a, 'b>(
     alloc: Global,
     options: &ParseOptions,

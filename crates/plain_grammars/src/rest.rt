@@ -21,7 +21,7 @@ pub struct Rest<'a> {
 }
 
 impl<'a> Rest<'a> {
-    ghost use Rattle.md_seam.specs.Standard.Rest as rest;
+    ghost use Rattle.md_definition.specs.Rest as rest;
     ghost use Rattle.plain_grammars.specs.Rests.{rest_meaning};
     ghost use Rattle.plain_grammars.specs.Trees.{line_meaning};
 

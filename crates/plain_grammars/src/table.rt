@@ -1,7 +1,7 @@
 // Tables: the cells of a row, and delimiter rows (GFM 4.10).
 ghost use Rattle.std.specs.Prelude.{◌≡◌, ◌≤◌, false, ◌||◌, ◌==◌, map, length, IfOk};
 ghost use Rattle.std.specs.List.{list_any, list_all};
-ghost use Rattle.md_seam.specs.Standard.Table as table;
+ghost use Rattle.md_definition.specs.Table as table;
 ghost use Rattle.plain_grammars.specs.Pieces.{piece_len};
 
 use crate::ahead::{after_optional, begins_with};
@@ -79,7 +79,7 @@ pub fn delimiter_columns(alloc: Global, row: &[u8]) -> Result<Option<usize>, Mes
 }
 
 /// Whether a line may be a head: it is not just a pipe with spaces and tabs around it.
-#[tactic(auto, unfolding(md_seam::specs::Standard::Table::is_head))]
+#[tactic(auto, unfolding(md_definition::specs::Table::is_head))]
 pub fn is_head(line: &[u8]) -> bool
     ensures { result ≡ table.is_head line.now }
 {

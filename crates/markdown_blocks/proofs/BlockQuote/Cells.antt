@@ -6,7 +6,7 @@ use Rattle.md_engine.specs.Meaning.{Cell}
 use Rattle.md_containers.specs.QuoteRule.{behind_events, indent_events, marker_events, prefix_events}
 use Rattle.md_seam.specs.Ahead.{begins_white, white_end, white_rest}
 use Rattle.md_seam.specs.Events.Nested.{exit, pair}
-use Rattle.md_seam.specs.Standard.Rest.{is_white}
+use Rattle.md_definition.specs.Rest.{is_white}
 use Rattle.md_seam.specs.Spaces.{small_indent}
 use Rattle.markdown_blocks.proofs.ContainerNames.{is_front}
 use Rattle.markdown_blocks.proofs.EachEvent.{each-append}

@@ -5,7 +5,7 @@ use Rattle.md_engine.specs.declared.event.Event.{Event}
 use Rattle.md_engine.specs.declared.event.Point.{Point}
 use Rattle.md_seam.specs.Events.Inline.{pair_unless_empty}
 use Rattle.md_seam.specs.Events.Nested.{enter, exit}
-use Rattle.md_seam.specs.Standard.Rest.{is_blank}
+use Rattle.md_definition.specs.Rest.{is_blank}
 use Rattle.md_seam.specs.Events.Spelled.{Text, after_prefix, before_prefix, byte_at, text_to}
 use Rattle.md_seam.proofs.FeedLines.{slice-split}
 use Rattle.md_seam.proofs.SpelledLemmas.{QuietOrEnding, text-inline, text_after, text_after-append}

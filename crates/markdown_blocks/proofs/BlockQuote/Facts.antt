@@ -14,7 +14,7 @@ use Rattle.md_engine.specs.declared.event.Point.{Point}
 use Rattle.md_seam.specs.Events.Inline.{pair_unless_empty}
 use Rattle.md_seam.specs.Events.Nested.{Balanced, enter, exit, pair, around}
 use Rattle.md_seam.specs.Events.Places.{at_or_before, same_place}
-use Rattle.md_seam.specs.Standard.State.{InQuote}
+use Rattle.md_definition.specs.State.{InQuote}
 use Rattle.md_seam.proofs.NestedLemmas.{at_or_before-refl}
 use Rattle.md_seam.proofs.SpelledLemmas.{QuietOrPrefix, read-prefixes}
 use Rattle.md_containers.proofs.QuoteLines.{IsPrefix}

@@ -7,12 +7,12 @@ use Rattle.md_engine.specs.declared.tokenizer.Line.{Line}
 use Rattle.md_engine.specs.Meaning.{Cell}
 use Rattle.md_containers.specs.QuoteRule.{prefix_end, prefix_events, prefix_rest, takes_prefix}
 use Rattle.md_containers.proofs.QuoteLines.{HasPrefix, PrefixIs, prefix-agrees, quote-container, quote-no_ending}
-use Rattle.md_seam.specs.Standard.Containers.{Taken, opens_quote, quote_taken}
+use Rattle.md_definition.specs.Containers.{Taken, opens_quote, quote_taken}
 use Rattle.md_seam.specs.Events.Nested.{enter}
-use Rattle.md_seam.specs.Standard.Rest.{Rest}
-use Rattle.md_seam.specs.Standard.State.{InQuote}
+use Rattle.md_definition.specs.Rest.{Rest}
+use Rattle.md_definition.specs.State.{InQuote}
 use Rattle.md_seam.proofs.RestCells.{past_rest, rest_cells}
-use Rattle.md_seam.proofs.TextsLemmas.{NoEnding}
+use Rattle.md_definition.proofs.TextsLemmas.{NoEnding}
 use Rattle.markdown_blocks.specs.Containers.BlockQuote.{quote_new, quote_on, quote_rules}
 use Rattle.markdown_blocks.specs.Passed.{Passed}
 use Rattle.markdown_blocks.proofs.ContainerLaws.{ByRest}

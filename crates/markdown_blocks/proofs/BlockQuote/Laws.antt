@@ -5,9 +5,9 @@ use Rattle.md_engine.specs.declared.configuration.ParseOptions.{ParseOptions}
 use Rattle.md_engine.specs.declared.tokenizer.container.name.ContainerKind.TheVariants as kind
 use Rattle.md_engine.specs.declared.tokenizer.container.ContainerKind.TheVariants as kind
 use Rattle.md_containers.proofs.QuoteShorter.{prefix-shortens, quote-shortens}
-use Rattle.md_seam.specs.Standard.Containers.{continues}
-use Rattle.md_seam.specs.Standard.Preamble.{rest_at}
-use Rattle.md_seam.specs.Standard.State.{Container, InFootnote, InItem, InQuote, container_block}
+use Rattle.md_definition.specs.Containers.{continues}
+use Rattle.md_definition.specs.Preamble.{rest_at}
+use Rattle.md_definition.specs.State.{Container, InFootnote, InItem, InQuote, container_block}
 use Rattle.md_seam.proofs.RestCells.{past_rest, rest_cells}
 use Rattle.markdown_blocks.specs.Containers.BlockQuote.{quote_rules}
 use Rattle.markdown_blocks.specs.Registry.{IsOf, kind_of, shape_of}

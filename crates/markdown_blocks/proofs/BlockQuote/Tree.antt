@@ -3,12 +3,12 @@
 use Rattle.std.proofs.Common.{◌≡◌, ◌+◌, Bool, true, false, cond, ◌&&◌, [], refl, ap, ℕ}
 use Rattle.std.specs.Prelude.{Option, Some, None}
 use Rattle.md_engine.specs.declared.configuration.ParseOptions.{ParseOptions}
-use Rattle.md_seam.specs.Standard.Containers.{Taken, opens_quote, quote_taken}
+use Rattle.md_definition.specs.Containers.{Taken, opens_quote, quote_taken}
 use Rattle.md_containers.proofs.QuoteLines.{quote-container}
-use Rattle.md_seam.specs.Standard.Rest.{Rest, has_small_indent, lose}
-use Rattle.md_seam.specs.Standard.State.{InQuote}
-use Rattle.md_seam.specs.Standard.Preamble.{rest_at}
-use Rattle.md_seam.specs.Standard.Tree.{Blocks, Quote}
+use Rattle.md_definition.specs.Rest.{Rest, has_small_indent, lose}
+use Rattle.md_definition.specs.State.{InQuote}
+use Rattle.md_definition.specs.Preamble.{rest_at}
+use Rattle.md_definition.specs.Tree.{Blocks, Quote}
 use Rattle.markdown_blocks.proofs.SimpleBlocks.{AreSimple, grouped-blocks, shallow-blocks, IsSimple}
 
 -- a quote that opens is one

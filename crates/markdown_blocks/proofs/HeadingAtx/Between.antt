@@ -15,12 +15,12 @@ use Rattle.md_leaves.proofs.TitleRuns.{pass-first, pass-rest}
 use Rattle.md_seam.specs.Events.Inline.{line_end, plain_chunk}
 use Rattle.md_seam.specs.Events.Nested.{enter, enter_link, exit}
 use Rattle.md_seam.specs.Events.Places.{past_byte, past_text}
-use Rattle.md_seam.specs.Standard.Lines.{without_ending}
-use Rattle.md_seam.specs.Standard.Rest.{Rest, is_white}
+use Rattle.md_definition.specs.Lines.{without_ending}
+use Rattle.md_definition.specs.Rest.{Rest, is_white}
 use Rattle.md_seam.proofs.FeedLines.{drop-past, past-next, slice-front}
 use Rattle.md_seam.proofs.InlineLemmas.{past-index}
 use Rattle.md_seam.proofs.PlacesLemmas.{at-next}
-use Rattle.md_seam.proofs.TextsLemmas.{NoEnding}
+use Rattle.md_definition.proofs.TextsLemmas.{NoEnding}
 use Rattle.md_outline.specs.Between.{is_between}
 use Rattle.markdown_blocks.specs.Leaf.HeadingAtx.{heading_around, read_text, read_title}
 use Rattle.markdown_blocks.proofs.BetweenFacts.{AreBetween, around-between, between-append, between-before, between-behind, between-more, chunk-between, is_low, white-low}

@@ -15,11 +15,11 @@ use Rattle.md_seam.specs.Ahead.{begins_white, line_bytes, line_cells, white_end,
 use Rattle.md_seam.specs.Events.Nested.{around, enter, pair}
 use Rattle.md_seam.specs.Events.Places.{past_byte, past_text}
 use Rattle.md_seam.specs.Spaces.{small_indent}
-use Rattle.md_seam.specs.Standard.Rest.{Rest, has_small_indent, is_white, run_len, trim_start}
+use Rattle.md_definition.specs.Rest.{Rest, has_small_indent, is_white, run_len, trim_start}
 use Rattle.md_seam.proofs.AheadLemmas.{white-no_ending}
 use Rattle.md_seam.proofs.FeedLines.{Stops, byte_cells, bytes_of, cell, columns_more, next_column, spread, tab_cells, tab_end, tab_end-last, tab_end-next, tab_end-stop}
 use Rattle.md_seam.proofs.RestCells.{RestAt, rest_cells}
-use Rattle.md_seam.proofs.TextsLemmas.{NoEnding}
+use Rattle.md_definition.proofs.TextsLemmas.{NoEnding}
 use Rattle.markdown_blocks.specs.Fronted.{rest_line}
 use Rattle.markdown_blocks.specs.Leaf.HeadingAtx.{heading_leaf}
 use Rattle.markdown_blocks.proofs.RestFacts.{Indented, large-white, rest-line_end, rest-no_ending, rest-same, small-indented, spread-line}

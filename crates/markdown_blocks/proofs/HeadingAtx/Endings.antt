@@ -13,8 +13,8 @@ use Rattle.md_seam.specs.Events.Endings.{line_start}
 use Rattle.md_seam.specs.Events.Inline.{line_end, pair_unless_empty}
 use Rattle.md_seam.specs.Events.Nested.{around, pair}
 use Rattle.md_seam.specs.Events.Places.{past_text, same_place}
-use Rattle.md_seam.specs.Standard.Lines.{without_ending}
-use Rattle.md_seam.specs.Standard.Rest.{Rest}
+use Rattle.md_definition.specs.Lines.{without_ending}
+use Rattle.md_definition.specs.Rest.{Rest}
 use Rattle.md_seam.proofs.EndingsLemmas.{AreOthers, Leads, behind_leaf, in_leaf, leaf-leads, others-append, others-lead}
 use Rattle.md_seam.proofs.InlineLemmas.{same-refl}
 use Rattle.markdown_blocks.specs.Leaf.HeadingAtx.{heading_around, read_text, read_title}

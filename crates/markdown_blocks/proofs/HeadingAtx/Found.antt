@@ -4,8 +4,8 @@ use Rattle.std.specs.Prelude.{nat_le, Option, Some, None}
 use Rattle.std.proofs.lemmas.Bool.{and_parts}
 use Rattle.md_engine.specs.declared.configuration.ParseOptions.{ParseOptions}
 use Rattle.md_leaves.specs.HeadingRule.{is_heading}
-use Rattle.md_seam.specs.Standard.Leaves.{Came, Finished, heading_at}
-use Rattle.md_seam.specs.Standard.Rest.{Rest, has_small_indent, is_parted, run_len, trim_start}
+use Rattle.md_definition.specs.Leaves.{Came, Finished, heading_at}
+use Rattle.md_definition.specs.Rest.{Rest, has_small_indent, is_parted, run_len, trim_start}
 use Rattle.markdown_blocks.specs.Leaf.HeadingAtx.{heading_block, heading_leaf}
 use Rattle.markdown_blocks.proofs.SimpleBlocks.{IsSimple}
 

@@ -15,7 +15,7 @@ use Rattle.md_seam.specs.Events.Inline.{pieces}
 use Rattle.md_seam.specs.Events.Nested.{enter, exit}
 use Rattle.md_seam.specs.Events.Pieces.{pieces_stand}
 use Rattle.md_seam.specs.Events.Places.{past_byte}
-use Rattle.md_seam.specs.Standard.Rest.{is_white}
+use Rattle.md_definition.specs.Rest.{is_white}
 use Rattle.markdown_blocks.proofs.PieceFacts.{CutsFirst}
 use Rattle.markdown_blocks.specs.MarkRuns.{Apart, Marks, Run, White, mark_runs}
 use Rattle.markdown_blocks.proofs.PieceRuns.{AreMarks, IsMarker, other-run, runs-stand}

@@ -9,7 +9,7 @@ use Rattle.md_engine.specs.declared.event.Point.{Point}
 use Rattle.md_leaves.specs.HeadingRule.{is_heading}
 use Rattle.md_leaves.specs.HeadingTitle.{title_of, unread_title}
 use Rattle.md_seam.specs.Events.Places.{past_text}
-use Rattle.md_seam.specs.Standard.Rest.{Rest, has_small_indent, trim_start}
+use Rattle.md_definition.specs.Rest.{Rest, has_small_indent, trim_start}
 use Rattle.markdown_blocks.specs.Fronted.{rest_line}
 use Rattle.markdown_blocks.specs.Leaf.HeadingAtx.{heading_leaf, read_title}
 use Rattle.markdown_blocks.proofs.FillFacts.{fill-around}

@@ -17,7 +17,7 @@ use Rattle.md_seam.specs.Events.Inline.{plain_chunk}
 use Rattle.md_seam.specs.Events.Nested.{enter_link, exit}
 use Rattle.md_seam.specs.Events.Pieces.{piece_stands}
 use Rattle.md_seam.specs.Events.Places.{past_text}
-use Rattle.md_seam.specs.Standard.Rest.{Rest, run_len, trim_start}
+use Rattle.md_definition.specs.Rest.{Rest, run_len, trim_start}
 use Rattle.md_seam.proofs.FeedLines.{drop-past}
 use Rattle.md_seam.proofs.InlineLemmas.{past-index}
 use Rattle.markdown_blocks.specs.Leaf.HeadingAtx.{heading_around, read_text, read_title}

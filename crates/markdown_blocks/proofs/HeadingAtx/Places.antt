@@ -8,11 +8,11 @@ use Rattle.md_leaves.specs.HeadingTitle.{front_len, text_of}
 use Rattle.md_leaves.proofs.TitleLemmas.{title-fits, title-text}
 use Rattle.md_seam.specs.Events.Inline.{are_lines, is_one_line}
 use Rattle.md_seam.specs.Events.Places.{at_or_before, past_text, same_place}
-use Rattle.md_seam.specs.Standard.Rest.{Rest}
-use Rattle.md_seam.specs.Standard.Texts.{split_lines}
+use Rattle.md_definition.specs.Rest.{Rest}
+use Rattle.md_definition.specs.Texts.{split_lines}
 use Rattle.md_seam.proofs.FeedLines.{slice-inside}
 use Rattle.md_seam.proofs.InlineLemmas.{before-text, past-index, past_text-append, same-refl}
-use Rattle.md_seam.proofs.TextsLemmas.{NoEnding, no_ending-drop}
+use Rattle.md_definition.proofs.TextsLemmas.{NoEnding, no_ending-drop}
 use Rattle.markdown_blocks.proofs.LeafFacts.{LineAt}
 use Rattle.markdown_blocks.proofs.LineTexts.{no_ending-parts, one-last}
 

@@ -18,15 +18,15 @@ use Rattle.md_seam.specs.Events.Inline.{plain_chunks, together}
 use Rattle.md_seam.specs.Events.Nested.{around}
 use Rattle.md_seam.specs.Events.Places.{past_byte, past_text}
 use Rattle.md_seam.specs.Events.Spelled.{AsHeading, AsMarkers, HeadingAtxLeaf, HeadingSoFar, OfHeadingAtx, OpenLeaf, Reading, Tells, Text, add_block, begun, byte_at, columns_left, first_told, fresh, noted, read, read_exit, text_to, told_at}
-use Rattle.md_seam.specs.Standard.Leaves.{heading_lines, heading_text, without_closing}
-use Rattle.md_seam.specs.Standard.Rest.{Rest, is_parted, is_white, run_len, trim, trim_end, trim_start}
-use Rattle.md_seam.specs.Standard.Texts.{split_lines, trim_each}
-use Rattle.md_seam.specs.Standard.Tree.{Block, Heading}
+use Rattle.md_definition.specs.Leaves.{heading_lines, heading_text, without_closing}
+use Rattle.md_definition.specs.Rest.{Rest, is_parted, is_white, run_len, trim, trim_end, trim_start}
+use Rattle.md_definition.specs.Texts.{split_lines, trim_each}
+use Rattle.md_definition.specs.Tree.{Block, Heading}
 use Rattle.md_seam.proofs.BlocksLemmas.{read-leaf, read-told}
 use Rattle.md_seam.proofs.FeedLines.{past_text-whole, slice-inside}
 use Rattle.md_seam.proofs.InlineLemmas.{past-index}
 use Rattle.md_seam.proofs.SpelledLemmas.{Between, Quiet, QuietOrEnding, Roles, read-from, read-quiet, text-inline, text_after}
-use Rattle.md_seam.proofs.TextsLemmas.{NoEnding, split-line}
+use Rattle.md_definition.proofs.TextsLemmas.{NoEnding, split-line}
 use Rattle.markdown_blocks.specs.Leaf.HeadingAtx.{heading_around, heading_block, read_text, read_title}
 use Rattle.markdown_blocks.proofs.HeadingAtx.Places.{IsTitle, title-is}
 use Rattle.markdown_blocks.proofs.LeafFacts.{LineAt}

@@ -21,7 +21,7 @@ use Rattle.md_seam.specs.declared.inline.PartKind.TheVariants.{Text}
 use Rattle.md_seam.specs.Events.Inline.{in_order, plain_chunks, plain_events, together}
 use Rattle.md_seam.specs.Events.Nested.{around, enter, exit}
 use Rattle.md_seam.specs.Events.Places.{at_or_before, past_byte, past_text}
-use Rattle.md_seam.specs.Standard.Rest.{Rest, is_white, trim_start}
+use Rattle.md_definition.specs.Rest.{Rest, is_white, trim_start}
 use Rattle.md_seam.specs.Substituted.{Readings}
 use Rattle.md_seam.proofs.InlineLemmas.{plain-fills, same-refl}
 use Rattle.md_seam.proofs.NestedLemmas.{at_or_before-refl}

@@ -11,7 +11,7 @@ use Rattle.md_seam.specs.declared.inline.Chunk.{Chunk}
 use Rattle.md_seam.specs.Events.Grammar.{Expression, behind_block, blocks, plain_text, unread_text}
 use Rattle.md_seam.specs.Events.Inline.{plain_chunk}
 use Rattle.md_seam.specs.Events.Places.{past_text}
-use Rattle.md_seam.specs.Standard.Rest.{trim_start}
+use Rattle.md_definition.specs.Rest.{trim_start}
 use Rattle.md_seam.proofs.GrammarLemmas.{IsWord, Leads, leads-around, maybe}
 use Rattle.markdown_blocks.specs.Leaf.HeadingAtx.{heading_around, read_text, read_title}
 use Rattle.markdown_blocks.proofs.ChunkFacts.{chunk-word}

@@ -12,8 +12,8 @@ use Rattle.md_content.specs.ParagraphRule.{line_events}
 use Rattle.md_seam.specs.declared.inline.Chunk.{Chunk}
 use Rattle.md_seam.specs.Ahead.{point_after}
 use Rattle.md_seam.specs.Events.Nested.{enter_link, exit}
-use Rattle.md_seam.specs.Standard.State.{Kept, Leaf, NoLeaf, OpenParagraph, shut_paragraph, texts, then_leaf, then_paragraph}
-use Rattle.md_seam.specs.Standard.Tree.{Blocks, Paragraph}
+use Rattle.md_definition.specs.State.{Kept, Leaf, NoLeaf, OpenParagraph, shut_paragraph, texts, then_leaf, then_paragraph}
+use Rattle.md_definition.specs.Tree.{Blocks, Paragraph}
 use Rattle.markdown_blocks.specs.Leaf.Paragraph.{paragraph_leaf}
 use Rattle.markdown_blocks.specs.HeldLeaf.{IsBuiltLeaf}
 use Rattle.markdown_blocks.proofs.EachEvent.{settled-each}

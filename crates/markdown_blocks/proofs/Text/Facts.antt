@@ -8,7 +8,7 @@ use Rattle.md_seam.specs.declared.inline.Chunk.{Chunk}
 use Rattle.md_seam.specs.declared.inline.PartKind.TheVariants.{Text}
 use Rattle.md_seam.specs.Events.Grammar.{blocks, plain_text, unread_text}
 use Rattle.md_seam.specs.Events.Spelled.{byte_at}
-use Rattle.md_seam.specs.Standard.State.{Kept, kept, texts}
+use Rattle.md_definition.specs.State.{Kept, kept, texts}
 use Rattle.md_seam.proofs.EndingsLemmas.{leaf-leads}
 use Rattle.md_seam.proofs.GrammarLemmas.{leads-around}
 use Rattle.md_seam.proofs.InlineLemmas.{plain-fills}

@@ -9,7 +9,7 @@ use Rattle.md_seam.specs.Events.Inline.{in_order}
 use Rattle.md_seam.specs.Events.Places.{at_or_before}
 use Rattle.md_seam.proofs.InlineLemmas.{before-text}
 use Rattle.md_seam.proofs.NestedLemmas.{at_or_before-refl, at_or_before-trans}
-use Rattle.md_seam.proofs.TextsLemmas.{Both, Ending, LineFeed, Return, ending_bytes}
+use Rattle.md_definition.proofs.TextsLemmas.{Both, Ending, LineFeed, Return, ending_bytes}
 use Rattle.markdown_blocks.specs.Rows.{Row, TextRow, behind_row, chunks_of}
 use Rattle.markdown_blocks.proofs.FrontFacts.{LinePrefix}
 use Rattle.markdown_blocks.proofs.FrontLemmas.{fronts-order}

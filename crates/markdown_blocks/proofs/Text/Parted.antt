@@ -11,14 +11,14 @@ use Rattle.md_engine.specs.declared.event.Event.{Event}
 use Rattle.md_engine.specs.declared.event.Point.{Point}
 use Rattle.md_seam.specs.declared.inline.Chunk.{Chunk}
 use Rattle.md_seam.specs.Events.Inline.{plain_chunk}
-use Rattle.md_seam.specs.Standard.Lines.{is_ending}
+use Rattle.md_definition.specs.Lines.{is_ending}
 use Rattle.md_seam.specs.Events.Nested.{enter, exit}
 use Rattle.md_seam.specs.Events.Places.{last_line}
-use Rattle.md_seam.specs.Standard.Rest.{Rest, is_blank}
+use Rattle.md_definition.specs.Rest.{Rest, is_blank}
 use Rattle.md_seam.specs.Events.Spelled.{byte_at}
-use Rattle.md_seam.specs.Standard.Texts.{split_lines}
+use Rattle.md_definition.specs.Texts.{split_lines}
 use Rattle.md_seam.proofs.RestCells.{Cut}
-use Rattle.md_seam.proofs.TextsLemmas.{NoEnding, ending_bytes}
+use Rattle.md_definition.proofs.TextsLemmas.{NoEnding, ending_bytes}
 use Rattle.md_outline.specs.Between.{is_between}
 use Rattle.md_outline.specs.Outlined.{TextSpan as Span, are_parted, begins_line}
 use Rattle.markdown_blocks.specs.Fronted.{cut_tab}

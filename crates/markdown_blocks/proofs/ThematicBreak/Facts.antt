@@ -15,9 +15,9 @@ use Rattle.md_seam.specs.Events.Grammar.{Expression, Nothing, behind, blocks, in
 use Rattle.md_seam.specs.Events.Nested.{around, enter, exit}
 use Rattle.md_seam.specs.Events.Pieces.{is_run, stands_over}
 use Rattle.md_seam.specs.Events.Places.{past_byte, past_text}
-use Rattle.md_seam.specs.Standard.Leaves.{is_rule, is_rule_marker}
-use Rattle.md_seam.specs.Standard.Rest.{Rest, is_white, trim_start}
-use Rattle.md_seam.specs.Standard.Tree.{Break}
+use Rattle.md_definition.specs.Leaves.{is_rule, is_rule_marker}
+use Rattle.md_definition.specs.Rest.{Rest, is_white, trim_start}
+use Rattle.md_definition.specs.Tree.{Break}
 use Rattle.md_seam.proofs.EndingsLemmas as ending
 use Rattle.md_seam.proofs.EndingsLemmas.{AreOthers, behind_leaf, in_leaf, leaf-leads, others-lead}
 use Rattle.md_seam.proofs.GrammarLemmas.{IsWord, leads-around}

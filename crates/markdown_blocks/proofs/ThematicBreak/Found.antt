@@ -2,9 +2,9 @@
 use Rattle.std.proofs.Common.{◌≡◌, cond, refl}
 use Rattle.std.specs.Prelude.{Some, None}
 use Rattle.md_engine.specs.declared.configuration.ParseOptions.{ParseOptions}
-use Rattle.md_seam.specs.Standard.Leaves.{Finished, break_at}
-use Rattle.md_seam.specs.Standard.Rest.{Rest}
-use Rattle.md_seam.specs.Standard.Tree.{Break}
+use Rattle.md_definition.specs.Leaves.{Finished, break_at}
+use Rattle.md_definition.specs.Rest.{Rest}
+use Rattle.md_definition.specs.Tree.{Break}
 use Rattle.markdown_blocks.specs.Leaf.ThematicBreak.{break_leaf}
 use Rattle.markdown_blocks.proofs.SimpleBlocks.{IsSimple}
 

@@ -7,13 +7,13 @@ use Rattle.std.proofs.lemmas.Bool.Decides.{nat_tests}
 use Rattle.md_engine.specs.declared.event.Point.{Point}
 use Rattle.md_engine.specs.declared.tokenizer.Line.{Line}
 use Rattle.md_engine.specs.Meaning.{Cell}
-use Rattle.md_seam.specs.Standard.Leaves.{is_rule, is_rule_marker}
+use Rattle.md_definition.specs.Leaves.{is_rule, is_rule_marker}
 use Rattle.md_seam.specs.Events.Places.{past_byte}
-use Rattle.md_seam.specs.Standard.Rest.{Rest, has_small_indent, is_white, trim_start}
+use Rattle.md_definition.specs.Rest.{Rest, has_small_indent, is_white, trim_start}
 use Rattle.md_seam.proofs.FeedLines.{Stops, all-spread, bytes_of, cell, columns_more, count-spread, spread, tab_cells}
 use Rattle.md_seam.proofs.AheadLemmas.{white-no_ending}
 use Rattle.md_seam.proofs.RestCells.{RestAt, rest_cells}
-use Rattle.md_seam.proofs.TextsLemmas.{NoEnding}
+use Rattle.md_definition.proofs.TextsLemmas.{NoEnding}
 use Rattle.md_seam.specs.Ahead.{begins_white, line_bytes, white_end, white_rest}
 use Rattle.md_seam.specs.Spaces.{small_indent}
 use Rattle.md_engine.specs.declared.configuration.ParseOptions.{ParseOptions}

@@ -13,14 +13,14 @@ use Rattle.md_engine.specs.Meaning.{Cell}
 use Rattle.md_leaves.specs.BreakRule as break
 use Rattle.md_seam.specs.Ahead.{begins_white, line_bytes, line_cells, line_end, white_end, white_rest}
 use Rattle.md_seam.specs.Spaces.{small_indent}
-use Rattle.md_seam.specs.Standard.Leaves.{is_rule, is_rule_marker}
-use Rattle.md_seam.specs.Standard.Rest.{Rest, has_small_indent, is_white, trim_start}
+use Rattle.md_definition.specs.Leaves.{is_rule, is_rule_marker}
+use Rattle.md_definition.specs.Rest.{Rest, has_small_indent, is_white, trim_start}
 use Rattle.md_seam.specs.Events.Nested.{around, enter, exit, pair}
 use Rattle.md_seam.specs.Events.Places.{past_byte}
 use Rattle.md_seam.proofs.AheadLemmas.{small-some, white-no_ending}
 use Rattle.md_seam.proofs.FeedLines.{Stops, byte-one, byte_cells, bytes_of, cell, columns_more, next_column, spread, tab_cells, tab_end, tab_end-last, tab_end-next, tab_end-stop}
 use Rattle.md_seam.proofs.RestCells.{Cut, RestAt, rest_cells}
-use Rattle.md_seam.proofs.TextsLemmas.{NoEnding}
+use Rattle.md_definition.proofs.TextsLemmas.{NoEnding}
 use Rattle.markdown_blocks.specs.Fronted.{rest_line}
 use Rattle.markdown_blocks.specs.Leaf.ThematicBreak.{break_inside, break_leaf, first_byte, first_cell}
 use Rattle.markdown_blocks.specs.MarkRuns.{Apart, Marks, Run, White, mark_runs}

@@ -14,7 +14,7 @@ use Rattle.md_leaves.specs.LeafStart.{entered_here}
 use Rattle.md_leaves.proofs.LeafStart.{at-none, at-off, at-white, rule-refused}
 use Rattle.md_seam.specs.Ahead.{begins_white, from_ending, line_bytes, line_cells, line_end, white_end, white_rest}
 use Rattle.md_seam.specs.Look.{first_seen}
-use Rattle.md_seam.specs.Standard.Leaves.{is_rule}
+use Rattle.md_definition.specs.Leaves.{is_rule}
 use Rattle.md_seam.specs.Events.Nested.{around, enter, exit, pair}
 use Rattle.md_seam.specs.Spaces.{IsRest, calmed, small_indent}
 use Rattle.md_seam.proofs.AheadLemmas.{none-end, none-rest, white-ending, white-line_end}

@@ -9,8 +9,8 @@ use Rattle.md_engine.specs.Meaning.{Cell}
 use Rattle.md_containers.specs.Quote.{may_begin}
 use Rattle.md_containers.specs.QuoteRule.{prefix_at, prefix_end, prefix_events, prefix_rest, quote_at, takes_prefix}
 use Rattle.md_seam.specs.Events.Nested.{enter}
-use Rattle.md_seam.specs.Standard.Containers.{opens_quote}
-use Rattle.md_seam.specs.Standard.State.{InQuote}
+use Rattle.md_definition.specs.Containers.{opens_quote}
+use Rattle.md_definition.specs.State.{InQuote}
 use Rattle.markdown_blocks.specs.ContainerRules.{ContainerRules}
 use Rattle.markdown_blocks.specs.Passed.{Passed}
 

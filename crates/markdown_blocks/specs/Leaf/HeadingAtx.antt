@@ -15,9 +15,9 @@ use Rattle.md_seam.specs.Ahead.{line_end}
 use Rattle.md_seam.specs.Events.Inline.{plain_events}
 use Rattle.md_seam.specs.Events.Nested.{around}
 use Rattle.md_seam.specs.Events.Places.{past_text}
-use Rattle.md_seam.specs.Standard.Leaves.{heading_lines, heading_text}
-use Rattle.md_seam.specs.Standard.Rest.{Rest, has_small_indent, run_len, trim_start}
-use Rattle.md_seam.specs.Standard.Tree.{Block, Heading}
+use Rattle.md_definition.specs.Leaves.{heading_lines, heading_text}
+use Rattle.md_definition.specs.Rest.{Rest, has_small_indent, run_len, trim_start}
+use Rattle.md_definition.specs.Tree.{Block, Heading}
 use Rattle.markdown_blocks.specs.LineLeaf.{LineLeaf}
 
 -- the text of a heading, once it is read

@@ -2,8 +2,8 @@
 use Rattle.md_engine.specs.declared.event.Name.TheVariants as n
 use Rattle.md_content.specs.Paragraph.{text_link}
 use Rattle.std.specs.Prelude.{List, [], ◌∷◌}
-use Rattle.md_seam.specs.Standard.State.{Kept, Leaf, OpenParagraph, then_paragraph}
-use Rattle.md_seam.specs.Standard.Tree.{Paragraph}
+use Rattle.md_definition.specs.State.{Kept, Leaf, OpenParagraph, then_paragraph}
+use Rattle.md_definition.specs.Tree.{Paragraph}
 use Rattle.markdown_blocks.specs.TextLeaf.{TextLeaf}
 
 abbrev pub paragraph_leaf : TextLeaf

@@ -14,9 +14,9 @@ use Rattle.md_seam.specs.Ahead.{begins_white, line_bytes, line_cells, line_end, 
 use Rattle.md_seam.specs.Events.Nested.{around, pair}
 use Rattle.md_seam.specs.Events.Places.{past_text}
 use Rattle.md_seam.specs.Spaces.{small_indent}
-use Rattle.md_seam.specs.Standard.Leaves.{is_rule}
-use Rattle.md_seam.specs.Standard.Rest.{has_small_indent, trim_start}
-use Rattle.md_seam.specs.Standard.Tree.{Break}
+use Rattle.md_definition.specs.Leaves.{is_rule}
+use Rattle.md_definition.specs.Rest.{has_small_indent, trim_start}
+use Rattle.md_definition.specs.Tree.{Break}
 use Rattle.markdown_blocks.specs.LineLeaf.{LineLeaf}
 use Rattle.markdown_blocks.specs.MarkRuns.{mark_runs}
 use Rattle.markdown_blocks.specs.MarkRuns as mark

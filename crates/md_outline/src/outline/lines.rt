@@ -3,14 +3,14 @@
 ghost use Rattle.std.specs.Prelude.{◌≡◌, ◌≤◌, ◌+◌, ◌-◌, ◌∷◌, [], ◌++◌, length, slice_range, IfOk, OnOk};
 ghost use Rattle.std.specs.List.{prefix_len};
 ghost use Rattle.std.specs.Str.{IsUtf8};
-ghost use Rattle.md_seam.specs.Standard.Outline.{entries_of, entry_with};
-ghost use Rattle.md_seam.specs.Standard.Rest.{is_white, trim_start};
-ghost use Rattle.md_seam.specs.Standard.Texts.{split_lines};
+ghost use Rattle.md_definition.specs.Outline.{entries_of, entry_with};
+ghost use Rattle.md_definition.specs.Rest.{is_white, trim_start};
+ghost use Rattle.md_definition.specs.Texts.{split_lines};
 ghost use Rattle.md_seam.specs.Events.Places.{last_line};
 ghost use Rattle.md_outline.specs.TextLines.{after_ending, full_entries, line_len, text_entries};
 
+use md_definition::outline::{OutlineLine, Word};
 use md_engine::message::Message;
-use md_seam::outline::{OutlineLine, Word};
 use std::str;
 
 /// One more. A number that is no `usize` is one of which no memory holds so many.

@@ -9,12 +9,12 @@ use Rattle.md_engine.specs.declared.event.Kind.{Kind}
 use Rattle.md_engine.specs.declared.event.Kind.TheVariants.{Enter, Exit}
 use Rattle.md_engine.specs.declared.event.Name.{Name}
 use Rattle.md_engine.specs.declared.event.Name.TheVariants as n
-use Rattle.md_seam.specs.Standard.Tree.{Line, Block, Blocks, Quote, ListOf, Item, Footnote, Heading, Break, Code, Html, Fence, Math, Definition, Paragraph, Table, End, More}
-use Rattle.md_seam.specs.Standard.Tree as t
-use Rattle.md_seam.specs.Standard.Containers.{is_bullet}
-use Rattle.md_seam.specs.Standard.Rest.{trim, tab_columns}
-use Rattle.md_seam.specs.Standard.State.{then_block}
-use Rattle.md_seam.specs.Standard.Texts.{split_lines, trim_each, trim_further, first_byte}
+use Rattle.md_definition.specs.Tree.{Line, Block, Blocks, Quote, ListOf, Item, Footnote, Heading, Break, Code, Html, Fence, Math, Definition, Paragraph, Table, End, More}
+use Rattle.md_definition.specs.Tree as t
+use Rattle.md_definition.specs.Containers.{is_bullet}
+use Rattle.md_definition.specs.Rest.{trim, tab_columns}
+use Rattle.md_definition.specs.State.{then_block}
+use Rattle.md_definition.specs.Texts.{split_lines, trim_each, trim_further, first_byte}
 
 -- a list with its last item changed
 abbrev pub on_last : {A : Type 0} → (A → A) → List A → List A

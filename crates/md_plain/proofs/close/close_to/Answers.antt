@@ -1,6 +1,6 @@
 use Rattle.std.proofs.Common.{rules, refl, ◌∙◌, ap, drop}
-use Rattle.md_seam.specs.Standard.State.{At, then_block}
-use Rattle.md_seam.specs.Standard.Step.{spot_of}
+use Rattle.md_definition.specs.State.{At, then_block}
+use Rattle.md_definition.specs.Step.{spot_of}
 use Rattle.plain_grammars.specs.Trees.{meanings}
 use Rattle.md_plain.specs.States.{spot_meaning}
 use Rattle.md_plain.proofs.PathLemmas.{closed-within, popped-take, popped-closed}

@@ -1,6 +1,6 @@
 use Rattle.std.proofs.Common.{◌≡◌, length, take, drop}
-use Rattle.md_seam.specs.Standard.State.{At, closed}
-use Rattle.md_seam.specs.Standard.Step.{spot_of}
+use Rattle.md_definition.specs.State.{At, closed}
+use Rattle.md_definition.specs.Step.{spot_of}
 use Rattle.plain_grammars.specs.Trees.{meanings}
 use Rattle.md_plain.specs.States.{spot_meaning, within}
 use Rattle.md_plain.proofs.close.close_to.Given as goal

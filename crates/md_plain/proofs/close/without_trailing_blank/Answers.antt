@@ -1,6 +1,6 @@
 use Rattle.std.proofs.Common.{◌≡◌, ◌-◌, ◌∙◌, sym, ap, take, length}
 use Rattle.std.specs.List.{suffix_len}
-use Rattle.md_seam.specs.Standard.Rest.{is_blank}
+use Rattle.md_definition.specs.Rest.{is_blank}
 use Rattle.plain_grammars.specs.declared.tree.Line.{Line}
 use Rattle.plain_grammars.specs.Trees.{line_meaning, line_meanings}
 use Rattle.md_plain.proofs.ParagraphLemmas.{without_suffix-map}

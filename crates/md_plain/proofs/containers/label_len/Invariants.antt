@@ -1,5 +1,5 @@
 use Rattle.std.proofs.Common.{◌≡◌, false, take, drop}
-use Rattle.md_seam.specs.Standard.Containers.{footnote_label}
+use Rattle.md_definition.specs.Containers.{footnote_label}
 use Rattle.plain_grammars.proofs.LabelLemmas.{label_behind}
 use Rattle.md_plain.proofs.containers.label_len.Given as goal
 

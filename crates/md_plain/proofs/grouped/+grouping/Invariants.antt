@@ -1,5 +1,5 @@
 use Rattle.std.proofs.Common.{◌≡◌}
-use Rattle.md_seam.specs.Standard.Grouped.{grouped}
+use Rattle.md_definition.specs.Grouped.{grouped}
 use Rattle.plain_grammars.specs.Trees.{meanings}
 use Rattle.md_plain.specs.Groups.{then_groups}
 use Rattle.md_plain.proofs.grouped.+grouping.Given as goal

@@ -1,5 +1,5 @@
 use Rattle.std.proofs.Common.{[], ◌∷◌, ◌++◌, ◌∙◌, ap, rules}
-use Rattle.md_seam.specs.Standard.Grouped.{with_item}
+use Rattle.md_definition.specs.Grouped.{with_item}
 use Rattle.plain_grammars.specs.Trees.{meaning, meanings}
 use Rattle.md_plain.specs.Groups.{then_blocks, with_items, then_groups}
 use Rattle.md_plain.proofs.GroupLemmas.{with_items-push, flushed-item, eqb-other}

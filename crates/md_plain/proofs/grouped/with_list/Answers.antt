@@ -1,5 +1,5 @@
 use Rattle.std.proofs.Common.{◌≡◌, sym, ◌∙◌, ap, rules}
-use Rattle.md_seam.specs.Standard.Tree as t
+use Rattle.md_definition.specs.Tree as t
 use Rattle.plain_grammars.specs.Trees.{meanings}
 use Rattle.plain_grammars.proofs.MeaningLemmas.{meaning-ListOf}
 use Rattle.md_plain.specs.Groups.{then_blocks, with_items, then_groups}

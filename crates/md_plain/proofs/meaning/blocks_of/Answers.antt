@@ -1,7 +1,7 @@
 use Rattle.std.proofs.Common.{rules}
-use Rattle.md_seam.specs.Standard.State.{At}
-use Rattle.md_seam.specs.Standard.Step.{spot_of}
-use Rattle.md_seam.specs.Standard.Tree.{End}
+use Rattle.md_definition.specs.State.{At}
+use Rattle.md_definition.specs.Step.{spot_of}
+use Rattle.md_definition.specs.Tree.{End}
 use Rattle.md_plain.specs.States.{path_meaning}
 use Rattle.md_plain.proofs.StepLemmas.{steps-next}
 use Rattle.md_plain.proofs.meaning.blocks_of.Goals as goal

@@ -1,7 +1,7 @@
 use Rattle.std.proofs.Common.{◌≡◌, take}
-use Rattle.md_seam.specs.Standard.State.{At}
-use Rattle.md_seam.specs.Standard.Step.{spot_of, steps}
-use Rattle.md_seam.specs.Standard.Tree.{End}
+use Rattle.md_definition.specs.State.{At}
+use Rattle.md_definition.specs.Step.{spot_of, steps}
+use Rattle.md_definition.specs.Tree.{End}
 use Rattle.plain_grammars.specs.Rests.{rest_meanings}
 use Rattle.md_plain.specs.States.{path_meaning}
 use Rattle.md_plain.proofs.meaning.blocks_of.Given as goal

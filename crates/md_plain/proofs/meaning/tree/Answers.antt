@@ -1,6 +1,6 @@
 use Rattle.std.proofs.Common.{drop, IfSome, sym, ◌∙◌, ap, subst}
-use Rattle.md_seam.specs.Standard.Lines.{lines_of}
-use Rattle.md_seam.specs.Standard.Preamble.{without_mark, first_column, rests_at}
+use Rattle.md_definition.specs.Lines.{lines_of}
+use Rattle.md_definition.specs.Preamble.{without_mark, first_column, rests_at}
 use Rattle.plain_grammars.specs.Fronts.{IsEnd}
 use Rattle.plain_grammars.specs.Rests.{rest_meanings}
 use Rattle.plain_grammars.specs.Trees.{meanings}

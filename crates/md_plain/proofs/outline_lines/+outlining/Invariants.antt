@@ -1,7 +1,7 @@
 use Rattle.std.proofs.Common.{◌≡◌, ◌++◌, drop}
-use Rattle.md_seam.specs.Standard.Outline.{outline}
+use Rattle.md_definition.specs.Outline.{outline}
 use Rattle.plain_grammars.specs.Trees.{meanings}
-use Rattle.md_seam.specs.Standard.Outline.{entries_of}
+use Rattle.md_definition.specs.Outline.{entries_of}
 use Rattle.md_plain.proofs.outline_lines.+outlining.Given as goal
 
 abbrev pub invariant-push_blocks-loop-block : goal.invariant-push_blocks-loop-block

@@ -1,7 +1,7 @@
 use Rattle.std.proofs.Common.{◌≡◌, ◌++◌, drop}
-use Rattle.md_seam.specs.Standard.Outline.{line_entries}
+use Rattle.md_definition.specs.Outline.{line_entries}
 use Rattle.plain_grammars.specs.Trees.{line_meanings}
-use Rattle.md_seam.specs.Standard.Outline.{entries_of}
+use Rattle.md_definition.specs.Outline.{entries_of}
 use Rattle.md_plain.proofs.outline_lines.push_lines.Given as goal
 
 abbrev pub invariant-loop-line : goal.invariant-loop-line

@@ -1,7 +1,7 @@
 use Rattle.std.proofs.Common.{◌≡◌, ◌++◌, drop}
-use Rattle.md_seam.specs.Standard.Outline.{entries}
+use Rattle.md_definition.specs.Outline.{entries}
 use Rattle.plain_grammars.specs.Trees.{slices}
-use Rattle.md_seam.specs.Standard.Outline.{entries_of}
+use Rattle.md_definition.specs.Outline.{entries_of}
 use Rattle.md_plain.proofs.outline_lines.push_texts.Given as goal
 
 abbrev pub invariant-loop-text : goal.invariant-loop-text

@@ -1,5 +1,5 @@
 use Rattle.std.proofs.Common.{◌∙◌, ap}
-use Rattle.md_seam.specs.Standard.State.{then_block}
+use Rattle.md_definition.specs.State.{then_block}
 use Rattle.plain_grammars.specs.Trees.{meanings}
 use Rattle.md_plain.proofs.ParagraphLemmas.{definitions-next}
 use Rattle.md_plain.proofs.paragraph.push_definitions.Goals as goal

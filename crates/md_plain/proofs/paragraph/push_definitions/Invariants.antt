@@ -1,5 +1,5 @@
 use Rattle.std.proofs.Common.{◌≡◌}
-use Rattle.md_seam.specs.Standard.State as state
+use Rattle.md_definition.specs.State as state
 use Rattle.plain_grammars.specs.Trees.{meanings}
 use Rattle.md_plain.specs.Paragraphs.{definitions_of}
 use Rattle.md_plain.proofs.paragraph.push_definitions.Given as goal

@@ -1,5 +1,5 @@
 use Rattle.std.proofs.Common.{◌≡◌, take}
-use Rattle.md_seam.specs.Standard.State as state
+use Rattle.md_definition.specs.State as state
 use Rattle.plain_grammars.specs.Trees.{slices}
 use Rattle.md_plain.specs.States.{kept_meanings}
 use Rattle.md_plain.proofs.paragraph.texts.Given as goal

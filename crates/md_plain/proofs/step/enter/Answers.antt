@@ -1,5 +1,5 @@
 use Rattle.std.proofs.Common.{length, ◌∙◌, ap}
-use Rattle.md_seam.specs.Standard.Step.{fresh_line}
+use Rattle.md_definition.specs.Step.{fresh_line}
 use Rattle.plain_grammars.specs.Trees.{meanings}
 use Rattle.plain_grammars.specs.Rests.{rest_meaning}
 use Rattle.md_plain.specs.States.{spot_meaning}

@@ -1,5 +1,5 @@
 use Rattle.std.proofs.Common.{◌≡◌, ◌-◌, length}
-use Rattle.md_seam.specs.Standard.Step.{opened}
+use Rattle.md_definition.specs.Step.{opened}
 use Rattle.plain_grammars.specs.Rests.{rest_meaning}
 use Rattle.md_plain.specs.States.{within}
 use Rattle.md_plain.proofs.step.open_all.Given as goal

@@ -1,6 +1,6 @@
 use Rattle.std.proofs.Common.{rules, ◌∙◌, sym, ap}
 use Rattle.std.proofs.lemmas.List.{length-set}
-use Rattle.md_seam.specs.Standard.State.{At}
+use Rattle.md_definition.specs.State.{At}
 use Rattle.plain_grammars.specs.Rests.{rest_meaning}
 use Rattle.md_plain.specs.States.{spot_meaning, taken_option}
 use Rattle.md_plain.proofs.StepLemmas.{continued-next}

@@ -1,6 +1,6 @@
 use Rattle.std.proofs.Common.{◌≡◌, length, take, drop}
-use Rattle.md_seam.specs.Standard.State.{At}
-use Rattle.md_seam.specs.Standard.Step as definition
+use Rattle.md_definition.specs.State.{At}
+use Rattle.md_definition.specs.Step as definition
 use Rattle.plain_grammars.specs.Rests.{rest_meaning}
 use Rattle.md_plain.specs.States.{spot_meaning, path_meaning, within}
 use Rattle.md_plain.proofs.step.step.Given as goal

@@ -1,5 +1,5 @@
 use Rattle.std.proofs.Common.{◌≡◌, IfOk, sym, ◌∙◌, ap, subst}
-use Rattle.md_seam.specs.Standard.State as state
+use Rattle.md_definition.specs.State as state
 use Rattle.plain_grammars.specs.Rests.{rest_meaning}
 use Rattle.plain_grammars.specs.Trees.{meanings}
 use Rattle.md_plain.specs.States.{spot_meaning, taken_meaning, taken_option, path_meaning}

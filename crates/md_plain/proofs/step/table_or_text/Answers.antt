@@ -1,8 +1,8 @@
 use Rattle.std.proofs.Common.{◌≡◌, [], ◌∷◌, ◌++◌, length, IfOk, sym, ◌∙◌, ap, subst}
 use Rattle.std.proofs.lemmas.List.{map-append, length-map}
 use Rattle.std.specs.Option.{option_map}
-use Rattle.md_seam.specs.Standard.State as state
-use Rattle.md_seam.specs.Standard.Step as definition
+use Rattle.md_definition.specs.State as state
+use Rattle.md_definition.specs.Step as definition
 use Rattle.plain_grammars.specs.Rests.{rest_meaning}
 use Rattle.plain_grammars.specs.Trees.{meanings, slices}
 use Rattle.md_plain.specs.States.{kept_meaning, kept_meanings, spot_meaning}

@@ -1,5 +1,5 @@
 use Rattle.std.proofs.Common.{◌≡◌, ◌+◌, ◌*◌, ◌≤◌, drop}
-use Rattle.md_seam.specs.Standard.Rest as rest
+use Rattle.md_definition.specs.Rest as rest
 use Rattle.plain_grammars.proofs.columns.white_columns.Given as goal
 
 abbrev pub invariant-loop-byte : goal.invariant-loop-byte

@@ -1,5 +1,5 @@
 use Rattle.std.proofs.Common.{◌≡◌, ◌-◌, ◌++◌, map, length, drop}
-use Rattle.md_seam.specs.Standard.Definition.{cut_definitions}
+use Rattle.md_definition.specs.Definition.{cut_definitions}
 use Rattle.plain_grammars.specs.Definitions.{texts, defined_meaning}
 use Rattle.plain_grammars.proofs.DefinitionLemmas.{with_definitions}
 use Rattle.plain_grammars.proofs.definition.cut_definitions.Given as goal

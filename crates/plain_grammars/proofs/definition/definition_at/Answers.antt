@@ -1,5 +1,5 @@
 use Rattle.std.proofs.Common.{refl, arith}
-use Rattle.md_seam.specs.Standard.Definition.{label_at, definition_at}
+use Rattle.md_definition.specs.Definition.{label_at, definition_at}
 use Rattle.plain_grammars.proofs.DefinitionLemmas.{texts-drop_all}
 use Rattle.plain_grammars.proofs.definition.definition_at.Goals as goal
 

@@ -1,5 +1,5 @@
 use Rattle.std.proofs.Common.{◌≡◌, ◌-◌, ◌∷◌, length, drop}
-use Rattle.md_seam.specs.Standard.Enclosed.{enclosed_lines}
+use Rattle.md_definition.specs.Enclosed.{enclosed_lines}
 use Rattle.plain_grammars.specs.Definitions.{texts}
 use Rattle.plain_grammars.proofs.DefinitionLemmas.{with_lines}
 use Rattle.plain_grammars.proofs.definition.enclosed_lines.Given as goal

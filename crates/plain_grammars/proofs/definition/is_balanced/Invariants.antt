@@ -1,5 +1,5 @@
 use Rattle.std.proofs.Common.{◌≡◌, ◌+◌, ◌≤◌, false, length}
-use Rattle.md_seam.specs.Standard.Definition.{balanced}
+use Rattle.md_definition.specs.Definition.{balanced}
 use Rattle.plain_grammars.proofs.definition.is_balanced.Given as goal
 
 abbrev pub invariant-loop-first : goal.invariant-loop-first

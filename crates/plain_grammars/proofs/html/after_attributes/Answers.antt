@@ -1,6 +1,6 @@
 use Rattle.std.proofs.Common.{◌≡◌, ◌∙◌, Some, sym, arith}
-use Rattle.md_seam.specs.Standard.Html.{after_attribute}
-use Rattle.md_seam.proofs.HtmlLemmas.{length-after_attribute, after_attributes-some}
+use Rattle.md_definition.specs.Html.{after_attribute}
+use Rattle.md_definition.proofs.HtmlLemmas.{length-after_attribute, after_attributes-some}
 use Rattle.plain_grammars.proofs.html.after_attributes.Goals as goal
 
 pub loop-more-smaller : goal.loop-more-smaller

@@ -1,5 +1,5 @@
 use Rattle.std.proofs.Common.{◌≡◌, length}
-use Rattle.md_seam.specs.Standard.Html.{after_attributes}
+use Rattle.md_definition.specs.Html.{after_attributes}
 use Rattle.plain_grammars.proofs.html.after_attributes.Given as goal
 
 abbrev pub invariant-loop-more : goal.invariant-loop-more

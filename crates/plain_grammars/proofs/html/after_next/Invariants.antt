@@ -1,5 +1,5 @@
 use Rattle.std.proofs.Common.{◌≡◌, length}
-use Rattle.md_seam.specs.Standard.Html.{after_next}
+use Rattle.md_definition.specs.Html.{after_next}
 use Rattle.plain_grammars.proofs.html.after_next.Given as goal
 
 abbrev pub invariant-loop-rest : goal.invariant-loop-rest

@@ -1,5 +1,5 @@
 use Rattle.std.proofs.Common.{◌≡◌, length}
-use Rattle.md_seam.specs.Standard.Html.{holds, is_raw_end}
+use Rattle.md_definition.specs.Html.{holds, is_raw_end}
 use Rattle.plain_grammars.proofs.html.holds_raw_end.Given as goal
 
 abbrev pub invariant-loop-rest : goal.invariant-loop-rest

@@ -1,5 +1,5 @@
 use Rattle.std.proofs.Common.{◌≡◌, length}
-use Rattle.md_seam.specs.Standard.Html.{holds_word}
+use Rattle.md_definition.specs.Html.{holds_word}
 use Rattle.plain_grammars.proofs.html.holds_word.Given as goal
 
 abbrev pub invariant-loop-rest : goal.invariant-loop-rest

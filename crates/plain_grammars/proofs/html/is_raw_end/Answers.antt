@@ -1,7 +1,7 @@
 use Rattle.std.proofs.Common.{ℕ, List, rules, tests, Bor}
 use Rattle.std.proofs.lemmas.Iterator.{YieldsList-from_slice}
 use Rattle.std.proofs.lemmas.Iterator.Search.{any_from_yields_List}
-use Rattle.md_seam.specs.Standard.Html.{is_raw_end, starts_in_any_case}
+use Rattle.md_definition.specs.Html.{is_raw_end, starts_in_any_case}
 use Rattle.plain_grammars.proofs.html.is_raw_end.Goals as goal
 
 pub returns : goal.returns

@@ -2,7 +2,7 @@ use Rattle.std.proofs.Common.{ℕ, List, rules, tests, Bor}
 use Rattle.std.specs.Str.{str_eq_ignore_ascii_case}
 use Rattle.std.proofs.lemmas.Iterator.{YieldsList-from_slice}
 use Rattle.std.proofs.lemmas.Iterator.Search.{any_from_yields_List}
-use Rattle.md_seam.specs.Standard.Html.{is_raw_name}
+use Rattle.md_definition.specs.Html.{is_raw_name}
 use Rattle.plain_grammars.proofs.html.is_raw_name.Goals as goal
 
 pub returns : goal.returns

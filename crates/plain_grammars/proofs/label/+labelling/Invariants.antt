@@ -1,5 +1,5 @@
 use Rattle.std.proofs.Common.{◌≡◌, drop}
-use Rattle.md_seam.specs.Standard.Label.{both, labels}
+use Rattle.md_definition.specs.Label.{both, labels}
 use Rattle.plain_grammars.specs.Labels.{labels_meaning}
 use Rattle.plain_grammars.specs.Trees.{meanings}
 use Rattle.plain_grammars.proofs.label.+labelling.Given as goal

@@ -1,5 +1,5 @@
 use Rattle.std.proofs.Common.{◌≡◌, length}
-use Rattle.md_seam.specs.Standard.Label.{words}
+use Rattle.md_definition.specs.Label.{words}
 use Rattle.plain_grammars.specs.Words.{with_words}
 use Rattle.plain_grammars.proofs.label.push_words.Given as goal
 

@@ -1,5 +1,5 @@
 use Rattle.std.proofs.Common.{◌≡◌, [], drop, flat_map}
-use Rattle.md_seam.specs.Standard.Label.{words}
+use Rattle.md_definition.specs.Label.{words}
 use Rattle.plain_grammars.specs.Definitions.{texts}
 use Rattle.plain_grammars.specs.Words.{with_words}
 use Rattle.plain_grammars.proofs.label.spaced.Given as goal

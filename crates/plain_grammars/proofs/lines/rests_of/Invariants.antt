@@ -1,6 +1,6 @@
 use Rattle.std.proofs.Common.{◌≡◌, ◌≤◌, ◌+◌, ◌*◌, ◌^◌, ◌++◌, length}
-use Rattle.md_seam.specs.Standard.Lines.{lines_of}
-use Rattle.md_seam.specs.Standard.Preamble.{rests_at}
+use Rattle.md_definition.specs.Lines.{lines_of}
+use Rattle.md_definition.specs.Preamble.{rests_at}
 use Rattle.plain_grammars.specs.Rests.{rest_meanings}
 use Rattle.plain_grammars.proofs.lines.rests_of.Given as goal
 

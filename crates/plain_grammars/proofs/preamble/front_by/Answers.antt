@@ -1,5 +1,5 @@
 use Rattle.std.proofs.Common.{◌≡◌, ◌+◌, ◌∷◌, length, drop, sym, ◌∙◌, ap, subst, Some}
-use Rattle.md_seam.specs.Standard.Tree as t
+use Rattle.md_definition.specs.Tree as t
 use Rattle.plain_grammars.specs.Fronts.{lines_in}
 use Rattle.plain_grammars.proofs.FrontLemmas.{front_by-none, front_by-some, drop-next, drop-below, drop-above}
 use Rattle.plain_grammars.proofs.MeaningLemmas.{meaning-Frontmatter}

@@ -2,7 +2,7 @@ use Rattle.std.proofs.Common.{◌≡◌, ◌||◌, ◌==◌, true, false, length
 use Rattle.std.specs.List.{list_any, list_all}
 use Rattle.std.proofs.lemmas.List.{length-map}
 use Rattle.std.proofs.lemmas.List.Folds.{list_all-map}
-use Rattle.md_seam.specs.Standard.Table.{is_delimiter, delimiter_columns}
+use Rattle.md_definition.specs.Table.{is_delimiter, delimiter_columns}
 use Rattle.plain_grammars.proofs.table.delimiter_columns.Goals as goal
 use Rattle.plain_grammars.proofs.table.delimiter_columns.Goals.{else-has_mark-via-then-has_mark+else-are_delimiters, else-has_mark-via-else-has_mark}
 

@@ -1,5 +1,5 @@
 use Rattle.std.proofs.Common.{refl, arith}
-use Rattle.md_seam.specs.Standard.Table.{row_cells}
+use Rattle.md_definition.specs.Table.{row_cells}
 use Rattle.plain_grammars.proofs.PieceLemmas.{PushesCell, last_cell, next_cell}
 use Rattle.plain_grammars.proofs.table.row_cells.Goals as goal
 

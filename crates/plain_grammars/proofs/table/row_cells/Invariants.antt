@@ -1,6 +1,6 @@
 use Rattle.std.proofs.Common.{◌≡◌, ◌++◌, false, map, length}
-use Rattle.md_seam.specs.Standard.Rest.{trim}
-use Rattle.md_seam.specs.Standard.Table.{pieces, row_cells}
+use Rattle.md_definition.specs.Rest.{trim}
+use Rattle.md_definition.specs.Table.{pieces, row_cells}
 use Rattle.plain_grammars.proofs.table.row_cells.Given as goal
 
 abbrev pub invariant-pieces : goal.invariant-pieces

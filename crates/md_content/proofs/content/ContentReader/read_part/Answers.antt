@@ -22,7 +22,6 @@ loop-chunk-init c =
       frames = ap (λ (x : World). x.frames) w;
       skips = ap (λ (x : World). skipping_all x c.args.chunks.now) w;
     }
-
   where
     without-events : (x y : World) (events : List Event) → x ≡ y → y.events ≡ [] → events ≡ [] → record x { events = events } ≡ y
     without-events x y events same none empty = ap (λ (z : World). record z { events = events }) same ∙ ap (λ (l : List Event). record y { events = l }) (empty ∙ sym none)

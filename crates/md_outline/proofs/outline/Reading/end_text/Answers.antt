@@ -1,4 +1,4 @@
-use Rattle.md_seam.specs.Standard.Outline.{entries_of}
+use Rattle.md_definition.specs.Outline.{entries_of}
 use Rattle.md_outline.specs.OutlineSteps.{state_of}
 use Rattle.md_outline.proofs.OutlineLemmas.{block-end, note-end, on_ok-map}
 use Rattle.md_outline.proofs.outline.Reading.end_text.Goals as goal

@@ -1,5 +1,5 @@
 use Rattle.std.proofs.Common.{◌≡◌, ◌-◌}
-use Rattle.md_seam.specs.Standard.Rest as r
+use Rattle.md_definition.specs.Rest as r
 use Rattle.plain_grammars.specs.Rests.{rest_meaning}
 use Rattle.plain_grammars.proofs.rest.Rest.lose.Given as goal
 

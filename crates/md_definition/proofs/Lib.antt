@@ -1,0 +1,16 @@
+pub mod ColumnLemmas
+pub mod ContainerLemmas
+pub mod DefinitionLemmas
+pub mod FindsLemmas
+pub mod GrammarRows
+pub mod HtmlLemmas
+pub mod LinesLemmas
+pub mod PreambleLemmas
+pub mod QuotedLines
+pub mod QuoteLaw
+mod Rows
+pub mod TextsLemmas
+pub mod QuoteTaken
+pub mod ItemTaken
+pub mod FootnoteTaken
+pub mod TakenLemmas
