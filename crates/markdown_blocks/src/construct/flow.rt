@@ -33,7 +33,7 @@ use md_engine::state::{Name as StateName, State};
 use md_engine::subtokenize::Subresult;
 use md_engine::table::Table;
 use md_engine::tokenizer::{HeldLeaf, Tokenizer};
-use md_leaves::blank_line;
+use md_leaves::{blank_line, heading_atx, thematic_break};
 use md_seam::space_or_tab;
 
 /// At the start of a line.
