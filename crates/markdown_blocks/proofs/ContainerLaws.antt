@@ -35,7 +35,8 @@ pub record ContainerLaws (k : ContainerKind) (rules : ContainerRules) : Type 1 w
   -- What is left at its states is what it takes by the cells of a line, and is shorter.
   pub begins_is : (options : ParseOptions) (interrupting : Bool) (cells : List Cell) (h : Here) → IsRest h.scratch → rules.begins options cells h ≡ passed_by (rules.opens options interrupting cells h.point) h
   pub continues_is : (options : ParseOptions) (held : Held) (c : Container) (cells : List Cell) (h : Here) → IsRest h.scratch → IsOf k c → rules.holds held c → rules.continues options cells h ≡ passed_by (rules.goes options c cells h.point) h
-  -- Where what stands first may not begin it, or not its prefix on a further line, it is refused, and all is left as it was.
+  -- Where what stands first may not begin it, or not its prefix on a further line, it is refused, and all is left as
+  -- it was.
   pub begins_looked : (options : ParseOptions) (cells : List Cell) (h : Here) → IsRest h.scratch →
       rules.may_open (first_seen cells) ≡ false → rules.begins options cells h ≡ Refuses h.scratch h.flags
   pub continues_looked : (options : ParseOptions) (cells : List Cell) (h : Here) → IsRest h.scratch →
