@@ -172,7 +172,8 @@ bom-inside w true true = refl
 bom-inside w true false = refl
 bom-inside w false b = refl
 
-trial-resolvers : (start ok nok : StateName) (w : World) (b : Bool) → (trial_code start ok nok w b).world.resolvers ≡ w.resolvers
+trial-resolvers : (start ok nok : StateName) (w : World) (b : Bool) →
+    (trial_code start ok nok w b).world.resolvers ≡ w.resolvers
 trial-resolvers start ok nok w true = refl
 trial-resolvers start ok nok w false = refl
 

@@ -63,8 +63,8 @@ resumed B feed w ok nok (Refuses s g) y z a b =
     sym (ap (λ (x : List Event). goes B nok (feed w.point) (record { events = x; point = w.point; scratch = s; flags = g })) back ∙ b s g)
 resumed B feed w ok nok Fails y z a b = refl
 
--- What is left at a state where a construct is tried, at the construct's first state, and at those behind it; it is refused where it
--- may not begin.
+-- What is left at a state where a construct is tried, at the construct's first state, and at those behind it; where it
+-- may not begin it is refused.
 record IsTried (B : Behaviour) (feed : Feed) (w : World) (from start ok nok : StateName) (may : Bool) : Type 0 where
   onward : Rule
   otherwise : Scratch → Flags → Outcome
@@ -73,23 +73,26 @@ record IsTried (B : Behaviour) (feed : Feed) (w : World) (from start ok nok : St
   nok_is : (s : Scratch) (g : Flags) → B nok (feed w.point) (record (here w) { scratch = s; flags = g }) ≡ otherwise s g
   looked : may ≡ false → B start (feed w.point) (here w) ≡ Refuses w.scratch w.flags
 
-trial_steps : (B : Behaviour) (feed : Feed) (w : World) (from start ok nok : StateName) (may : Bool) → IsTried B feed w from start ok nok may →
+trial_steps : (B : Behaviour) (feed : Feed) (w : World) (from start ok nok : StateName) (may : Bool) →
+    IsTried B feed w from start ok nok may →
     Steps B feed (Next from) w (trial_code start ok nok w may).to (trial_code start ok nok w may).world
 trial_steps B feed w from start ok nok true t =
     begins_only B feed _ _ w (trial_code start ok nok w true).world (frame_here (Next ok) (Next nok) w) refl refl
-    (t.from_is ∙ resumed B feed w (Next ok) (Next nok) (B start (feed w.point) (here w)) t.onward t.otherwise t.ok_is t.nok_is)
+    (t.from_is
+    ∙ resumed B feed w (Next ok) (Next nok) (B start (feed w.point) (here w)) t.onward t.otherwise t.ok_is t.nok_is)
 trial_steps B feed w from start ok nok false t =
     passes B feed _ _ w w refl refl
     (t.from_is ∙ ap (λ (o : Outcome). tried o t.onward t.otherwise) (t.looked refl) ∙ sym (t.nok_is w.scratch w.flags))
 
 -- what a test says of what stands here it says of what stands first
-looks : (test : Option ℕ → Bool) (feed : Feed) (w : World) → Sees feed w → test w.current ≡ false → test (first_seen (feed w.point)) ≡ false
+looks : (test : Option ℕ → Bool) (feed : Feed) (w : World) → Sees feed w → test w.current ≡ false →
+    test (first_seen (feed w.point)) ≡ false
 looks test feed w s e = ap test (first-seen feed w s) ∙ e
 
 -- Containers.
 
-existing_before_steps : (B : Behaviour) (feed : Feed) (w : World) (options : ParseOptions) (next : Rule) (o : Option Container) → HasFlow B options next → Sees feed w → IsRest w.scratch →
-    next_container w.flags ≡ o →
+existing_before_steps : (B : Behaviour) (feed : Feed) (w : World) (options : ParseOptions) (next : Rule)
+    (o : Option Container) → HasFlow B options next → Sees feed w → IsRest w.scratch → next_container w.flags ≡ o →
     Steps B feed (Next (n.Document document.ContainerExistingBefore)) w (existing_before_code w o).to (existing_before_code w o).world
 existing_before_steps B feed w options next None has s is e =
     passes B feed _ _ w w refl refl
@@ -97,7 +100,8 @@ existing_before_steps B feed w options next None has s is e =
     ∙ ap (λ (o : Option Container). existing_by options next (line_then options next) o (feed w.point) (here w)) e ∙ sym (has.containers document.ContainerNewBefore _ _))
 existing_before_steps B feed w options next (Some c) has s is e =
     let onward : Rule = λ rest k. line_then options next rest (record k { flags = went_on k.flags }) in
-    let otherwise : Scratch → Flags → Outcome = λ s g. new_of options next (feed w.point) (record (here w) { scratch = s; flags = g }) in
+    let otherwise : Scratch → Flags → Outcome =
+    λ s g. new_of options next (feed w.point) (record (here w) { scratch = s; flags = g }) in
     trial_steps B feed w _ _ _ _ (may_go_on c.kind w.current) (record {
       onward = onward;
       otherwise = otherwise;
@@ -109,7 +113,7 @@ existing_before_steps B feed w options next (Some c) has s is e =
       nok_is = λ s g. has.containers document.ContainerNewBefore _ _;
       looked = λ no.
           has.goes_on c.kind _ _
-          ∙ (container-laws c.kind).continues_looked options (feed w.point) (here w) is (looks (may_go_on c.kind) feed w s no);
+          ∙ (container-laws c.kind).continues_looked options _ _ is (looks (may_go_on c.kind) feed w s no);
     })
 
 existing_after_steps : (B : Behaviour) (feed : Feed) (w : World) (options : ParseOptions) (next : Rule) →
@@ -134,7 +138,7 @@ new_before_steps B feed w options next has s is =
       ok_is = has.containers document.ContainerNewAfter;
       nok_is = λ s g. has.containers document.ContainersAfter _ _;
       looked = λ no.
-          has.opens _ _ ∙ (container-laws new_kind).begins_looked options (feed w.point) (here w) is (looks may_open feed w s no);
+          has.opens _ _ ∙ (container-laws new_kind).begins_looked options _ _ is (looks may_open feed w s no);
     })
 
 -- where containers end no attempt is around, so none goes back to events before these ends
@@ -158,7 +162,8 @@ start_steps : (B : Behaviour) (feed : Feed) (w : World) (options : ParseOptions)
 start_steps B feed w options next has =
     passes B feed _ _ w w refl refl (has.leaves flow.Start _ _ ∙ sym (has.leaves flow.BlankLineBefore _ _))
 
-blank_line_before_steps : (B : Behaviour) (feed : Feed) (w : World) (options : ParseOptions) (next : Rule) → HasFlow B options next → Sees feed w →
+blank_line_before_steps : (B : Behaviour) (feed : Feed) (w : World) (options : ParseOptions) (next : Rule) →
+    HasFlow B options next → Sees feed w →
     Steps B feed (Next (n.Flow flow.BlankLineBefore)) w (blank_line_before_transition w).to (blank_line_before_transition w).world
 blank_line_before_steps B feed w options next has s =
     let otherwise : Scratch → Flags → Outcome =
@@ -172,10 +177,11 @@ blank_line_before_steps B feed w options next has s =
       ok_is = has.leaves flow.BlankLineAfter;
       nok_is = λ s g. has.leaves (front_of trials) _ _;
       looked = λ no.
-          has.blank.each blank_line.Start _ _ ∙ blank-refused (feed w.point) (here w) (looks blank.may_begin feed w s no);
+          has.blank.each blank_line.Start _ _ ∙ blank-refused _ (here w) (looks blank.may_begin feed w s no);
     })
 
-before_steps : (l : LeafName) (B : Behaviour) (feed : Feed) (w : World) (options : ParseOptions) (next : Rule) → HasFlow B options next → Sees feed w → IsRest w.scratch →
+before_steps : (l : LeafName) (B : Behaviour) (feed : Feed) (w : World) (options : ParseOptions) (next : Rule) →
+    HasFlow B options next → Sees feed w → IsRest w.scratch →
     Steps B feed (Next (n.Flow (leaf l).before)) w (before_transition l w).to (before_transition l w).world
 before_steps l B feed w options next has s is =
     let otherwise : Scratch → Flags → Outcome =
@@ -190,7 +196,7 @@ before_steps l B feed w options next has s is =
       nok_is = λ s g. has.leaves (next_of l) _ _ ∙ left-next options next l _ _;
       looked = λ no.
           has.starts l _ _
-          ∙ (laws l).refused options (feed w.point) (here w) is ((laws l).looked options (feed w.point) (looks (leaf l).may_begin feed w s no));
+          ∙ (laws l).refused options _ (here w) is ((laws l).looked options _ (looks (leaf l).may_begin feed w s no));
     })
 
 before_content_steps : (B : Behaviour) (feed : Feed) (w : World) (options : ParseOptions) (next : Rule) →

@@ -57,8 +57,9 @@ pub record FlowFits (T : Scheme) : Type 1 where
   pub behind : Fits T flow_scheme (n.Flow flow.After)
 
 -- a trial that is refused at once goes on with a state that ranks below
-looked : (T : Scheme) (n start ok nok : StateName) (w : World) (b : Bool) → Fits T flow_scheme n → Fits T flow_scheme nok →
-    flow_ready (spot w) (after_all T w.frames) → (flow_rank nok).number < (flow_rank n).number →
+looked : (T : Scheme) (n start ok nok : StateName) (w : World) (b : Bool) → Fits T flow_scheme n →
+    Fits T flow_scheme nok → flow_ready (spot w) (after_all T w.frames) →
+    (flow_rank nok).number < (flow_rank n).number →
     Does T n w (trial_code start ok nok w true) → Does T n w (trial_code start ok nok w b)
 looked T n start ok nok w true here next r lt tried = tried
 looked T n start ok nok w false here next r lt tried =
@@ -99,11 +100,12 @@ good_existing_after T w has r = (turns T flow_scheme _ _ w w.events w.scratch ha
 pub good_new_before : (T : Scheme) (w : World) → FlowFits T → ContainerFits T first_container →
     flow_ready (spot w) (after_all T w.frames) →
     Does T (n.Document document.ContainerNewBefore) w (new_before_transition w)
-good_new_before T w has inner r = looked T _ _ _ _ w (may_open w.current) has.new_before has.containers_after r (omega arith) (
-  begins_later T flow_scheme inner.own (n.Document document.ContainerNewBefore) first_container w IsRest IsRest w.events w.scratch _ has.new_before inner.starts has.new_after has.containers_after refl
-      (prefix_tries (n.Document document.ContainerNewAfter) (n.Document document.ContainersAfter) w (after_all T w.frames) r (omega arith) (λ x. refl)) (λ K e. inner.ready _ K r.0.0 e) inner.level (omega arith) (omega arith),
-  refl,
-)
+good_new_before T w has inner r =
+    looked T _ _ _ _ w (may_open w.current) has.new_before has.containers_after r (omega arith) (
+      begins_later T flow_scheme inner.own (n.Document document.ContainerNewBefore) first_container w IsRest IsRest w.events w.scratch _ has.new_before inner.starts has.new_after has.containers_after refl
+          (prefix_tries (n.Document document.ContainerNewAfter) (n.Document document.ContainersAfter) w (after_all T w.frames) r (omega arith) (λ x. refl)) (λ K e. inner.ready _ K r.0.0 e) inner.level (omega arith) (omega arith),
+      refl,
+    )
 
 pub good_new_after : (T : Scheme) (w : World) → FlowFits T → flow_ready (spot w) (after_all T w.frames) →
     Does T (n.Document document.ContainerNewAfter) w (new_after_transition w)
@@ -137,21 +139,25 @@ flow_tries ok nok w K r low_ok low_nok same_ok same_nok = record {
 pub good_blank_line_before : (T : Scheme) (w : World) → FlowFits T →
     Fits T blank_scheme (n.BlankLine blank_line.Start) → flow_ready (spot w) (after_all T w.frames) →
     Does T (n.Flow flow.BlankLineBefore) w (blank_line_before_transition w)
-good_blank_line_before T w has inner r = looked T _ _ _ _ w (may_begin w.current) has.blank_line_before has.first_leaf r (omega arith) (
-  begins_try T flow_scheme blank_scheme (n.Flow flow.BlankLineBefore) (n.BlankLine blank_line.Start) w IsRest IsRest w.events w.scratch _ has.blank_line_before inner has.blank_line_after has.first_leaf refl
-      (flow_tries (n.Flow flow.BlankLineAfter) (n.Flow (front_of trials)) w (after_all T w.frames) r (omega arith) (omega arith) (λ x. refl) (λ x. refl)) (λ K e. (r.0.0, e)) (omega arith) (omega arith) (omega arith),
-  refl,
-)
+good_blank_line_before T w has inner r =
+    looked T _ _ _ _ w (may_begin w.current) has.blank_line_before has.first_leaf r (omega arith) (
+      begins_try T flow_scheme blank_scheme (n.Flow flow.BlankLineBefore) (n.BlankLine blank_line.Start) w IsRest IsRest w.events w.scratch _ has.blank_line_before inner has.blank_line_after has.first_leaf refl
+          (flow_tries (n.Flow flow.BlankLineAfter) (n.Flow (front_of trials)) w (after_all T w.frames) r (omega arith) (omega arith) (λ x. refl) (λ x. refl)) (λ K e. (r.0.0, e)) (omega arith) (omega arith) (omega arith),
+      refl,
+    )
 
 -- in front of a leaf
 pub good_before : (T : Scheme) (l : LeafName) (w : World) → FlowFits T → LeafFits T l →
     flow_ready (spot w) (after_all T w.frames) →
     Does T (n.Flow (leaf l).before) w (before_transition l w)
-good_before T l w has inner r = looked T _ _ _ _ w ((leaf l).may_begin w.current) inner.front inner.next r (let a = inner.falls in let b = inner.next_low in omega (arith, a, b)) (
-  begins_try T flow_scheme inner.own (n.Flow (leaf l).before) (leaf l).start w IsRest IsRest w.events w.scratch _ inner.front inner.starts has.behind inner.next refl
-      (flow_tries (n.Flow flow.After) (n.Flow (next_of l)) w (after_all T w.frames) r inner.behind_low inner.next_low (λ x. refl) (λ x. refl)) (λ K e. inner.ready _ K (r.0.0, e)) inner.level (omega arith) inner.falls,
-  refl,
-)
+good_before T l w has inner r =
+    let a = inner.falls in
+    let b = inner.next_low in
+    looked T _ _ _ _ w ((leaf l).may_begin w.current) inner.front inner.next r (omega (arith, a, b)) (
+      begins_try T flow_scheme inner.own (n.Flow (leaf l).before) (leaf l).start w IsRest IsRest w.events w.scratch _ inner.front inner.starts has.behind inner.next refl
+          (flow_tries (n.Flow flow.After) (n.Flow (next_of l)) w (after_all T w.frames) r inner.behind_low inner.next_low (λ x. refl) (λ x. refl)) (λ K e. inner.ready _ K (r.0.0, e)) inner.level (omega arith) inner.falls,
+      refl,
+    )
 
 pub good_before_content : (T : Scheme) (w : World) → FlowFits T → Fits T chunk_scheme (n.Content content.ChunkStart) →
     flow_ready (spot w) (after_all T w.frames) → Does T (n.Flow flow.BeforeContent) w (before_content_transition w)

@@ -42,7 +42,8 @@ cond-shrinks n false a b p q = q
 
 pub record LeafLaws (l : LineLeaf) : Type 1 where
   -- It takes no line that begins with what it may not begin with.
-  pub looked : (options : ParseOptions) (cells : List Cell) → l.may_begin (first_seen cells) ≡ false → l.takes options cells ≡ false
+  pub looked : (options : ParseOptions) (cells : List Cell) → l.may_begin (first_seen cells) ≡ false →
+      l.takes options cells ≡ false
   -- Its trial takes a line to its end, or refuses it and leaves all as it was.
   pub took : (options : ParseOptions) (cells : List Cell) (h : Here) → IsRest h.scratch → l.takes options cells ≡ true → l.trial options cells h ≡ shut_line (l.adds options cells h.point) cells h
   pub refused : (options : ParseOptions) (cells : List Cell) (h : Here) → IsRest h.scratch → l.takes options cells ≡ false → l.trial options cells h ≡ Refuses h.scratch h.flags

@@ -44,7 +44,8 @@ chunk-inside w true h = adds-content w.events (exit n.Content w.point) w.resolve
 chunk-inside w false h = h
 
 -- a trial that begins, and one that is refused at once
-trial : (start ok nok : StateName) (w : World) (b : Bool) → Registers w → Registers (flow.trial_code start ok nok w b).world
+trial : (start ok nok : StateName) (w : World) (b : Bool) → Registers w →
+    Registers (flow.trial_code start ok nok w b).world
 trial start ok nok w true h = h
 trial start ok nok w false h = h
 

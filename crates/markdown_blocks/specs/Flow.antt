@@ -19,8 +19,8 @@ use Rattle.markdown_blocks.specs.Registry.{LeafName, first_container, front_of, 
 
 -- What is tried.
 
--- by whether a construct may begin with what stands here: it is tried by its first state, and flow goes on by whether it took a
--- part of the line; where it may not, it is refused at once
+-- by whether a construct may begin with what stands here: then it is tried by its first state, and flow goes on by
+-- whether it took what stands here; elsewhere it is refused at once
 abbrev pub trial_code : StateName → StateName → StateName → World → Bool → Transition
 trial_code start ok nok w true = record { to = Retry start; world = tried w (Next ok) (Next nok) }
 trial_code start ok nok w false = record { to = Retry nok; world = w }
@@ -32,7 +32,8 @@ start_transition w = record { to = Retry (s.Flow flow.BlankLineBefore); world = 
 
 abbrev pub blank_line_before_transition : World → Transition
 blank_line_before_transition w =
-    trial_code (s.BlankLine blank_line.Start) (s.Flow flow.BlankLineAfter) (s.Flow (front_of trials)) w (blank.may_begin w.current)
+    trial_code (s.BlankLine blank_line.Start) (s.Flow flow.BlankLineAfter) (s.Flow (front_of trials)) w
+    (blank.may_begin w.current)
 
 -- in front of a leaf
 abbrev pub before_transition : LeafName → World → Transition
@@ -58,8 +59,8 @@ blank_line_after_transition w =
 abbrev pub existing_before_code : World → Option Container → Transition
 existing_before_code w None = record { to = Retry (s.Document document.ContainerNewBefore); world = w }
 existing_before_code w (Some c) =
-    trial_code (goes_on_with c.kind) (s.Document document.ContainerExistingAfter) (s.Document document.ContainerNewBefore) w
-    (may_go_on c.kind w.current)
+    trial_code (goes_on_with c.kind) (s.Document document.ContainerExistingAfter)
+    (s.Document document.ContainerNewBefore) w (may_go_on c.kind w.current)
 
 abbrev pub existing_before_transition : World → Transition
 existing_before_transition w = existing_before_code w (next_container w.flags)

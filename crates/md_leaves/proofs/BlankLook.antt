@@ -13,7 +13,8 @@ use Rattle.md_seam.proofs.LookLemmas.{not-passing, not-white}
 not-blank : (cells : List Cell) → may_begin (first_seen cells) ≡ false → is_blank (line_bytes cells) ≡ false
 not-blank [] e = cc
 not-blank (c ∷ cs) e =
-    ap (λ (x : Bool). is_blank (map (λ (d : Cell). d.byte) (cond x [] (c ∷ line_cells cs)))) (not-passing ends_line (c ∷ cs) e)
+    ap (λ (x : Bool). is_blank (map (λ (d : Cell). d.byte) (cond x [] (c ∷ line_cells cs))))
+    (not-passing ends_line (c ∷ cs) e)
     ∙ ap (λ (x : Bool). x && is_blank (line_bytes cs)) (not-white ends_line (c ∷ cs) e)
 
 pub blank-refused : (cells : List Cell) (h : Here) → may_begin (first_seen cells) ≡ false →

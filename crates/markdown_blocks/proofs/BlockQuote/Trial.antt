@@ -34,7 +34,8 @@ pub prefix-tried : (options : ParseOptions) (cells : List Cell) (h : Here) → I
 prefix-tried options cells h is = prefix-is options cells h is ∙ tried-if (takes_prefix options cells) (quote_on options cells h.point) h
 
 -- not where another byte than whitespace and `>` stands first,
-no_prefix : (options : ParseOptions) (cells : List Cell) → may_begin (first_seen cells) ≡ false → takes_prefix options cells ≡ false
+no_prefix : (options : ParseOptions) (cells : List Cell) → may_begin (first_seen cells) ≡ false →
+    takes_prefix options cells ≡ false
 no_prefix options cells e =
     ap has_marker (none-rest (small_indent options) cells (not-white (is_current 62) cells e))
     ∙ go cells (not-passing (is_current 62) cells e)
@@ -66,9 +67,11 @@ pub quote-looked : (options : ParseOptions) (cells : List Cell) (h : Here) → I
     may_begin (first_seen cells) ≡ false → quote_at options cells h ≡ Refuses h.scratch h.flags
 quote-looked options cells h is e = quote-tried options false cells h is ∙ go options.constructs.block_quote
   where
-    go : (x : Bool) →
-        passed_by (cond (x && takes_prefix options cells) (Some (quote_new options cells h.point)) None) h ≡ Refuses h.scratch h.flags
-    go true = ap (λ (y : Bool). passed_by (cond y (Some (quote_new options cells h.point)) None) h) (no_prefix options cells e)
+    new : Passed
+    new = quote_new options cells h.point
+
+    go : (x : Bool) → passed_by (cond (x && takes_prefix options cells) (Some new) None) h ≡ Refuses h.scratch h.flags
+    go true = ap (λ (y : Bool). passed_by (cond y (Some new) None) h) (no_prefix options cells e)
     go false = refl
 
 pub quote-passed : (options : ParseOptions) (interrupting : Bool) (cells : List Cell) (p : Point) (t : Passed) →

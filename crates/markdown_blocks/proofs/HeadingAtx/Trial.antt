@@ -20,7 +20,8 @@ use Rattle.markdown_blocks.proofs.LeafStarts.{start-shrinks}
 pub trial-looked : (options : ParseOptions) (cells : List Cell) → may_begin (first_seen cells) ≡ false →
     is_heading_line options cells ≡ false
 trial-looked options cells e =
-    rule-refused (is_current 35) options.constructs.heading_atx is_heading (small_indent options) cells refl (λ b bytes k. rw k refl) e
+    rule-refused (is_current 35) options.constructs.heading_atx is_heading (small_indent options) cells refl
+    (λ b bytes k. rw k refl) e
 
 -- a line that holds a heading is taken
 pub trial-took : (options : ParseOptions) (cells : List Cell) (h : Here) → IsRest h.scratch →

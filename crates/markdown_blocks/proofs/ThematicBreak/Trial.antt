@@ -71,7 +71,8 @@ rest-white s e = ap (λ (t : Scratch). without_marker (calmed t)) e ∙ sym e
 pub break-looked : (options : ParseOptions) (cells : List Cell) → may_begin (first_seen cells) ≡ false →
     is_break options cells ≡ false
 break-looked options cells e =
-    rule-refused sees_marker options.constructs.thematic_break is_rule (small_indent options) cells refl (λ b bytes k. rw k refl) e
+    rule-refused sees_marker options.constructs.thematic_break is_rule (small_indent options) cells refl
+    (λ b bytes k. rw k refl) e
 
 -- A break takes its line,
 pub break-took : (options : ParseOptions) (cells : List Cell) (h : Here) → IsRest h.scratch →

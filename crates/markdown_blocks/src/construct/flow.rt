@@ -2,8 +2,8 @@
 //
 //     flow ::= blank_line | heading_atx | thematic_break | content
 //
-// The rest of a line, behind the prefixes of its containers, is tried in this order: what may not begin with the byte that stands
-// here is refused at once, and else an attempt tells. The line then ends in the document.
+// The rest of a line, behind the prefixes of its containers, is tried in this order. What may not begin with the byte
+// that stands here is refused at once; else an attempt tells. The line then ends in the document.
 
 ghost use Rattle.std.specs.Prelude.{◌≡◌, ◌≢◌};
 ghost use Rattle.md_engine.specs.Scheme.{stands};
