@@ -10,6 +10,7 @@ ghost use Rattle.md_engine.specs.Ends.{ends_at, point_of, put};
 
 pub mod container;
 
+use crate::class::Class;
 use crate::configuration::ParseOptions;
 use crate::event::{Event, Kind, Link, Name, Point};
 use crate::message::Message;
@@ -200,6 +201,19 @@ fn step(point: Point, byte: u8, pair: bool) -> Point
     }
 }
 
+/// The point so many bytes further on its line.
+fn further(point: Point, count: usize) -> Point
+    requires { (point.index + count < 2 ^ 62) × (point.column + count < 2 ^ 64) }
+    ensures { result ≡ record point { column = point.column + count; index = point.index + count; vs = 0 } }
+{
+    Point {
+        line: point.line,
+        column: point.column + count,
+        index: point.index + count,
+        vs: 0,
+    }
+}
+
 /// The ends of containers at a point, the innermost first.
 fn ends_at(alloc: Global, containers: &[Container], point: Point) -> Result<Vec<Event>, Message>
     ensures { IfOk result (λ ends. ends.items ≡ ends_at containers.now point) }
@@ -230,6 +244,7 @@ fn turn(events: &mut Vec<Event>, at: usize, count: usize)
 }
 
 impl<'a> Tokenizer<'a> {
+    ghost use Rattle.md_engine.specs.Staying.{TakesAll};
     ghost use Rattle.md_engine.specs.World.{closed, world, looks, after, fresh, line_begun, reads_to, registered, registered_before, skipping};
 
     /// A tokenizer at `point`, which has read nothing.
@@ -362,6 +377,21 @@ impl<'a> Tokenizer<'a> {
             self.point = self.begin_line(next);
         } else {
             self.point = next;
+        }
+    }
+
+    /// Takes all bytes of a class that stand here, as far as the text may be read.
+    pub(crate) fn consume_all(&mut self, class: Class)
+        ensures { TakesAll class (world self.old) (world self.new) }
+    {
+        let index = self.point.index;
+        if index >= self.limit {
+            return;
+        }
+        let count = class.span(&self.bytes[index..self.limit]);
+        if count > 0 {
+            self.current = Some(self.bytes[index + count - 1]);
+            self.point = further(self.point, count);
         }
     }
 
