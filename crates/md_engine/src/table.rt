@@ -94,7 +94,7 @@ fn stay<T: Table>(tokenizer: &mut Tokenizer, state: State)
         return;
     };
     if let Some(class) = T::stays(name) {
-        tokenizer.consume_all(class);
+        tokenizer.see_all(class);
     }
 }
 

@@ -244,7 +244,7 @@ fn turn(events: &mut Vec<Event>, at: usize, count: usize)
 }
 
 impl<'a> Tokenizer<'a> {
-    ghost use Rattle.md_engine.specs.Staying.{TakesAll};
+    ghost use Rattle.md_engine.specs.Staying.{SeesAll, TakesAll};
     ghost use Rattle.md_engine.specs.World.{closed, world, looks, after, fresh, line_begun, reads_to, registered, registered_before, skipping};
 
     /// A tokenizer at `point`, which has read nothing.
@@ -380,17 +380,17 @@ impl<'a> Tokenizer<'a> {
         }
     }
 
-    /// Takes all bytes of a class that stand here, as far as the text may be read.
-    pub(crate) fn consume_all(&mut self, class: Class)
-        ensures { TakesAll class (world self.old) (world self.new) }
+    /// Moves the point by all bytes of a class that stand here, up to the index `end` at most.
+    pub fn consume_all(&mut self, class: Class, end: usize)
+        requires { end ≤ length (world self.old).setting.bytes }
+        ensures { TakesAll class end (world self.old) (world self.new) }
     {
         let index = self.point.index;
-        if index >= self.limit {
+        if index >= end {
             return;
         }
-        let count = class.span(&self.bytes[index..self.limit]);
+        let count = class.span(&self.bytes[index..end]);
         if count > 0 {
-            self.current = Some(self.bytes[index + count - 1]);
             self.point = further(self.point, count);
         }
     }
@@ -454,6 +454,17 @@ impl<'a> Tokenizer<'a> {
         ensures { world self.new ≡ record (world self.old) { current = looks (world self.old) } }
     {
         self.current = self.look();
+    }
+
+    /// Sees and takes all bytes of a class that stand here, as far as the text may be read.
+    pub(crate) fn see_all(&mut self, class: Class)
+        ensures { SeesAll class (world self.old) (world self.new) }
+    {
+        let index = self.point.index;
+        self.consume_all(class, self.limit);
+        if self.point.index > index {
+            self.current = Some(self.bytes[self.point.index - 1]);
+        }
     }
 
     /// Lets the text be read up to here.
