@@ -1,5 +1,6 @@
 pub mod Goods
 pub mod States
+pub mod FlowStays
 pub mod FromEnding
 pub mod FlowLemmas
 pub mod FlowMeans

@@ -1,5 +1,6 @@
 pub mod Goods
 pub mod States
+pub mod StaysLemmas
 pub mod ContentSteps
 pub mod ContentRuns
 pub mod JoinedLemmas

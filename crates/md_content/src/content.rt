@@ -8,7 +8,7 @@
 // The prefixes of containers in front of a line belong to no line of the content (CommonMark 5.1). So each line begins
 // behind those in front of it, and ends behind its ending, before those of the next line: its end is that of its chunk.
 
-ghost use Rattle.std.specs.Prelude.{◌≡◌, ◌≢◌, ℕ, ◌+◌, ◌<◌, ◌&&◌, true, IfOk, List, [], length, drop};
+ghost use Rattle.std.specs.Prelude.{◌≡◌, ◌≢◌, ℕ, ◌+◌, ◌<◌, ◌&&◌, Bool, true, IfOk, IfSome, List, [], length, drop};
 ghost use Rattle.std.specs.Option.{option_map};
 ghost use Rattle.md_engine.specs.Found.{found_in};
 ghost use Rattle.md_engine.specs.World.{looks, world};
@@ -23,9 +23,11 @@ ghost use Rattle.md_content.specs.Resolves.{Resolves, is_all_read};
 ghost use Rattle.md_seam.specs.Events.Nested.{is_enter};
 ghost use Rattle.md_seam.specs.Parts.{AreChunks, ArePlaced};
 ghost use Rattle.md_seam.specs.Spaces.{ends_line};
+ghost use Rattle.md_seam.specs.Stays.{TakesEach};
 ghost use Rattle.md_seam.specs.Transition.{IsAt, NeedsNothing};
 
 use crate::paragraph;
+use md_engine::class::Class;
 use md_engine::configuration::ParseOptions;
 use md_engine::event::{Content, Event, Kind, Link, Name};
 use md_engine::message::Message;
@@ -99,6 +101,17 @@ pub fn call(tokenizer: &mut Tokenizer, state: ContentState) -> State
     }
 }
 
+/// A class of bytes that a state of a line of content only takes.
+pub fn stays(state: ContentState) -> Option<Class>
+    ensures { IfSome result (λ class. (is_name : ResolveName → Bool) →
+        TakesEach class (StateName.Content state) (chunk_transition is_name state)) }
+{
+    match state {
+        ContentState::ChunkInside => Some(Class::Text),
+        _ => None,
+    }
+}
+
 /// Calls a state of content.
 fn call_state(tokenizer: &mut Tokenizer, name: StateName) -> State
     requires { (world tokenizer.old).current ≡ looks (world tokenizer.old) }
@@ -126,6 +139,13 @@ impl Table for ContentTable {
 
     fn call(tokenizer: &mut Tokenizer, name: StateName) -> State {
         call_state(tokenizer, name)
+    }
+
+    fn stays(name: StateName) -> Option<Class> {
+        match name {
+            StateName::Paragraph(state) => paragraph::stays(state),
+            _ => None,
+        }
     }
 
     fn resolve(

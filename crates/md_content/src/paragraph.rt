@@ -4,14 +4,16 @@
 //
 // It adds `Paragraph` around one linked `Data` a line, which reaches over the line's ending where the paragraph goes on.
 
-ghost use Rattle.std.specs.Prelude.{◌≡◌, ◌≢◌};
+ghost use Rattle.std.specs.Prelude.{◌≡◌, ◌≢◌, IfSome};
 ghost use Rattle.md_engine.specs.World.{world};
 ghost use Rattle.md_engine.specs.declared.state.Name.{Name as StateName};
 ghost use Rattle.md_engine.specs.declared.state.State.{State};
 ghost use Rattle.md_engine.specs.declared.state.paragraph.State.{State as ParagraphState};
 ghost use Rattle.md_content.specs.Paragraph.{inside_transition, line_start_transition, paragraph_transition, start_transition};
+ghost use Rattle.md_seam.specs.Stays.{TakesEach};
 ghost use Rattle.md_seam.specs.Transition.{IsAt, NeedsNothing};
 
+use md_engine::class::Class;
 use md_engine::event::{Content, Link, Name};
 use md_engine::or_error;
 use md_engine::state::paragraph::State as ParagraphState;
@@ -95,5 +97,15 @@ pub fn call(tokenizer: &mut Tokenizer, state: ParagraphState) -> State
         ParagraphState::Start => start(tokenizer),
         ParagraphState::LineStart => line_start(tokenizer),
         ParagraphState::Inside => inside(tokenizer),
+    }
+}
+
+/// A class of bytes that a state of a paragraph only takes.
+pub fn stays(state: ParagraphState) -> Option<Class>
+    ensures { IfSome result (λ class. TakesEach class (StateName.Paragraph state) (paragraph_transition state)) }
+{
+    match state {
+        ParagraphState::Inside => Some(Class::Text),
+        _ => None,
     }
 }

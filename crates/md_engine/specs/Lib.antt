@@ -1,12 +1,14 @@
 pub mod Place
 pub mod Sound
 pub mod World
+pub mod Classes
 pub mod Resolvers
 pub mod ContainerName
 pub mod Ends
 pub mod Found
 pub mod Run
 pub mod Scheme
+pub mod Staying
 pub mod Meaning
 pub mod Standing
 pub mod TextFeed

@@ -1,6 +1,7 @@
 // The engine of the parser: events, states, and a tokenizer that goes from state to state.
 #![tactic(auto)]
 
+pub mod class;
 pub mod configuration;
 pub mod event;
 pub mod message;

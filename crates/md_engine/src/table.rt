@@ -2,14 +2,16 @@
 //
 // A table says which function each state name stands for. `push` reads a part of the text and answers the state that waits
 // for more; `flush` reads the end, and runs the resolvers that were registered.
-ghost use Rattle.std.specs.Prelude.{◌≡◌, ◌≢◌, ◌<◌, ◌≤◌, ◌⊎◌, [], length, IfOk, IfNone, IfSome, OnOk, false, true};
+ghost use Rattle.std.specs.Prelude.{Bool, ◌≡◌, ◌≢◌, ◌<◌, ◌≤◌, ◌⊎◌, [], length, IfOk, IfNone, IfSome, OnOk, false, true};
 ghost use Rattle.std.specs.Option.{option_map};
 ghost use Rattle.md_engine.specs.Found.{found_in};
 ghost use Rattle.md_engine.specs.Run.{Flushes, IsEnd, IsStopped, Leaves, Resolution, ResolvedIf, Runs, Step, plain};
 ghost use Rattle.md_engine.specs.Scheme.{Scheme, stands, work};
+ghost use Rattle.md_engine.specs.Staying.{StaysOn};
 ghost use Rattle.md_engine.specs.World.{looks, reads_to, world};
 ghost use Rattle.md_engine.specs.declared.state.State.{State};
 
+use crate::class::Class;
 use crate::message::Message;
 use crate::resolve::Name as ResolveName;
 use crate::state::{Name as StateName, State};
@@ -35,6 +37,10 @@ pub trait Table {
         ensures stands { result ≢ State.Error → stands scheme (world tokenizer.new) (plain result) }
         ensures falls { result ≢ State.Error → work scheme (world tokenizer.new) (plain result) < work scheme (world tokenizer.old) (State.Next name) }
         ensures setting { result ≢ State.Error → (world tokenizer.new).setting ≡ (world tokenizer.old).setting };
+
+    /// A class of bytes that the state of this name only takes, to stay where it is: many are taken at once.
+    fn stays(name: StateName) -> Option<Class>
+        ensures { IfSome result (λ class. StaysOn step scheme name class) };
 
     /// Runs the resolver of this name, when no attempt is left. After an `Err` the parse has failed.
     fn resolve(tokenizer: &mut Tokenizer, name: ResolveName) -> Result<Option<Subresult>, Message>
@@ -76,6 +82,22 @@ fn is_waiting(tokenizer: &Tokenizer, is_end: bool) -> bool
     !is_end && tokenizer.point.index >= tokenizer.limit
 }
 
+/// Takes what a state that has taken something goes on to take, where it stays.
+fn stay<T: Table>(tokenizer: &mut Tokenizer, state: State)
+    requires { stands T.scheme (world tokenizer.old) (plain state) }
+    ensures runs { (is_end : Bool) → Runs T.step is_end state (world tokenizer.old) state (world tokenizer.new) }
+    ensures stands { stands T.scheme (world tokenizer.new) (plain state) }
+    ensures falls { work T.scheme (world tokenizer.new) (plain state) ≤ work T.scheme (world tokenizer.old) (plain state) }
+    ensures setting { (world tokenizer.new).setting ≡ (world tokenizer.old).setting }
+{
+    let State::Next(name) = state else {
+        return;
+    };
+    if let Some(class) = T::stays(name) {
+        tokenizer.see_all(class);
+    }
+}
+
 /// Goes from state to state until one waits for more of the text, or the last has ended.
 fn run<T: Table>(tokenizer: &mut Tokenizer, start: State, is_end: bool) -> State
     requires { stands T.scheme (world tokenizer.old) (plain start) }
@@ -99,7 +121,10 @@ fn run<T: Table>(tokenizer: &mut Tokenizer, start: State, is_end: bool) -> State
                 tokenizer.see();
                 match T::call(tokenizer, name) {
                     State::Error => return State::Error,
-                    next => next,
+                    next => {
+                        stay::<T>(tokenizer, next);
+                        next
+                    }
                 }
             }
         };

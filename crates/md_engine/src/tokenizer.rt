@@ -11,6 +11,7 @@ ghost use Rattle.md_engine.specs.Ends.{ends_at, point_of, put};
 pub mod container;
 pub mod held_leaf;
 
+use crate::class::Class;
 use crate::configuration::ParseOptions;
 use crate::event::{Event, Kind, Link, Name, Point};
 use crate::message::Message;
@@ -202,6 +203,19 @@ fn step(point: Point, byte: u8, pair: bool) -> Point
     }
 }
 
+/// The point so many bytes further on its line.
+fn further(point: Point, count: usize) -> Point
+    requires { (point.index + count < 2 ^ 62) × (point.column + count < 2 ^ 64) }
+    ensures { result ≡ record point { column = point.column + count; index = point.index + count; vs = 0 } }
+{
+    Point {
+        line: point.line,
+        column: point.column + count,
+        index: point.index + count,
+        vs: 0,
+    }
+}
+
 /// The ends of containers at a point, the innermost first.
 fn ends_at(alloc: Global, containers: &[Container], point: Point) -> Result<Vec<Event>, Message>
     ensures { IfOk result (λ ends. ends.items ≡ ends_at containers.now point) }
@@ -232,6 +246,7 @@ fn turn(events: &mut Vec<Event>, at: usize, count: usize)
 }
 
 impl<'a> Tokenizer<'a> {
+    ghost use Rattle.md_engine.specs.Staying.{SeesAll, TakesAll};
     ghost use Rattle.md_engine.specs.World.{closed, world, looks, after, fresh, line_begun, reads_to, registered, registered_before, skipping};
 
     /// A tokenizer at `point`, which has read nothing.
@@ -367,6 +382,21 @@ impl<'a> Tokenizer<'a> {
         }
     }
 
+    /// Moves the point by all bytes of a class that stand here, up to the index `end` at most.
+    pub fn consume_all(&mut self, class: Class, end: usize)
+        requires { end ≤ length (world self.old).setting.bytes }
+        ensures { TakesAll class end (world self.old) (world self.new) }
+    {
+        let index = self.point.index;
+        if index >= end {
+            return;
+        }
+        let count = class.span(&self.bytes[index..end]);
+        if count > 0 {
+            self.point = further(self.point, count);
+        }
+    }
+
     /// Begins an attempt, or changes nothing.
     fn begin(&mut self, ok: State, nok: State, is_check: bool) -> Result<(), Message>
         ensures { world self.new ≡ record (world self.old) { frames = if is_ok result then record { ok = ok; nok = nok; is_check = is_check; events_len = length (world self.old).events; point = (world self.old).point } ∷ (world self.old).frames else (world self.old).frames } }
@@ -426,6 +456,17 @@ impl<'a> Tokenizer<'a> {
         ensures { world self.new ≡ record (world self.old) { current = looks (world self.old) } }
     {
         self.current = self.look();
+    }
+
+    /// Sees and takes all bytes of a class that stand here, as far as the text may be read.
+    pub(crate) fn see_all(&mut self, class: Class)
+        ensures { SeesAll class (world self.old) (world self.new) }
+    {
+        let index = self.point.index;
+        self.consume_all(class, self.limit);
+        if self.point.index > index {
+            self.current = Some(self.bytes[self.point.index - 1]);
+        }
     }
 
     /// Lets the text be read up to here.

@@ -6,7 +6,7 @@
 // is read, `resolve` puts `HeadingAtxText` around what lies behind the opening sequence, up to the last run that does not
 // close the heading, as one `Data`.
 
-ghost use Rattle.std.specs.Prelude.{◌≡◌, ◌≢◌, [], IfOk, None};
+ghost use Rattle.std.specs.Prelude.{◌≡◌, ◌≢◌, Bool, [], IfOk, IfSome, None};
 ghost use Rattle.std.specs.Option.{option_map};
 ghost use Rattle.md_engine.specs.Found.{found_in};
 ghost use Rattle.md_engine.specs.World.{world};
@@ -16,10 +16,12 @@ ghost use Rattle.md_engine.specs.declared.state.heading_atx.State.{State as Head
 ghost use Rattle.md_leaves.specs.Heading.{at_break_transition, before_transition, behind_part, data_transition, heading_transition, may_begin, sequence_further_transition, sequence_open_transition, start_transition};
 ghost use Rattle.md_leaves.specs.HeadingText.{headings_resolved};
 ghost use Rattle.md_seam.specs.Spaces.{sees_white};
+ghost use Rattle.md_seam.specs.Stays.{TakesEach};
 ghost use Rattle.md_seam.specs.Transition.{IsAt, NeedsNothing};
 
 use crate::heading_text::put_texts;
 use crate::leaf_start::start_leaf;
+use md_engine::class::Class;
 use md_engine::event::{Content, Link, Name};
 use md_engine::message::Message;
 use md_engine::or_error;
@@ -215,6 +217,17 @@ pub fn call(tokenizer: &mut Tokenizer, state: HeadingState) -> State
         HeadingState::AtBreak => at_break(tokenizer),
         HeadingState::SequenceFurther => sequence_further(tokenizer),
         HeadingState::Data => data(tokenizer),
+    }
+}
+
+/// A class of bytes that a state of a heading only takes.
+pub fn stays(state: HeadingState) -> Option<Class>
+    ensures { IfSome result (λ class. (is_name : ResolveName → Bool) →
+        TakesEach class (StateName.HeadingAtx state) (heading_transition is_name state)) }
+{
+    match state {
+        HeadingState::Data => Some(Class::Word),
+        _ => None,
     }
 }
 

@@ -1,4 +1,5 @@
 pub mod Transition
+pub mod Stays
 pub mod Spaces
 pub mod Parts
 pub mod Lent

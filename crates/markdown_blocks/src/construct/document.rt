@@ -23,6 +23,7 @@ ghost use Rattle.md_seam.specs.Transition.{IsAt, NeedsNothing};
 
 use crate::construct::registry;
 use crate::resolve;
+use md_engine::class::Class;
 use md_engine::event::Name;
 use md_engine::message::Message;
 use md_engine::or_error;
@@ -297,6 +298,10 @@ impl Table for DocumentTable {
 
     fn call(tokenizer: &mut Tokenizer, name: StateName) -> State {
         call_state(tokenizer, name)
+    }
+
+    fn stays(_name: StateName) -> Option<Class> {
+        None
     }
 
     fn resolve(tokenizer: &mut Tokenizer, name: ResolveName) -> Result<Option<Subresult>, Message> {

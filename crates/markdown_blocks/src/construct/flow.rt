@@ -20,6 +20,7 @@ ghost use Rattle.md_seam.specs.Transition.{IsAt, NeedsNothing};
 use crate::construct::{document, registry};
 use crate::resolve;
 use md_content::content;
+use md_engine::class::Class;
 use md_engine::message::Message;
 use md_engine::or_error;
 use md_engine::resolve::Name as ResolveName;
@@ -208,6 +209,14 @@ impl Table for FlowTable {
 
     fn call(tokenizer: &mut Tokenizer, name: StateName) -> State {
         call_state(tokenizer, name)
+    }
+
+    fn stays(name: StateName) -> Option<Class> {
+        match name {
+            StateName::Content(state) => content::stays(state),
+            StateName::HeadingAtx(state) => heading_atx::stays(state),
+            _ => None,
+        }
     }
 
     fn resolve(tokenizer: &mut Tokenizer, name: ResolveName) -> Result<Option<Subresult>, Message> {

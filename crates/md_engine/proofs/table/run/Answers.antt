@@ -1,22 +1,14 @@
-use Rattle.std.proofs.Common.{◌≤◌, length, ◌∙◌, ap, refl, subst, sym}
+use Rattle.std.proofs.Common.{◌≡◌, ◌<◌, ◌≤◌, arith, ◌∙◌, ap, refl, subst, sym}
 use Rattle.md_engine.specs.declared.state.State.TheVariants.{Next}
 use Rattle.md_engine.specs.Run.{plain, reading}
 use Rattle.md_engine.specs.Run.Runs.{Stays, ThenCalls, ThenLeaves}
+use Rattle.md_engine.specs.Scheme.{work}
 use Rattle.md_engine.specs.World.{World, world}
-use Rattle.md_engine.specs.Sound.{IsSaved}
-use Rattle.md_engine.specs.declared.tokenizer.Frame.{Frame}
-use Rattle.md_engine.specs.declared.tokenizer.Tokenizer.{Tokenizer}
-use Rattle.std.specs.List.{All}
-use Rattle.std.proofs.lemmas.List.Elements.{All-weaker}
-use Rattle.md_engine.proofs.Sound.{All-reverse}
+use Rattle.md_engine.proofs.ClassLemmas.{within-world}
 use Rattle.md_engine.proofs.Falls.{falls_same, leaves_falls, leaves_stands, stands_same}
+use Rattle.md_engine.proofs.Keeps.{runs-append}
 use Rattle.md_engine.proofs.Loops.{end_not_error, is_end_of, not_error, plain_of}
 use Rattle.md_engine.proofs.table.run.Goals as goal
-
--- the attempts of a tokenizer go back to events that are there
-within-world : (t : Tokenizer) → All (λ (f : Frame). f.events_len ≤ length (world t).events) (world t).frames
-within-world t = All-reverse (λ (f : Frame). f.events_len ≤ length t.events.items) t.frames.items
-    (All-weaker (IsSaved t.bytes.now (length t.events.items)) (λ (f : Frame). f.events_len ≤ length t.events.items) (λ f h. h.within) t.frames.items t.sound.saved)
 
 pub loop-state-init : goal.loop-state-init
 loop-state-init g c = record { runs = λ _. Stays; stands = λ _. c.requires; setting = λ _. refl }
@@ -42,19 +34,28 @@ call-requires-clause-stands g c =
     let st = c.loop-state.invariant.stands (not_error _ _ p) in
     stands_same g.T.Table.scheme (reading (world c.loop-state.tokenizer)) (world c.see.new.self) (plain c.loop-state.state) (Next c.in-Next.name) (sym c.see.ensures) p st
 
+pub stay-requires : goal.stay-requires
+stay-requires g c = c.call.ensures.stands c.in_default.not-Error
+
 pub loop-state-smaller : goal.loop-state-smaller
 loop-state-smaller g c =
     let p = plain_of c.loop-state.state c.in-Next.name c.in-Next.is in
-    falls_same g.T.Table.scheme (world c.call.new.tokenizer) (world c.see.new.self) (reading (world c.loop-state.tokenizer)) (plain c.call.result) (Next c.in-Next.name) (plain c.loop-state.state) c.see.ensures (sym p)
-    (c.call.ensures.falls c.in_default.not-Error)
+    let S = g.T.Table.scheme in
+    let v : World = world c.loop-state.tokenizer in
+    let before : work S (world c.call.new.tokenizer) (plain c.call.result) < work S v (plain c.loop-state.state) =
+    falls_same S (world c.call.new.tokenizer) (world c.see.new.self) (reading (world c.loop-state.tokenizer)) (plain c.call.result) (Next c.in-Next.name) (plain c.loop-state.state) c.see.ensures (sym p)
+    (c.call.ensures.falls c.in_default.not-Error) in
+    let below : work S (world c.stay.new.tokenizer) (plain c.call.result) ≤ work S (world c.call.new.tokenizer) (plain c.call.result) = c.stay.ensures.falls in
+    omega (arith, before, below)
 
 pub loop-state-preserved : goal.loop-state-preserved
 loop-state-preserved g c =
     let p = plain_of c.loop-state.state c.in-Next.name c.in-Next.is in
     let fine = not_error _ _ p in
     let P : World → Type 0 = λ w. g.T.Table.step c.in-Next.name w c.call.result (world c.call.new.tokenizer) in
+    let same : (world c.call.new.tokenizer).setting ≡ (world c.loop-state.tokenizer).setting = c.call.ensures.setting c.in_default.not-Error ∙ ap (λ (w : World). w.setting) c.see.ensures in
     record {
-      runs = λ h. ThenCalls _ _ _ _ (c.loop-state.invariant.runs fine) (record { name = c.in-Next.name; names = p; may = c.if-is_waiting.ensures.goes_on refl; step = subst P c.see.ensures (c.call.ensures.step h); fine = h; setting = c.call.ensures.setting h ∙ ap (λ (w : World). w.setting) c.see.ensures; within = within-world c.loop-state.tokenizer });
-      stands = c.call.ensures.stands;
-      setting = λ h. c.call.ensures.setting h ∙ ap (λ (w : World). w.setting) c.see.ensures ∙ c.loop-state.invariant.setting fine;
+      runs = λ h. runs-append _ _ _ _ _ _ _ _ (ThenCalls _ _ _ _ (c.loop-state.invariant.runs fine) (record { name = c.in-Next.name; names = p; may = c.if-is_waiting.ensures.goes_on refl; step = subst P c.see.ensures (c.call.ensures.step h); fine = h; setting = same; within = within-world c.loop-state.tokenizer })) (c.stay.ensures.runs c.args.is_end);
+      stands = λ h. c.stay.ensures.stands;
+      setting = λ h. c.stay.ensures.setting ∙ same ∙ c.loop-state.invariant.setting fine;
     }

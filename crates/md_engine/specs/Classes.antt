@@ -1,0 +1,23 @@
+-- Classes of bytes, of which a state takes many at once.
+use Rattle.std.specs.Prelude.{◌≡◌, ℕ, ◌<◌, ◌≤◌, Bool, true, false, ◌&&◌, ◌||◌, ◌==◌, not, List, length, slice_index}
+use Rattle.md_engine.specs.declared.class.Class.{Class}
+use Rattle.md_engine.specs.declared.class.Class.TheVariants.{Text, Word}
+use Rattle.md_engine.specs.Place.{is_ending}
+
+-- behind such a byte the line goes on, one column further
+abbrev pub goes_on : ℕ → Bool
+goes_on b = not (is_ending b || (b == 9))
+
+-- which of these a class has
+abbrev pub admits : Class → ℕ → Bool
+admits Text b = true
+admits Word b = not (b == 32)
+
+abbrev pub has : Class → ℕ → Bool
+has c b = goes_on b && admits c b
+
+-- so many bytes of a class stand in front, and no more
+pub record IsSpan (c : Class) (bytes : List ℕ) (n : ℕ) : Type 0 where
+  pub within : n ≤ length bytes
+  pub each : (k : ℕ) → k < n → has c (slice_index bytes k) ≡ true
+  pub ends : n < length bytes → has c (slice_index bytes n) ≡ false
