@@ -27,18 +27,18 @@ use Rattle.md_engine.proofs.StepOf.{Sees, ahead, begins_only, changes, outermost
 use Rattle.md_content.specs.ChunkRule.{chunk_at}
 use Rattle.md_content.proofs.ContentSteps.{chunk_steps}
 use Rattle.md_leaves.specs.Blank as blank
-use Rattle.md_leaves.proofs.BlankLook.{blank-refused}
+use Rattle.md_leaves.proofs.BlankLook.{blank-ended, blank-refused}
 use Rattle.md_leaves.proofs.BlankSteps.{blank_steps}
 use Rattle.md_seam.specs.Events.Nested.{enter, exit, pair}
 use Rattle.md_seam.specs.Look.{first_seen}
-use Rattle.md_seam.specs.Spaces.{IsRest}
+use Rattle.md_seam.specs.Spaces.{IsRest, ends_line}
 use Rattle.md_seam.specs.Transition.{Transition, entered, exited, taken}
 use Rattle.md_seam.proofs.LookLemmas.{first-seen}
 use Rattle.md_seam.proofs.SpacesGoods.{does-stands}
 use Rattle.md_seam.proofs.WhiteSteps.{white_steps}
 use Rattle.markdown_blocks.specs.Document.{document_own_transition}
 use Rattle.markdown_blocks.specs.Fed.{feeds}
-use Rattle.markdown_blocks.specs.Flow.{after_transition, before_content_transition, before_transition, blank_line_after_transition, blank_line_before_transition, containers_after_transition, existing_after_transition, existing_before_code, flow_end_code, flow_end_transition, flow_own_transition, leaf_transition, new_after_transition, new_before_transition, start_transition, trial_code}
+use Rattle.markdown_blocks.specs.Flow.{after_transition, before_content_transition, before_transition, blank_line_after_transition, blank_line_code, containers_after_transition, existing_after_transition, existing_before_code, flow_end_code, flow_end_transition, flow_own_transition, leaf_transition, new_after_transition, new_before_transition, start_transition, trial_code}
 use Rattle.markdown_blocks.specs.FlowRule.{HasFlow, Rule, behind_containers, blank_ended, ended, ended_to, existing_by, flow_at, leaves_of, line_ended, line_then, new_of, nonblank_of, opened, tried}
 use Rattle.markdown_blocks.specs.LineFlags as flags
 use Rattle.markdown_blocks.specs.LineFlags.{ending_name, next_container, next_line, went_on}
@@ -162,10 +162,19 @@ start_steps : (B : Behaviour) (feed : Feed) (w : World) (options : ParseOptions)
 start_steps B feed w options next has =
     passes B feed _ _ w w refl refl (has.leaves flow.Start _ _ ∙ sym (has.leaves flow.BlankLineBefore _ _))
 
-blank_line_before_steps : (B : Behaviour) (feed : Feed) (w : World) (options : ParseOptions) (next : Rule) →
-    HasFlow B options next → Sees feed w →
-    Steps B feed (Next (n.Flow flow.BlankLineBefore)) w (blank_line_before_transition w).to (blank_line_before_transition w).world
-blank_line_before_steps B feed w options next has s =
+blank_line_before_steps : (B : Behaviour) (feed : Feed) (w : World) (options : ParseOptions) (next : Rule) (x : Bool) →
+    HasFlow B options next → Sees feed w → ends_line w.current ≡ x →
+    Steps B feed (Next (n.Flow flow.BlankLineBefore)) w
+    (blank_line_code w x (blank.may_begin w.current)).to (blank_line_code w x (blank.may_begin w.current)).world
+blank_line_before_steps B feed w options next true has s e =
+    let otherwise : Scratch → Flags → Outcome =
+    λ s g. nonblank_of options next (feed w.point) (record (here w) { scratch = s; flags = g }) in
+    passes B feed _ _ w w refl refl
+    (has.leaves flow.BlankLineBefore _ _
+    ∙ ap (λ (o : Outcome). tried o (blank_ended next) otherwise)
+    (blank-ended _ (here w) (ap ends_line (first-seen feed w s) ∙ e))
+    ∙ sym (has.leaves flow.BlankLineAfter _ _))
+blank_line_before_steps B feed w options next false has s e =
     let otherwise : Scratch → Flags → Outcome =
     λ s g. nonblank_of options next (feed w.point) (record (here w) { scratch = s; flags = g }) in
     trial_steps B feed w _ _ _ _ (blank.may_begin w.current) (record {
@@ -306,7 +315,7 @@ leaves_steps : (B : Behaviour) (feed : Feed) (next : Rule) (state : FlowState) (
     stands flow_table_scheme w (Next (n.Flow state)) →
     Steps B feed (Next (n.Flow state)) w (flow_own_transition state w).to (flow_own_transition state w).world
 leaves_steps B feed next flow.Start w has s at = start_steps B feed w _ _ has
-leaves_steps B feed next flow.BlankLineBefore w has s at = blank_line_before_steps B feed w _ _ has s
+leaves_steps B feed next flow.BlankLineBefore w has s at = blank_line_before_steps B feed w _ _ _ has s refl
 leaves_steps B feed next flow.BeforeContent w has s at = before_content_steps B feed w _ _ has
 leaves_steps B feed next flow.BlankLineAfter w has s at = blank_line_after_steps B feed w _ _ has
 leaves_steps B feed next flow.After w has s at = after_steps B feed w _ _ has

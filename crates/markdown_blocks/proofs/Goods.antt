@@ -18,7 +18,7 @@ use Rattle.md_content.specs.Chunks.{chunk_scheme}
 use Rattle.md_leaves.specs.Blank.{blank_scheme, may_begin}
 use Rattle.md_seam.specs.Spaces.{IsRest, rest_ready}
 use Rattle.md_seam.proofs.SpacesGoods.{Does, seen-some}
-use Rattle.markdown_blocks.specs.Flow.{after_transition, before_content_transition, before_transition, blank_line_after_transition, blank_line_before_transition, containers_after_transition, existing_after_transition, existing_before_code, flow_end_code, flow_rank, flow_ready, flow_scheme, new_after_transition, new_before_transition, start_transition, trial_code}
+use Rattle.markdown_blocks.specs.Flow.{after_transition, before_content_transition, before_transition, blank_line_after_transition, blank_line_code, containers_after_transition, existing_after_transition, existing_before_code, flow_end_code, flow_rank, flow_ready, flow_scheme, new_after_transition, new_before_transition, start_transition, trial_code}
 use Rattle.markdown_blocks.specs.LineFlags as flags
 use Rattle.markdown_blocks.specs.Registry.{LeafName, first_container, front_of, goes_on_with, leaf, may_go_on, may_open, next_of, trials}
 
@@ -102,8 +102,11 @@ pub good_new_before : (T : Scheme) (w : World) → FlowFits T → ContainerFits 
     Does T (n.Document document.ContainerNewBefore) w (new_before_transition w)
 good_new_before T w has inner r =
     looked T _ _ _ _ w (may_open w.current) has.new_before has.containers_after r (omega arith) (
-      begins_later T flow_scheme inner.own (n.Document document.ContainerNewBefore) first_container w IsRest IsRest w.events w.scratch _ has.new_before inner.starts has.new_after has.containers_after refl
-          (prefix_tries (n.Document document.ContainerNewAfter) (n.Document document.ContainersAfter) w (after_all T w.frames) r (omega arith) (λ x. refl)) (λ K e. inner.ready _ K r.0.0 e) inner.level (omega arith) (omega arith),
+      begins_later T flow_scheme inner.own (n.Document document.ContainerNewBefore) first_container w IsRest IsRest
+          w.events w.scratch _ has.new_before inner.starts has.new_after has.containers_after refl
+          (prefix_tries (n.Document document.ContainerNewAfter) (n.Document document.ContainersAfter) w
+          (after_all T w.frames) r (omega arith) (λ x. refl))
+          (λ K e. inner.ready _ K r.0.0 e) inner.level (omega arith) (omega arith),
       refl,
     )
 
@@ -136,13 +139,20 @@ flow_tries ok nok w K r low_ok low_nok same_ok same_nok = record {
   nok_rank = λ s t is up. rw (same_nok (spot_at t w.point s)) (omega (arith, low_nok));
 }
 
-pub good_blank_line_before : (T : Scheme) (w : World) → FlowFits T →
+pub good_blank_line_before : (T : Scheme) (w : World) (ends : Bool) → FlowFits T →
     Fits T blank_scheme (n.BlankLine blank_line.Start) → flow_ready (spot w) (after_all T w.frames) →
-    Does T (n.Flow flow.BlankLineBefore) w (blank_line_before_transition w)
-good_blank_line_before T w has inner r =
+    Does T (n.Flow flow.BlankLineBefore) w (blank_line_code w ends (may_begin w.current))
+good_blank_line_before T w true has inner r = (
+  turns T flow_scheme _ _ w w.events w.scratch has.blank_line_before has.blank_line_after r (omega arith) (omega arith),
+  refl,
+)
+good_blank_line_before T w false has inner r =
     looked T _ _ _ _ w (may_begin w.current) has.blank_line_before has.first_leaf r (omega arith) (
-      begins_try T flow_scheme blank_scheme (n.Flow flow.BlankLineBefore) (n.BlankLine blank_line.Start) w IsRest IsRest w.events w.scratch _ has.blank_line_before inner has.blank_line_after has.first_leaf refl
-          (flow_tries (n.Flow flow.BlankLineAfter) (n.Flow (front_of trials)) w (after_all T w.frames) r (omega arith) (omega arith) (λ x. refl) (λ x. refl)) (λ K e. (r.0.0, e)) (omega arith) (omega arith) (omega arith),
+      begins_try T flow_scheme blank_scheme (n.Flow flow.BlankLineBefore) (n.BlankLine blank_line.Start) w IsRest IsRest
+          w.events w.scratch _ has.blank_line_before inner has.blank_line_after has.first_leaf refl
+          (flow_tries (n.Flow flow.BlankLineAfter) (n.Flow (front_of trials)) w
+          (after_all T w.frames) r (omega arith) (omega arith) (λ x. refl) (λ x. refl))
+          (λ K e. (r.0.0, e)) (omega arith) (omega arith) (omega arith),
       refl,
     )
 
@@ -154,8 +164,11 @@ good_before T l w has inner r =
     let a = inner.falls in
     let b = inner.next_low in
     looked T _ _ _ _ w ((leaf l).may_begin w.current) inner.front inner.next r (omega (arith, a, b)) (
-      begins_try T flow_scheme inner.own (n.Flow (leaf l).before) (leaf l).start w IsRest IsRest w.events w.scratch _ inner.front inner.starts has.behind inner.next refl
-          (flow_tries (n.Flow flow.After) (n.Flow (next_of l)) w (after_all T w.frames) r inner.behind_low inner.next_low (λ x. refl) (λ x. refl)) (λ K e. inner.ready _ K (r.0.0, e)) inner.level (omega arith) inner.falls,
+      begins_try T flow_scheme inner.own (n.Flow (leaf l).before) (leaf l).start w IsRest IsRest
+          w.events w.scratch _ inner.front inner.starts has.behind inner.next refl
+          (flow_tries (n.Flow flow.After) (n.Flow (next_of l)) w
+          (after_all T w.frames) r inner.behind_low inner.next_low (λ x. refl) (λ x. refl))
+          (λ K e. inner.ready _ K (r.0.0, e)) inner.level (omega arith) inner.falls,
       refl,
     )
 

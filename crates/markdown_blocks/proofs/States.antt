@@ -75,7 +75,7 @@ leaves_do : (state : FlowState) (w : World) → stands flow_table_scheme w (Next
     Does flow_table_scheme (n.Flow state) w (flow_own_transition state w)
 leaves_do flow.Start w at = goods.good_start flow_table_scheme w flow_fits at
 leaves_do flow.BlankLineBefore w at =
-    goods.good_blank_line_before flow_table_scheme w flow_fits (fits flow_owner (n.BlankLine blank_line.Start)) at
+    goods.good_blank_line_before flow_table_scheme w _ flow_fits (fits flow_owner (n.BlankLine blank_line.Start)) at
 leaves_do flow.BeforeContent w at =
     goods.good_before_content flow_table_scheme w flow_fits (fits flow_owner (n.Content content.ChunkStart)) at
 leaves_do flow.BlankLineAfter w at = goods.good_blank_line_after flow_table_scheme w flow_fits at

@@ -49,6 +49,10 @@ trial : (start ok nok : StateName) (w : World) (b : Bool) → Registers w →
 trial start ok nok w true h = h
 trial start ok nok w false h = h
 
+blank-before : (w : World) (ends may : Bool) → Registers w → Registers (flow.blank_line_code w ends may).world
+blank-before w true may h = h
+blank-before w false may h = trial _ _ _ w may h
+
 existing-before : (w : World) (o : Option Container) → Registers w → Registers (flow.existing_before_code w o).world
 existing-before w None h = h
 existing-before w (Some c) h = trial _ _ _ w (may_go_on c.kind w.current) h
@@ -100,7 +104,7 @@ leaf-registers (Some l) w h = trial _ _ _ w ((leaf l).may_begin w.current) h
 
 leaves-register : (state : FlowState) (w : World) → Registers w → Registers (flow.flow_own_transition state w).world
 leaves-register its.Start w h = h
-leaves-register its.BlankLineBefore w h = trial _ _ _ w (blank.may_begin w.current) h
+leaves-register its.BlankLineBefore w h = blank-before w (ends_line w.current) (blank.may_begin w.current) h
 leaves-register its.BeforeContent w h = h
 leaves-register its.BlankLineAfter w h = h
 leaves-register its.After w h = h

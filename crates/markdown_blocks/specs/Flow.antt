@@ -12,7 +12,7 @@ use Rattle.md_engine.specs.declared.tokenizer.container.Container.{Container}
 use Rattle.md_engine.specs.Scheme.{After, Rank, Scheme, Spot, ranked}
 use Rattle.md_engine.specs.World.{World, closed}
 use Rattle.md_leaves.specs.Blank as blank
-use Rattle.md_seam.specs.Spaces.{rest_ready}
+use Rattle.md_seam.specs.Spaces.{ends_line, rest_ready}
 use Rattle.md_seam.specs.Transition.{Transition, entered, exited, taken, tried}
 use Rattle.markdown_blocks.specs.LineFlags.{begun_line, blanked, ending_name, next_container, next_line, stays, went_on, with_container}
 use Rattle.markdown_blocks.specs.Registry.{LeafName, first_container, front_of, goes_on_with, leaf, may_go_on, may_open, new_kind, next_of, rank_of, trials, tried_at, tries_of}
@@ -30,10 +30,14 @@ trial_code start ok nok w false = record { to = Retry nok; world = w }
 abbrev pub start_transition : World → Transition
 start_transition w = record { to = Retry (s.Flow flow.BlankLineBefore); world = w }
 
+-- by whether the line ends here, and is blank, and by whether a blank line may begin with what stands here
+abbrev pub blank_line_code : World → Bool → Bool → Transition
+blank_line_code w true may = record { to = Retry (s.Flow flow.BlankLineAfter); world = w }
+blank_line_code w false may =
+    trial_code (s.BlankLine blank_line.Start) (s.Flow flow.BlankLineAfter) (s.Flow (front_of trials)) w may
+
 abbrev pub blank_line_before_transition : World → Transition
-blank_line_before_transition w =
-    trial_code (s.BlankLine blank_line.Start) (s.Flow flow.BlankLineAfter) (s.Flow (front_of trials)) w
-    (blank.may_begin w.current)
+blank_line_before_transition w = blank_line_code w (ends_line w.current) (blank.may_begin w.current)
 
 -- in front of a leaf
 abbrev pub before_transition : LeafName → World → Transition

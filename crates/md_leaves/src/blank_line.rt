@@ -10,6 +10,7 @@ ghost use Rattle.md_engine.specs.declared.state.Name.{Name as StateName};
 ghost use Rattle.md_engine.specs.declared.state.State.{State};
 ghost use Rattle.md_engine.specs.declared.state.blank_line.State.{State as BlankState};
 ghost use Rattle.md_leaves.specs.Blank.{after_transition, blank_transition, may_begin, start_transition};
+ghost use Rattle.md_seam.specs.Spaces.{ends_line};
 ghost use Rattle.md_seam.specs.Transition.{IsAt, NeedsNothing};
 
 use md_engine::state::blank_line::State as BlankState;
@@ -17,14 +18,18 @@ use md_engine::state::{Name as StateName, State};
 use md_engine::tokenizer::Tokenizer;
 use md_seam::space_or_tab::{is_space_or_tab, space_or_tab};
 
+/// Whether the line ends here: then what is left of it is blank.
+pub fn ends_line(current: Option<u8>) -> bool
+    ensures { result ≡ ends_line current }
+{
+    matches!(current, None | Some(b'\n'))
+}
+
 /// Whether a blank line may begin with what stands here: whitespace, or the line's end.
 pub fn may_begin(current: Option<u8>) -> bool
     ensures { result ≡ may_begin current }
 {
-    match current {
-        None | Some(b'\n') => true,
-        _ => is_space_or_tab(current),
-    }
+    is_space_or_tab(current) || ends_line(current)
 }
 
 /// Before a blank line.

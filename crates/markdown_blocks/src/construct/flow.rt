@@ -62,6 +62,9 @@ pub fn blank_line_before(tokenizer: &mut Tokenizer) -> State
     ensures to { result ≢ State.Error → result ≡ (blank_line_before_transition (world tokenizer.old)).to }
     ensures world { result ≢ State.Error → world tokenizer.new ≡ (blank_line_before_transition (world tokenizer.old)).world }
 {
+    if blank_line::ends_line(tokenizer.current) {
+        return State::Retry(StateName::Flow(FlowState::BlankLineAfter));
+    }
     if !blank_line::may_begin(tokenizer.current) {
         return State::Retry(StateName::Flow(FlowState::BeforeHeadingAtx));
     }
