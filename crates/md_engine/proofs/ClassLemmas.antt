@@ -40,7 +40,7 @@ further zero p = p
 further (suc n) p = record p { column = p.column + suc n; index = p.index + suc n; vs = 0 }
 
 -- the point behind one more
-further-next : (bytes : List ℕ) (c : Class) (n : ℕ) (p : Point) → has c (slice_index bytes (further n p).index) ≡ true →
+pub further-next : (bytes : List ℕ) (c : Class) (n : ℕ) (p : Point) → has c (slice_index bytes (further n p).index) ≡ true →
     next_point bytes (further n p) ≡ further (suc n) p
 further-next bytes c zero p h = let e = no-ending c (slice_index bytes p.index) h in rw (e.0, e.1) refl
 further-next bytes c (suc n) p h =
@@ -48,7 +48,7 @@ further-next bytes c (suc n) p h =
     let more : (m : ℕ) → m + suc n + 1 ≡ m + suc (suc n) = λ m. omega arith in
     rw (e.0, e.1, more p.column, more p.index) refl
 
-index-further : (n : ℕ) (p : Point) → (further n p).index ≡ p.index + n
+pub index-further : (n : ℕ) (p : Point) → (further n p).index ≡ p.index + n
 index-further zero p = omega arith
 index-further (suc n) p = refl
 
@@ -71,7 +71,7 @@ after-here x c n p h =
 abbrev pub AreHere : Class → ℕ → List ℕ → ℕ → Point → Type 0
 AreHere c n bytes end p = (k : ℕ) → k < n → IsOf c bytes end (further k p)
 
-fewer-here : (c : Class) (n : ℕ) (bytes : List ℕ) (end : ℕ) (p : Point) → AreHere c (suc n) bytes end p → AreHere c n bytes end p
+pub fewer-here : (c : Class) (n : ℕ) (bytes : List ℕ) (end : ℕ) (p : Point) → AreHere c (suc n) bytes end p → AreHere c n bytes end p
 fewer-here c n bytes end p h = λ k lt. h k (omega (arith, lt))
 
 along-further : (x : Setting) (c : Class) (n : ℕ) (end : ℕ) (p : Point) → AreHere c n x.bytes end p → along x n p ≡ further n p
@@ -174,31 +174,28 @@ sees-leapt c n w h none = record {
 }
 
 -- what was taken, by its number
-record Went (c : Class) (n : ℕ) (w v : World) : Type 0 where
-  here : AreHere c n w.setting.bytes w.setting.limit w.point
-  ends : ¬ IsOf c w.setting.bytes w.setting.limit (further n w.point)
-  is : v ≡ record w { point = further n w.point }
+pub record Went (c : Class) (n : ℕ) (end : ℕ) (w v : World) : Type 0 where
+  pub here : AreHere c n w.setting.bytes end w.point
+  pub ends : ¬ IsOf c w.setting.bytes end (further n w.point)
+  pub is : v ≡ record w { point = further n w.point }
 
-went : (c : Class) (w v : World) (t : TakesAll c w.setting.limit w v) → Went c t.count w v
-went c w v t = record { here = here; ends = λ yes. t.ends (subst Q (sym at) yes); is = is }
+pub went : (c : Class) (end : ℕ) (w v : World) (t : TakesAll c end w v) → Went c t.count end w v
+went c end w v t = record { here = here; ends = λ yes. t.ends (subst (IsOf c w.setting.bytes end) (sym at) yes); is = is }
   where
-    Q : Point → Type 0
-    Q = IsOf c w.setting.bytes w.setting.limit
-
-    here : AreHere c t.count w.setting.bytes w.setting.limit w.point
-    here = here-along w.setting c t.count w.setting.limit w.point t.each
+    here : AreHere c t.count w.setting.bytes end w.point
+    here = here-along w.setting c t.count end w.point t.each
 
     is : v ≡ record w { point = further t.count w.point }
-    is = t.new ∙ ap (λ (p : Point). record w { point = p }) (along-further w.setting c t.count w.setting.limit w.point here)
+    is = t.new ∙ ap (λ (p : Point). record w { point = p }) (along-further w.setting c t.count end w.point here)
 
     at : v.point ≡ further t.count w.point
     at = ap (λ (x : World). x.point) is
 
 pub sees-some : (c : Class) (w v v' : World) → TakesAll c w.setting.limit w v → w.point.index < v.point.index →
     v' ≡ record v { current = Some (slice_index v.setting.bytes (v.point.index - 1)) } → SeesAll c w v'
-sees-some c w v v' t lt e = go t.count (went c w v t)
+sees-some c w v v' t lt e = go t.count (went c w.setting.limit w v t)
   where
-    go : (n : ℕ) → Went c n w v → SeesAll c w v'
+    go : (n : ℕ) → Went c n w.setting.limit w v → SeesAll c w v'
     go zero g = let none : v.point.index ≡ w.point.index = ap (λ (x : World). x.point.index) g.is in absurd (omega (arith, none, lt))
     go (suc m) g =
         let i : w.point.index + suc m - 1 ≡ (further m w.point).index = rw (index-further m w.point) (omega arith) in
@@ -208,9 +205,9 @@ sees-some c w v v' t lt e = go t.count (went c w v t)
         subst (SeesAll c w) (sym new) (sees-leapt c (suc m) w g.here g.ends)
 
 pub sees-none : (c : Class) (w v : World) → TakesAll c w.setting.limit w v → v.point.index ≤ w.point.index → SeesAll c w v
-sees-none c w v t le = go t.count (went c w v t)
+sees-none c w v t le = go t.count (went c w.setting.limit w v t)
   where
-    go : (n : ℕ) → Went c n w v → SeesAll c w v
+    go : (n : ℕ) → Went c n w.setting.limit w v → SeesAll c w v
     go zero g = subst (SeesAll c w) (sym g.is) (sees-leapt c 0 w g.here g.ends)
     go (suc m) g = let more : v.point.index ≡ w.point.index + suc m = ap (λ (x : World). x.point.index) g.is in absurd (omega (arith, more, le))
 
