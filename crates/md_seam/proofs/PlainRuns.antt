@@ -6,7 +6,7 @@ use Rattle.md_engine.specs.declared.event.Point.{Point}
 use Rattle.md_engine.specs.Scheme.{cells_left}
 use Rattle.md_engine.specs.Staying.{TakesAll}
 use Rattle.md_engine.specs.World.{World}
-use Rattle.md_engine.proofs.ClassLemmas.{AreHere, Went, fewer-here, further, further-next, index-further, no-ending, went}
+use Rattle.md_engine.proofs.ClassLemmas.{AreHere, fewer-here, further, further-next, index-further, no-ending, went}
 use Rattle.md_seam.specs.Events.Places.{past_text}
 use Rattle.md_seam.proofs.PlainSteps.{line-step, line_left}
 
