@@ -1,5 +1,5 @@
 -- Lines of content and of paragraphs are taken as text.
-use Rattle.std.proofs.Common.{◌≡◌, ℕ, Bool, Option, Some, None, IfSome, refl, ap, ◌∙◌}
+use Rattle.std.proofs.Common.{◌≡◌, Bool, Option, Some, None, IfSome, refl, ap, ◌∙◌}
 use Rattle.md_engine.specs.declared.class.Class.{Class}
 use Rattle.md_engine.specs.declared.class.Class.TheVariants.{Text}
 use Rattle.md_engine.specs.declared.resolve.name.Name.{Name as ResolveName}
@@ -9,14 +9,13 @@ use Rattle.md_engine.specs.declared.state.content.State.TheVariants as content
 use Rattle.md_engine.specs.declared.state.paragraph.State.TheVariants as paragraph
 use Rattle.md_engine.specs.declared.state.State.TheVariants.{Next}
 use Rattle.md_engine.specs.Staying.{StaysOn}
-use Rattle.md_engine.specs.World.{World}
 use Rattle.md_content.specs.Chunks.{chunk_inside_code, chunk_transition}
 use Rattle.md_content.specs.Paragraph.{inside_code, paragraph_transition}
 use Rattle.md_content.specs.States.{ContentStep, content_scheme, content_transition}
 use Rattle.md_content.proofs.States.{content_does}
 use Rattle.md_seam.specs.Spaces.{ends_line}
 use Rattle.md_seam.specs.Stays.{TakesEach}
-use Rattle.md_seam.specs.Transition.{Transition, taken}
+use Rattle.md_seam.specs.Transition.{taken}
 use Rattle.md_seam.proofs.StaysLemmas.{in-line, stays-on}
 
 pub chunk-takes : (is_name : ResolveName → Bool) → TakesEach Text (n.Content content.ChunkInside) (chunk_transition is_name content.ChunkInside)

@@ -1,25 +1,24 @@
 -- What is taken of a class at once is what is taken byte by byte.
-use Rattle.std.proofs.Common.{◌≡◌, ℕ, zero, suc, ◌+◌, ◌<◌, ◌≤◌, Bool, true, false, not, ◌&&◌, ◌||◌, nat_eq, nat_lt, List, length, drop, ◌-◌, length-drop, Option, Some, None, refl, sym, ◌∙◌, ap, ap₂, cond, arith, inr, subst}
+use Rattle.std.proofs.Common.{◌≡◌, ℕ, zero, suc, ◌+◌, ◌<◌, ◌≤◌, Bool, true, false, nat_eq, nat_lt, List, length, drop, ◌-◌, length-drop, Option, Some, refl, sym, ◌∙◌, ap, ap₂, cond, arith, inr, subst}
 use Rattle.std.specs.Prelude.{slice_index, slice_range}
 use Rattle.std.specs.List.{All}
 use Rattle.std.proofs.lemmas.Bool.Decides.{nat_tests}
 use Rattle.std.proofs.lemmas.List.Elements.{All-weaker}
 use Rattle.std.proofs.lemmas.List.{get_or-drop, get_or-take, length-take-le}
 use Rattle.md_engine.specs.declared.class.Class.{Class}
-use Rattle.md_engine.specs.declared.class.Class.TheVariants.{Text, Word}
 use Rattle.md_engine.specs.declared.event.Point.{Point}
 use Rattle.md_engine.specs.declared.state.Name.{Name as StateName}
 use Rattle.md_engine.specs.declared.state.State.{State}
 use Rattle.md_engine.specs.declared.state.State.TheVariants.{Next}
 use Rattle.md_engine.specs.declared.tokenizer.Frame.{Frame}
 use Rattle.md_engine.specs.declared.tokenizer.Tokenizer.{Tokenizer}
-use Rattle.md_engine.specs.Classes.{IsSpan, admits, has}
+use Rattle.md_engine.specs.Classes.{IsSpan, has}
 use Rattle.md_engine.specs.Sound.{IsSaved}
 use Rattle.md_engine.specs.Staying.{IsOf, Sees, SeesAll, StaysOn, TakesAll, along, took, took_all}
-use Rattle.md_engine.specs.Place.{IsPlaced, is_ending, next_point, seen_at}
-use Rattle.md_engine.specs.Run.{Calls, Runs, Step, plain, reading}
+use Rattle.md_engine.specs.Place.{IsPlaced, is_ending, next_point}
+use Rattle.md_engine.specs.Run.{Runs, Step, plain}
 use Rattle.md_engine.specs.Run.Runs.{Stays, ThenCalls}
-use Rattle.md_engine.specs.Scheme.{Fits, Scheme, after_all, spot, stands, work}
+use Rattle.md_engine.specs.Scheme.{Fits, Scheme, stands, work}
 use Rattle.md_engine.specs.World.{Setting, World, after, line_begun, looks, looks_at, world}
 use Rattle.md_engine.proofs.Local.{consumes}
 use Rattle.md_engine.proofs.Loops.{not_error}
@@ -40,7 +39,7 @@ further zero p = p
 further (suc n) p = record p { column = p.column + suc n; index = p.index + suc n; vs = 0 }
 
 -- the point behind one more
-further-next : (bytes : List ℕ) (c : Class) (n : ℕ) (p : Point) → has c (slice_index bytes (further n p).index) ≡ true →
+pub further-next : (bytes : List ℕ) (c : Class) (n : ℕ) (p : Point) → has c (slice_index bytes (further n p).index) ≡ true →
     next_point bytes (further n p) ≡ further (suc n) p
 further-next bytes c zero p h = let e = no-ending c (slice_index bytes p.index) h in rw (e.0, e.1) refl
 further-next bytes c (suc n) p h =
@@ -48,7 +47,7 @@ further-next bytes c (suc n) p h =
     let more : (m : ℕ) → m + suc n + 1 ≡ m + suc (suc n) = λ m. omega arith in
     rw (e.0, e.1, more p.column, more p.index) refl
 
-index-further : (n : ℕ) (p : Point) → (further n p).index ≡ p.index + n
+pub index-further : (n : ℕ) (p : Point) → (further n p).index ≡ p.index + n
 index-further zero p = omega arith
 index-further (suc n) p = refl
 
@@ -71,7 +70,7 @@ after-here x c n p h =
 abbrev pub AreHere : Class → ℕ → List ℕ → ℕ → Point → Type 0
 AreHere c n bytes end p = (k : ℕ) → k < n → IsOf c bytes end (further k p)
 
-fewer-here : (c : Class) (n : ℕ) (bytes : List ℕ) (end : ℕ) (p : Point) → AreHere c (suc n) bytes end p → AreHere c n bytes end p
+pub fewer-here : (c : Class) (n : ℕ) (bytes : List ℕ) (end : ℕ) (p : Point) → AreHere c (suc n) bytes end p → AreHere c n bytes end p
 fewer-here c n bytes end p h = λ k lt. h k (omega (arith, lt))
 
 along-further : (x : Setting) (c : Class) (n : ℕ) (end : ℕ) (p : Point) → AreHere c n x.bytes end p → along x n p ≡ further n p
@@ -174,31 +173,28 @@ sees-leapt c n w h none = record {
 }
 
 -- what was taken, by its number
-record Went (c : Class) (n : ℕ) (w v : World) : Type 0 where
-  here : AreHere c n w.setting.bytes w.setting.limit w.point
-  ends : ¬ IsOf c w.setting.bytes w.setting.limit (further n w.point)
-  is : v ≡ record w { point = further n w.point }
+pub record Went (c : Class) (n : ℕ) (end : ℕ) (w v : World) : Type 0 where
+  pub here : AreHere c n w.setting.bytes end w.point
+  pub ends : ¬ IsOf c w.setting.bytes end (further n w.point)
+  pub is : v ≡ record w { point = further n w.point }
 
-went : (c : Class) (w v : World) (t : TakesAll c w.setting.limit w v) → Went c t.count w v
-went c w v t = record { here = here; ends = λ yes. t.ends (subst Q (sym at) yes); is = is }
+pub went : (c : Class) (end : ℕ) (w v : World) (t : TakesAll c end w v) → Went c t.count end w v
+went c end w v t = record { here = here; ends = λ yes. t.ends (subst (IsOf c w.setting.bytes end) (sym at) yes); is = is }
   where
-    Q : Point → Type 0
-    Q = IsOf c w.setting.bytes w.setting.limit
-
-    here : AreHere c t.count w.setting.bytes w.setting.limit w.point
-    here = here-along w.setting c t.count w.setting.limit w.point t.each
+    here : AreHere c t.count w.setting.bytes end w.point
+    here = here-along w.setting c t.count end w.point t.each
 
     is : v ≡ record w { point = further t.count w.point }
-    is = t.new ∙ ap (λ (p : Point). record w { point = p }) (along-further w.setting c t.count w.setting.limit w.point here)
+    is = t.new ∙ ap (λ (p : Point). record w { point = p }) (along-further w.setting c t.count end w.point here)
 
     at : v.point ≡ further t.count w.point
     at = ap (λ (x : World). x.point) is
 
 pub sees-some : (c : Class) (w v v' : World) → TakesAll c w.setting.limit w v → w.point.index < v.point.index →
     v' ≡ record v { current = Some (slice_index v.setting.bytes (v.point.index - 1)) } → SeesAll c w v'
-sees-some c w v v' t lt e = go t.count (went c w v t)
+sees-some c w v v' t lt e = go t.count (went c w.setting.limit w v t)
   where
-    go : (n : ℕ) → Went c n w v → SeesAll c w v'
+    go : (n : ℕ) → Went c n w.setting.limit w v → SeesAll c w v'
     go zero g = let none : v.point.index ≡ w.point.index = ap (λ (x : World). x.point.index) g.is in absurd (omega (arith, none, lt))
     go (suc m) g =
         let i : w.point.index + suc m - 1 ≡ (further m w.point).index = rw (index-further m w.point) (omega arith) in
@@ -208,9 +204,9 @@ sees-some c w v v' t lt e = go t.count (went c w v t)
         subst (SeesAll c w) (sym new) (sees-leapt c (suc m) w g.here g.ends)
 
 pub sees-none : (c : Class) (w v : World) → TakesAll c w.setting.limit w v → v.point.index ≤ w.point.index → SeesAll c w v
-sees-none c w v t le = go t.count (went c w v t)
+sees-none c w v t le = go t.count (went c w.setting.limit w v t)
   where
-    go : (n : ℕ) → Went c n w v → SeesAll c w v
+    go : (n : ℕ) → Went c n w.setting.limit w v → SeesAll c w v
     go zero g = subst (SeesAll c w) (sym g.is) (sees-leapt c 0 w g.here g.ends)
     go (suc m) g = let more : v.point.index ≡ w.point.index + suc m = ap (λ (x : World). x.point.index) g.is in absurd (omega (arith, more, le))
 

@@ -1,12 +1,11 @@
 -- States of a table that stay on a class of bytes.
-use Rattle.std.proofs.Common.{◌≡◌, ℕ, Bool, true, false, nat_eq, Some, refl, ap, sym}
+use Rattle.std.proofs.Common.{◌≡◌, ℕ, Bool, true, false, nat_eq, refl, ap, sym}
 use Rattle.md_engine.specs.declared.class.Class.{Class}
 use Rattle.md_engine.specs.declared.class.Class.TheVariants.{Word}
 use Rattle.md_engine.specs.declared.state.Name.{Name as StateName}
 use Rattle.md_engine.specs.declared.state.State.{State}
 use Rattle.md_engine.specs.declared.state.State.TheVariants.{Next}
 use Rattle.md_engine.specs.Classes.{goes_on, has}
-use Rattle.md_engine.specs.Place.{is_ending}
 use Rattle.md_engine.specs.Run.{Step, reading}
 use Rattle.md_engine.specs.Scheme.{Scheme, stands}
 use Rattle.md_engine.specs.Staying.{StaysOn, took}
@@ -14,6 +13,7 @@ use Rattle.md_engine.specs.World.{World, looks}
 use Rattle.md_engine.proofs.ClassLemmas.{no-ending}
 use Rattle.md_seam.specs.Spaces.{ends_line}
 use Rattle.md_definition.specs.Rest.{is_white}
+use Rattle.md_seam.specs.Standard.Rest.{is_white}
 use Rattle.md_seam.specs.Stays.{TakesEach}
 use Rattle.md_seam.specs.Transition.{Transition}
 use Rattle.md_seam.proofs.SpacesGoods.{Does, does-stands}

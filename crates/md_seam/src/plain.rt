@@ -9,6 +9,7 @@ ghost use Rattle.md_seam.specs.Parts.{IsChunk};
 ghost use Rattle.md_seam.specs.Events.Places.{past_text};
 
 use crate::inline::{Chunk, Inline, PartKind};
+use md_engine::class::Class;
 use md_engine::event::{Event, Name};
 use md_engine::message::Message;
 use md_engine::parse_state::ParseState;
@@ -36,6 +37,7 @@ fn read_line(tokenizer: &mut Tokenizer, end: usize) -> Result<(), Message>
         tokenizer.enter(Name::Data)?;
         while tokenizer.point.index < end && !ends_line(tokenizer.bytes[tokenizer.point.index]) {
             tokenizer.consume();
+            tokenizer.consume_all(Class::Text, end);
         }
         tokenizer.exit(Name::Data)?;
     }

@@ -1,10 +1,7 @@
-use Rattle.std.proofs.Common.{◌≡◌, sym, subst, arith, refl, ap}
-use Rattle.md_engine.specs.declared.state.State.{State}
+use Rattle.std.proofs.Common.{◌≡◌, arith, refl}
 use Rattle.md_engine.specs.declared.state.State.TheVariants.{Next}
-use Rattle.md_engine.specs.Run.{plain}
 use Rattle.md_engine.specs.Run.Runs.{Stays}
-use Rattle.md_engine.specs.Scheme.{stands, work}
-use Rattle.md_engine.specs.World.{World, world}
+use Rattle.md_engine.specs.World.{world}
 use Rattle.md_engine.proofs.ClassLemmas.{stayed-by, within-world}
 use Rattle.md_engine.proofs.table.stay.Goals as goal
 

@@ -1,8 +1,6 @@
-use Rattle.std.proofs.Common.{◌≡◌, ◌<◌, ◌≤◌, ℕ, zero, arith, subst, sym, length}
-use Rattle.md_engine.specs.Classes.{IsSpan}
-use Rattle.md_engine.specs.Staying.{TakesAll}
+use Rattle.std.proofs.Common.{◌≡◌, ◌<◌, ◌≤◌, arith}
 use Rattle.md_engine.specs.World.{World, world}
-use Rattle.md_engine.proofs.ClassLemmas.{behind, none-taken, placed-behind, span-here, span-taken}
+use Rattle.md_engine.proofs.ClassLemmas.{none-taken, placed-behind, span-here, span-taken}
 use Rattle.md_engine.proofs.Sound.{sound-moved}
 use Rattle.md_engine.proofs.tokenizer.Tokenizer.consume_all.Goals as goal
 

@@ -17,4 +17,4 @@ returns-in-Content c =
 
 pub returns-in-HeadingAtx : goal.returns-in-HeadingAtx
 returns-in-HeadingAtx c =
-    rw c.in-HeadingAtx.is (flow-stays is_name (n.HeadingAtx c.in-HeadingAtx.state) c.stays.result (IfSome_then c.stays.result c.stays.ensures (λ k h. h (is_name r.HeadingAtx))))
+    rw c.in-HeadingAtx.is (flow-stays is_name (n.HeadingAtx c.in-HeadingAtx.state) c.stays-in-HeadingAtx.result (IfSome_then c.stays-in-HeadingAtx.result c.stays-in-HeadingAtx.ensures (λ k h. h (is_name r.HeadingAtx))))
