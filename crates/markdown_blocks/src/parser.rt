@@ -66,7 +66,7 @@ impl<I: Inline> Reader for TextReader<'_, '_, I> {
         alloc: Global,
         content: Content,
         chunks: &[Chunk],
-        _room: Vec<Event>,
+        _spare: Vec<Event>,
     ) -> Result<Vec<Event>, Message> {
         self.inline
             .read(alloc, kind_of(content), chunks, self.state)
@@ -156,8 +156,8 @@ pub fn parse<'a>(
         inline: &Plain,
         state: &state,
     };
-    let room = tokenizer.take_room();
-    let body = subtokenize(alloc, &reader, &tokenizer.events, room)?;
+    let spare = tokenizer.take_spare();
+    let body = subtokenize(alloc, &reader, &tokenizer.events, spare)?;
     let events = behind_mark(front.events, body)?;
     Ok((events, state))
 }

@@ -31,16 +31,24 @@ joined-at events at last d d' lt is =
     together e e' f f' l l' p q r = rw (p, q, r) refl
 
 -- one more event is joined, in its place: so many are kept in front
-pub joined-kept : (events first : List Event) (kept at last : ℕ) (e f : Event) → kept ≤ at → at < length events → last ≡ at + joined_with (drop at events) →
+pub joined-kept : (events first : List Event) (kept at last : ℕ) (e f : Event) → kept ≤ at → at < length events →
+    last ≡ at + joined_with (drop at events) →
     e ≡ get_or events at e → f ≡ get_or events last f → take kept events ++ joined (drop at events) ≡ joined first →
     let new : List Event = set events kept (record e { point = f.point }) in
     take (kept + 1) new ++ joined (drop (last + 1) new) ≡ joined first
 joined-kept events first kept at last e f behind lt is here there so_far =
     let now : Event = record e { point = f.point } in
-    let front : take (kept + 1) (set events kept now) ≡ take kept events ++ now ∷ [] = take_more_set events kept now (omega arith) in
-    let back : drop (last + 1) (set events kept now) ≡ drop (last + 1) events = drop-set-lt (last + 1) events kept now (omega arith) in
-    let more : joined (drop at events) ≡ now ∷ joined (drop (last + 1) events) = joined-at events at last e f lt is ∙ both (get_or events at e) e (get_or events last f) f (sym here) (sym there) in
-    rw (front, back) (append_assoc (take kept events) (now ∷ []) (joined (drop (last + 1) events)) ∙ ap (λ (l : List Event). take kept events ++ l) (sym more) ∙ so_far)
+    let front : take (kept + 1) (set events kept now) ≡
+    take kept events ++ now ∷ [] = take_more_set events kept now (omega arith) in
+    let back : drop (last + 1) (set events kept now) ≡
+    drop (last + 1) events = drop-set-lt (last + 1) events kept now (omega arith) in
+    let more : joined (drop at events) ≡ now ∷ joined (drop (last + 1) events) = joined-at events at last e f lt is
+    ∙ both (get_or events at e) e (get_or events last f) f (sym here) (sym there) in
+    rw (front, back)
+    (append_assoc (take kept events) (now ∷ []) (joined (drop (last + 1) events))
+    ∙ ap (λ (l : List Event). take kept events ++ l) (sym more) ∙ so_far)
   where
-    both : (a b c d : Event) → a ≡ b → c ≡ d → ◌≡◌ {A = List Event} (record a { point = c.point } ∷ joined (drop (last + 1) events)) (record b { point = d.point } ∷ joined (drop (last + 1) events))
+    both : (a b c d : Event) → a ≡ b → c ≡ d →
+        ◌≡◌ {A = List Event} (record a { point = c.point } ∷ joined (drop (last + 1) events))
+        (record b { point = d.point } ∷ joined (drop (last + 1) events))
     both a b c d p q = rw (p, q) refl

@@ -181,9 +181,9 @@ impl Reader for ContentReader<'_> {
         alloc: Global,
         _content: Content,
         chunks: &[Chunk],
-        room: Vec<Event>,
+        spare: Vec<Event>,
     ) -> Result<Vec<Event>, Message> {
-        self.read_part(alloc, chunks, room)
+        self.read_part(alloc, chunks, spare)
     }
 }
 
@@ -193,15 +193,15 @@ impl ContentReader<'_> {
         &self,
         alloc: Global,
         chunks: &[Chunk],
-        mut room: Vec<Event>,
+        mut spare: Vec<Event>,
     ) -> Result<Vec<Event>, Message>
         requires { AreChunks self.now.bytes.now chunks.now }
         ensures placed { IfOk result (λ events. ArePlaced self.now.bytes.now events.items) }
         ensures events { IfOk result (λ events. events.items ≡ content_events self.now.bytes.now self.now.options.now chunks.now) }
     {
         let mut tokenizer = Tokenizer::new(alloc, chunks[0].first, self.bytes, self.options);
-        room.clear();
-        tokenizer.set_events(room, Vec::new(alloc));
+        spare.clear();
+        tokenizer.set_events(spare, Vec::new(alloc));
         for chunk in chunks {
             tokenizer.define_skip(chunk.first)?;
         }
@@ -334,8 +334,8 @@ pub fn resolve(tokenizer: &mut Tokenizer) -> Result<Option<Subresult>, Message>
     };
     let mut events = tokenizer.take_events();
     join(&mut events);
-    let room = tokenizer.take_room();
-    let read = subtokenize(alloc, &reader, &events, room)?;
+    let spare = tokenizer.take_spare();
+    let read = subtokenize(alloc, &reader, &events, spare)?;
     let done = is_done(&read);
     tokenizer.set_events(read, events);
     Ok(Some(Subresult {

@@ -41,8 +41,8 @@ pub enum Content {
 
 /// What a part that is read later is linked by.
 ///
-/// Parts are read as one where nothing but container prefixes stands between them. So a link says only what whoever adds the
-/// part knows of its neighbours, and not where they stand.
+/// Parts are read as one where nothing but container prefixes stands between them. So a link says only what whoever
+/// adds the part knows of its neighbours, and not where they stand.
 #[derive(Clone, Copy, Debug, PartialEq, Eq)]
 pub struct Link {
     /// Whether a part before this one is known to be read as one with it.
@@ -54,7 +54,8 @@ pub struct Link {
 
 /// The begin or the end of a part.
 ///
-/// Fields lie in memory in the order in which they stand here. The small ones stand together, so that little room is lost between.
+/// Fields lie in memory in the order in which they stand here. The small ones stand together, so that little room is
+/// lost between.
 #[derive(Clone, Copy, Debug, PartialEq, Eq)]
 pub struct Event {
     pub kind: Kind,

@@ -33,7 +33,8 @@ step-from all (Within first after last closing since) e es = go (ends is_data e)
     go false false false k l m = rw (k, l, m) refl
 
 -- one event more: it is the first of those that are left
-pub walk-next : (w new : Walked) (given left rest after all : List Event) (e : Event) → given ≡ w.given → left ≡ e ∷ rest →
+pub walk-next : (w new : Walked) (given left rest after all : List Event) (e : Event) → given ≡ w.given →
+    left ≡ e ∷ rest →
     new ≡ stepped (record w { given = given }) e → after ≡ rest → in_all w left ≡ all → in_all new after ≡ all
 walk-next w new given left rest after all e same front is kept so_far =
     rw (kept, is, same) (step-from w.given w.place e rest ∙ ap (in_all w) (sym front) ∙ so_far)
@@ -49,7 +50,8 @@ walk-ends w all is = go w.place refl
     go (Within first after last closing since) e = let same : in_all w [] ≡ w.given ++ text_between first after ++ closing ++ since = rw e (simp append_assoc) in rw e (sym same ∙ is)
 
 -- none are left
-pub walk-done : (w : Walked) (given left all : List Event) → given ≡ w.given → left ≡ [] → in_all w left ≡ all → finished (record w { given = given }) ≡ all
+pub walk-done : (w : Walked) (given left all : List Event) → given ≡ w.given → left ≡ [] → in_all w left ≡ all →
+    finished (record w { given = given }) ≡ all
 walk-done w given left all same none so_far = rw same (walk-ends w all (ap (in_all w) (sym none) ∙ so_far))
 
 -- Events that stand at places of the text still do.

@@ -240,8 +240,8 @@ pub fn resolve(tokenizer: &mut Tokenizer) -> Result<Option<Subresult>, Message>
     ensures found { IfOk result (λ found. option_map found_in found ≡ None) }
 {
     let events = tokenizer.take_events();
-    let room = tokenizer.take_room();
-    let (with_texts, room) = put_texts(tokenizer.alloc, events, room)?;
-    tokenizer.set_events(with_texts, room);
+    let spare = tokenizer.take_spare();
+    let (with_texts, spare) = put_texts(tokenizer.alloc, events, spare)?;
+    tokenizer.set_events(with_texts, spare);
     Ok(None)
 }

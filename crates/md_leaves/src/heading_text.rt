@@ -234,20 +234,20 @@ impl Walk {
     }
 }
 
-/// The events with the text of each heading set: from the run behind its opening sequence to the last that does not close it. They
-/// stand in the list of the events, which takes as much memory as it needs. What finds no place there is put into `room` first, which
-/// is handed back.
+/// The events with the text of each heading set: from the run behind its opening sequence to the last that does not
+/// close it. They stand in the list of the events, which keeps no more memory than they need. What finds no place there
+/// is put into `spare` first, which is handed back empty.
 pub fn put_texts(
     alloc: Global,
     events: Vec<Event>,
-    room: Vec<Event>,
+    spare: Vec<Event>,
 ) -> Result<(Vec<Event>, Vec<Event>), Message>
-    requires { room.items ≡ [] }
+    requires { spare.items ≡ [] }
     ensures events { IfOk result (λ lists. lists.0.items ≡ headings_resolved events.items) }
     ensures placed { IfOk result (λ lists. (bytes : List ℕ) → ArePlaced bytes events.items → ArePlaced bytes lists.0.items) }
 {
     let mut walk = Walk {
-        all: Rewriting::new(events, room),
+        all: Rewriting::new(events, spare),
         stage: Stage::Outside,
         closing: Vec::new(alloc),
         since: Vec::new(alloc),
@@ -255,7 +255,7 @@ pub fn put_texts(
     while let Some(event) = walk.all.next() {
         walk.step(event)?;
     }
-    let (mut all, room) = walk.finish()?;
+    let (mut all, spare) = walk.finish()?;
     all.shrink_to_fit();
-    Ok((all, room))
+    Ok((all, spare))
 }

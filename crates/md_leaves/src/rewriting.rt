@@ -26,8 +26,8 @@ pub(crate) fn append(events: &mut Vec<Event>, more: &mut Vec<Event>) -> Result<(
     Ok(())
 }
 
-/// A list that is read from its front on, and written again in the places that are read. What finds no place there, since more is
-/// written than was read, stands behind it in a list of its own.
+/// A list that is read from its front on, and written again in the places that are read. What finds no place there,
+/// since more is written than was read, stands behind it in a list of its own.
 #[derive(Drop)]
 pub(crate) struct Rewriting {
     events: Vec<Event>,

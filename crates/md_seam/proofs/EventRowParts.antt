@@ -26,7 +26,14 @@ within_tab line column index vs = record { line = line; column = column; index =
 
 -- a chunk that is not read yet
 abbrev pub chunk : Point → Point → List Event
-chunk p q = (record { kind = Enter; name = n.Data; point = p; link = Some (record { previous = false; next = false; content = c.Text }) }) ∷ exit n.Data q ∷ []
+chunk p q =
+    (record {
+      kind = Enter;
+      name = n.Data;
+      point = p;
+      link = Some (record { previous = false; next = false; content = c.Text });
+    })
+    ∷ exit n.Data q ∷ []
 
 -- a line of code
 abbrev pub line : ℕ → List ℕ → t.Line

@@ -149,17 +149,21 @@ leads-stay wants reads events left all new chunks at d h stays is leads =
     last (inr small) = inr (drop_all (at + 1) events small)
 
 -- events that stay, up to the next chunk
-leads-events : (wants : Content → Bool) (reads : Readings) (events left rest all : List Event) (chunks : ℕ) → Leads wants reads events left chunks rest all →
+leads-events : (wants : Content → Bool) (reads : Readings) (events left rest all : List Event) (chunks : ℕ) →
+    Leads wants reads events left chunks rest all →
     let run = prefix_len (stays wants) rest in
     Leads wants reads events left chunks (drop run rest) (all ++ take run rest)
-leads-events wants reads events left [] all chunks leads = subst (Leads wants reads events left chunks []) (sym (append-nil all)) leads
-leads-events wants reads events left (e ∷ es) all chunks leads = go (wanted wants e) refl (λ on. leads-events wants reads events left es (all ++ e ∷ []) chunks on)
+leads-events wants reads events left [] all chunks leads =
+    subst (Leads wants reads events left chunks []) (sym (append-nil all)) leads
+leads-events wants reads events left (e ∷ es) all chunks leads =
+    go (wanted wants e) refl (λ on. leads-events wants reads events left es (all ++ e ∷ []) chunks on)
   where
     run : ℕ
     run = prefix_len (stays wants) es
 
     go : (x : Option Content) → wanted wants e ≡ x →
-        (Leads wants reads events left chunks es (all ++ e ∷ []) → Leads wants reads events left chunks (drop run es) ((all ++ e ∷ []) ++ take run es)) →
+        (Leads wants reads events left chunks es (all ++ e ∷ []) →
+        Leads wants reads events left chunks (drop run es) ((all ++ e ∷ []) ++ take run es)) →
         let many = prefix_len (stays wants) (e ∷ es) in
         Leads wants reads events left chunks (drop many (e ∷ es)) (all ++ take many (e ∷ es))
     go None k behind =
@@ -167,23 +171,34 @@ leads-events wants reads events left (e ∷ es) all chunks leads = go (wanted wa
         rw (k, more)
         (subst (Leads wants reads events left chunks (drop run es)) (append_assoc all (e ∷ []) (take run es))
         (behind (leads-event wants reads events left es all chunks e (inl k) leads)))
-    go (Some wanted) k behind = rw k (subst (Leads wants reads events left chunks (e ∷ es)) (sym (append-nil all)) leads)
+    go (Some wanted) k behind =
+        rw k (subst (Leads wants reads events left chunks (e ∷ es)) (sym (append-nil all)) leads)
 
 -- an event that stays, as no chunk begins there, and those behind it up to the next chunk
-pub leads-stays : (wants : Content → Bool) (reads : Readings) (events left all new : List Event) (chunks at many : ℕ) (d : Event) → at < length events → (wanted wants (get_or events at d) ≡ None) ⊎ (length events ≤ at + 1) →
+pub leads-stays : (wants : Content → Bool) (reads : Readings) (events left all new : List Event) (chunks at many : ℕ)
+    (d : Event) →
+    at < length events → (wanted wants (get_or events at d) ≡ None) ⊎ (length events ≤ at + 1) →
     many ≡ 1 + prefix_len (stays wants) (drop (at + 1) events) → new ≡ all ++ take many (drop at events) →
-    Leads wants reads events left chunks (drop at events) all → Leads wants reads events left chunks (drop (at + many) events) new
+    Leads wants reads events left chunks (drop at events) all →
+    Leads wants reads events left chunks (drop (at + many) events) new
 leads-stays wants reads events left all new chunks at many d h stay count is leads =
     let e : Event = get_or events at d in
     let es : List Event = drop (at + 1) events in
     let run : ℕ = prefix_len (stays wants) es in
-    let first : Leads wants reads events left chunks es (all ++ e ∷ []) = leads-stay wants reads events left all (all ++ e ∷ []) chunks at d h stay refl leads in
-    let more : Leads wants reads events left chunks (drop run es) ((all ++ e ∷ []) ++ take run es) = leads-events wants reads events left es (all ++ e ∷ []) chunks first in
-    let behind : drop run es ≡ drop (at + many) events = drop-drop run (at + 1) events ∙ ap (λ (k : ℕ). drop k events) (omega arith) in
+    let first : Leads wants reads events left chunks es (all ++ e ∷ []) = leads-stay wants reads events left all
+    (all ++ e ∷ []) chunks at d h stay refl leads in
+    let more : Leads wants reads events left chunks (drop run es)
+    ((all ++ e ∷ []) ++ take run es) = leads-events wants reads events left es (all ++ e ∷ []) chunks first in
+    let behind : drop run es ≡ drop (at + many) events = drop-drop run (at + 1) events
+    ∙ ap (λ (k : ℕ). drop k events) (omega arith) in
     let one : many ≡ suc run = omega arith in
     let whole : (all ++ e ∷ []) ++ take run es ≡ new =
-    append_assoc all (e ∷ []) (take run es) ∙ sym (is ∙ ap (λ (l : List Event). all ++ take many l) (drop_more events at d h) ∙ ap (λ (k : ℕ). all ++ take k (e ∷ es)) one) in
-    subst (λ (l : List Event). Leads wants reads events left chunks l new) behind (subst (Leads wants reads events left chunks (drop run es)) whole more)
+    append_assoc all (e ∷ []) (take run es)
+    ∙ sym
+    (is ∙ ap (λ (l : List Event). all ++ take many l) (drop_more events at d h)
+    ∙ ap (λ (k : ℕ). all ++ take k (e ∷ es)) one) in
+    subst (λ (l : List Event). Leads wants reads events left chunks l new) behind
+    (subst (Leads wants reads events left chunks (drop run es)) whole more)
 
 -- a chunk begins
 pub leads-part : (wants : Content → Bool) (reads : Readings) (events rest left now left_behind all new : List Event) (chunks many chunks_left at : ℕ) (d : Event) (content : Content) → at + 1 < length events → rest ≡ drop at events → Some content ≡ wanted wants (get_or events at d) →

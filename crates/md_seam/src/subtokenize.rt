@@ -30,13 +30,14 @@ pub trait Reader {
     fn reads(&self, content: Content) -> bool
         ensures { result ≡ wants self.now content };
 
-    /// The events of a part that stands in these chunks, which may be written into `room`; what stands there means nothing.
+    /// The events of a part that stands in these chunks, which may be written into `spare`; what stands there means
+    /// nothing.
     fn read(
         &self,
         alloc: Global,
         content: Content,
         chunks: &[Chunk],
-        room: Vec<Event>,
+        spare: Vec<Event>,
     ) -> Result<Vec<Event>, Message>
         requires { AreChunks (text self.now) chunks.now }
         ensures placed { IfOk result (λ events. ArePlaced (text self.now) events.items) }
@@ -50,8 +51,8 @@ struct Found {
     placed: usize,
     /// How many chunks of the part are left.
     chunks: usize,
-    /// Room for the chunks of a part.
-    room: Vec<Chunk>,
+    /// A list for the chunks of a part.
+    spare: Vec<Chunk>,
     ghost within: { placed ≤ length events.items },
 }
 
@@ -151,7 +152,7 @@ impl Found {
             events: Vec::new(alloc),
             placed: 0,
             chunks: 0,
-            room: Vec::new(alloc),
+            spare: Vec::new(alloc),
         }
     }
 
@@ -175,7 +176,7 @@ impl Found {
         }
         let Found {
             events: old,
-            room: mut chunks,
+            spare: mut chunks,
             ..
         } = self;
         list_chunks(&mut chunks, reader, events)?;
@@ -183,7 +184,7 @@ impl Found {
             events: reader.read(alloc, content, &chunks, old)?,
             placed: 0,
             chunks: chunks.len(),
-            room: chunks,
+            spare: chunks,
         })
     }
 
@@ -212,19 +213,19 @@ impl Found {
     }
 }
 
-/// The events with what `reader` finds in the places of the parts that it reads, written into `room`.
+/// The events with what `reader` finds in the places of the parts that it reads, written into `spare`.
 pub fn subtokenize<R: Reader>(
     alloc: Global,
     reader: &R,
     events: &[Event],
-    room: Vec<Event>,
+    spare: Vec<Event>,
 ) -> Result<Vec<Event>, Message>
     requires placed { ArePlaced (R.text reader.now) events.now }
-    requires empty { room.items ≡ [] }
+    requires empty { spare.items ≡ [] }
     ensures placed { IfOk result (λ all. ArePlaced (R.text reader.now) all.items) }
     ensures substituted { IfOk result (λ all. Substituted (R.wants reader.now) (R.reads_as reader.now) [] 0 events.now all.items) }
 {
-    let mut all = room;
+    let mut all = spare;
     let mut found = Found::nothing(alloc);
     let mut at = 0;
     while at < events.len() {

@@ -31,7 +31,7 @@ read_flow-requires-clause-placed c =
 
 pub subtokenize-requires-clause-placed : goal.subtokenize-requires-clause-placed
 subtokenize-requires-clause-placed c =
-    let events_are = c.deref.ensures.value ∙ ap (λ (w : World). w.events) c.take_room-room.ensures.same in
+    let events_are = c.deref.ensures.value ∙ ap (λ (w : World). w.events) c.take_spare-spare.ensures.same in
     let same : c.in_ok-tokenizer.tokenizer.bytes.now ≡ c.as_bytes-bytes.result.now = ap (λ (x : Setting). x.bytes) c.in_ok-tokenizer.ensures.setting in
     rw events_are (rw same at c.in_ok-tokenizer.tokenizer.sound.right)
 
@@ -39,7 +39,7 @@ pub returns : goal.returns
 returns c =
     let bytes = c.as_bytes-bytes.result.now in
     let body = c.in_ok-body.body.items in
-    let events_are = c.deref.ensures.value ∙ ap (λ (w : World). w.events) c.take_room-room.ensures.same in
+    let events_are = c.deref.ensures.value ∙ ap (λ (w : World). w.events) c.take_spare-spare.ensures.same in
     let none = reads-labels _ _ _ _ _ c.in_ok-tokenizer.ensures in
     let read : Reads c.args.options.now c.args.value.now (c.in_ok-front.front.events.items ++ c.deref.result.now) c.in_ok-events.events.items =
     parsed-reads c.args.options.now bytes c.args.value.now c.in_ok-front.front.point _ _ c.in_ok-front.front.events.items c.deref.result.now body c.in_ok-events.events.items
@@ -48,7 +48,8 @@ returns c =
     events_are c.in_ok-body.ensures.substituted c.in_ok-events.ensures in
     let of_mark : ArePlaced bytes c.in_ok-front.front.events.items = rw c.in_ok-front.ensures.bytes_are at c.in_ok-front.front.sound.right in
     let same : c.in_ok-tokenizer.tokenizer.bytes.now ≡ bytes = ap (λ (x : Setting). x.bytes) c.in_ok-tokenizer.ensures.setting in
-    let of_flow : ArePlaced bytes c.deref.result.now = rw events_are (rw same at c.in_ok-tokenizer.tokenizer.sound.right) in
+    let of_flow : ArePlaced bytes c.deref.result.now = rw events_are
+    (rw same at c.in_ok-tokenizer.tokenizer.sound.right) in
     let before : ArePlaced bytes (c.in_ok-front.front.events.items ++ c.deref.result.now) = All-append (λ (e : Event). IsPlaced bytes e.point) c.in_ok-front.front.events.items c.deref.result.now of_mark of_flow in
     let placed : ArePlaced bytes c.in_ok-events.events.items =
     rw c.in_ok-events.ensures (All-append (λ (e : Event). IsPlaced bytes e.point) c.in_ok-front.front.events.items body of_mark c.in_ok-body.ensures.placed) in

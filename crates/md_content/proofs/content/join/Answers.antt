@@ -11,9 +11,19 @@ loop-at-preserved c = record {
   within = simp length-set (omega (arith, c.joined_to-last.ensures.within, c.deref.ensures.len));
   placed = λ bytes h.
       let now = c.loop-at.invariant.placed bytes h in
-      All-set (λ (e : Event). IsPlaced bytes e.point) c.loop-at.events.items c.loop-at.kept _ (rw c.index.ensures (now c.joined_to-last.result c.index.result.now (omega (arith, c.joined_to-last.ensures.within, c.deref.ensures.len)))) now;
-  joined = joined-kept _ c.args.events.now.items _ _ _ c.index-in-loop-at.result.now c.index.result.now c.loop-at.invariant.behind (omega arith) (rw c.deref.ensures.value at c.joined_to-last.ensures.value) c.index-in-loop-at.ensures c.index.ensures c.loop-at.invariant.joined;
+      All-set (λ (e : Event). IsPlaced bytes e.point) c.loop-at.events.items c.loop-at.kept _
+      (rw c.index.ensures
+      (now c.joined_to-last.result c.index.result.now
+      (omega (arith, c.joined_to-last.ensures.within, c.deref.ensures.len)))) now;
+  joined =
+      joined-kept _ c.args.events.now.items _ _ _ c.index-in-loop-at.result.now c.index.result.now
+      c.loop-at.invariant.behind
+      (omega arith)
+      (rw c.deref.ensures.value at c.joined_to-last.ensures.value) c.index-in-loop-at.ensures c.index.ensures c.loop-at.invariant.joined;
 }
 
 pub returns-clause-placed : goal.returns-clause-placed
-returns-clause-placed c = λ bytes h. rw c.truncate.ensures.items (All-take (λ (e : Event). IsPlaced bytes e.point) c.loop-at.kept c.loop-at.events.items (c.loop-at.invariant.placed bytes h))
+returns-clause-placed c =
+    λ bytes h. rw c.truncate.ensures.items
+    (All-take (λ (e : Event). IsPlaced bytes e.point) c.loop-at.kept c.loop-at.events.items
+    (c.loop-at.invariant.placed bytes h))

@@ -3,8 +3,12 @@ use Rattle.md_engine.specs.World.{World}
 use Rattle.md_content.proofs.content.resolve.Goals as goal
 
 pub subtokenize-requires-clause-placed : goal.subtokenize-requires-clause-placed
-subtokenize-requires-clause-placed c = rw c.deref.ensures.value (c.join.ensures.placed c.args.tokenizer.now.bytes.now c.take_events-events.ensures.placed)
+subtokenize-requires-clause-placed c =
+    rw c.deref.ensures.value (c.join.ensures.placed c.args.tokenizer.now.bytes.now c.take_events-events.ensures.placed)
 
 pub set_events-requires-clause-placed : goal.set_events-requires-clause-placed
 set_events-requires-clause-placed c =
-    rw (ap (λ (w : World). w.setting.bytes) c.take_room-room.ensures.same, ap (λ (w : World). w.setting.bytes) c.take_events-events.ensures.rest) c.in_ok-read.ensures.placed
+    rw (
+      ap (λ (w : World). w.setting.bytes) c.take_spare-spare.ensures.same,
+      ap (λ (w : World). w.setting.bytes) c.take_events-events.ensures.rest,
+    ) c.in_ok-read.ensures.placed

@@ -4,5 +4,8 @@ use Rattle.md_leaves.proofs.heading_atx.resolve.Goals as goal
 
 pub set_events-requires-clause-placed : goal.set_events-requires-clause-placed
 set_events-requires-clause-placed c =
-    rw (ap (λ (w : World). w.setting.bytes) c.take_room-room.ensures.same, ap (λ (w : World). w.setting.bytes) c.take_events-events.ensures.rest)
+    rw (
+      ap (λ (w : World). w.setting.bytes) c.take_spare-spare.ensures.same,
+      ap (λ (w : World). w.setting.bytes) c.take_events-events.ensures.rest,
+    )
     (c.in_ok-with_texts.ensures.placed _ c.take_events-events.ensures.placed)

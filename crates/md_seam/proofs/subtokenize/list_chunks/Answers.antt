@@ -9,7 +9,12 @@ use Rattle.md_seam.proofs.subtokenize.list_chunks.Goals as goal
 
 -- what indexing gives past the end of a list
 abbrev unset : Event
-unset = record { kind = Enter; name = Frontmatter; point = record { line = 0; column = 0; index = 0; vs = 0 }; link = None }
+unset = record {
+  kind = Enter;
+  name = Frontmatter;
+  point = record { line = 0; column = 0; index = 0; vs = 0 };
+  link = None;
+}
 
 pub returns-after-loop-at : goal.returns-after-loop-at
 returns-after-loop-at g c =
@@ -18,5 +23,6 @@ returns-after-loop-at g c =
 
 pub returns-else-is_prefix : goal.returns-else-is_prefix
 returns-else-is_prefix g c =
-    let none = chunks-stop (g.R.Reader.wants c.args.reader.now) c.args.events.now c.loop-at.at unset (omega arith) (cc) (cc) in
+    let none = chunks-stop (g.R.Reader.wants c.args.reader.now) c.args.events.now c.loop-at.at unset (omega arith) (cc)
+    (cc) in
     sym (append-nil c.loop-at.chunks.items) ∙ (rw none at c.loop-at.invariant.chunks)

@@ -22,7 +22,9 @@ pub loop-at-init : goal.loop-at-init
 loop-at-init g c = record {
   all = rw c.requires.empty (All-nil (λ (e : Event). IsPlaced (g.R.Reader.text c.args.reader.now) e.point));
   found = rw c.nothing-found.ensures.events (All-nil (λ (e : Event). IsPlaced (g.R.Reader.text c.args.reader.now) e.point));
-  substituted = leads-first (g.R.Reader.wants c.args.reader.now) (g.R.Reader.reads_as c.args.reader.now) c.args.events.now _ _ _ _ c.nothing-found.ensures.events c.nothing-found.ensures.placed c.nothing-found.ensures.chunks c.requires.empty;
+  substituted =
+      leads-first (g.R.Reader.wants c.args.reader.now)
+      (g.R.Reader.reads_as c.args.reader.now) c.args.events.now _ _ _ _ c.nothing-found.ensures.events c.nothing-found.ensures.placed c.nothing-found.ensures.chunks c.requires.empty;
 }
 
 pub loop-at-preserved-then-at-events : goal.loop-at-preserved-then-at-events
@@ -42,15 +44,23 @@ loop-at-preserved g c =
     let at = c.loop-at.at in
     let k : is_ok c.extend_from_slice.result ≡ true = c.if-is_err.ensures.negation in
     let added = rw k at c.extend_from_slice.ensures.items in
-    let is : c.extend_from_slice.new.self.items ≡ c.loop-at.all.items ++ take (1 + c.staying-many.result) (drop at events) = rw (take_rest events at) at added in
-    let count : 1 + c.staying-many.result ≡ 1 + prefix_len (stays wants) (drop (at + 1) events) = ap (λ (n : ℕ). 1 + n) (c.staying-many.ensures.value ∙ ap (prefix_len (stays wants)) (take_rest events (at + 1))) in
-    let leads = leads-stays wants (g.R.Reader.reads_as c.args.reader.now) events (drop c.loop-at.found.placed c.loop-at.found.events.items) c.loop-at.all.items c.extend_from_slice.new.self.items c.loop-at.found.chunks at (1 + c.staying-many.result) unset c.loop-at-test.true in
+    let is : c.extend_from_slice.new.self.items ≡
+    c.loop-at.all.items ++ take (1 + c.staying-many.result) (drop at events) = rw (take_rest events at) at added in
+    let count : 1 + c.staying-many.result ≡
+    1
+    + prefix_len (stays wants) (drop (at + 1) events) = ap (λ (n : ℕ). 1 + n)
+    (c.staying-many.ensures.value ∙ ap (prefix_len (stays wants)) (take_rest events (at + 1))) in
+    let leads = leads-stays wants (g.R.Reader.reads_as c.args.reader.now) events
+    (drop c.loop-at.found.placed c.loop-at.found.events.items) c.loop-at.all.items c.extend_from_slice.new.self.items c.loop-at.found.chunks at
+    (1 + c.staying-many.result) unset c.loop-at-test.true in
     record {
       all = placed-place (g.R.Reader.text c.args.reader.now) _ _ _ _ _ is c.loop-at.invariant.all c.requires.placed;
       found = c.loop-at.invariant.found;
       substituted = elim c.in_default.branch [
-        | in_default-via-in-Some+else-at-events w ↦ leads (inr w.if-at-events.false) count is c.loop-at.invariant.substituted
-        | in_default-via-in_default w ↦ leads (inl (sym c.chunk_content.ensures ∙ w.in_default.is)) count is c.loop-at.invariant.substituted
+        | in_default-via-in-Some+else-at-events w ↦ leads
+            (inr w.if-at-events.false) count is c.loop-at.invariant.substituted
+        | in_default-via-in_default w ↦ leads
+            (inl (sym c.chunk_content.ensures ∙ w.in_default.is)) count is c.loop-at.invariant.substituted
       ];
     }
 

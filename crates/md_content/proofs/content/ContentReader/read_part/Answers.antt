@@ -13,7 +13,8 @@ new-tokenizer-requires c = (c.requires.each 0 _ c.requires.some).first
 
 pub loop-chunk-init : goal.loop-chunk-init
 loop-chunk-init c =
-    let v : world c.new-tokenizer.result ≡ fresh c.args.self.now.bytes.now c.args.self.now.options.now (first_of c.args.chunks.now) =
+    let v : world c.new-tokenizer.result ≡
+    fresh c.args.self.now.bytes.now c.args.self.now.options.now (first_of c.args.chunks.now) =
     c.new-tokenizer.ensures ∙ ap (fresh c.args.self.now.bytes.now c.args.self.now.options.now) (first-at c.args.chunks.now _ c.requires.some) in
     let w = c.set_events.ensures ∙ without-events _ _ _ v refl c.clear.ensures.items in
     record {
@@ -23,8 +24,11 @@ loop-chunk-init c =
       skips = ap (λ (x : World). skipping_all x c.args.chunks.now) w;
     }
   where
-    without-events : (x y : World) (events : List Event) → x ≡ y → y.events ≡ [] → events ≡ [] → record x { events = events } ≡ y
-    without-events x y events same none empty = ap (λ (z : World). record z { events = events }) same ∙ ap (λ (l : List Event). record y { events = l }) (empty ∙ sym none)
+    without-events : (x y : World) (events : List Event) → x ≡ y → y.events ≡ [] → events ≡ [] →
+        record x { events = events } ≡ y
+    without-events x y events same none empty =
+        ap (λ (z : World). record z { events = events }) same
+        ∙ ap (λ (l : List Event). record y { events = l }) (empty ∙ sym none)
 
 pub define_skip-requires : goal.define_skip-requires
 define_skip-requires c = rw c.loop-chunk.invariant.bytes (c.requires.each c.loop-chunk.chunk-index _ (omega arith)).first
