@@ -9,7 +9,7 @@ use Rattle.md_seam.specs.Ahead.{line_bytes, line_cells}
 use Rattle.md_seam.specs.Look.{first_seen}
 use Rattle.md_seam.specs.Spaces.{ends_line}
 use Rattle.md_definition.specs.Rest.{is_blank}
-use Rattle.md_seam.specs.Standard.Rest.{is_blank, is_white}
+use Rattle.md_definition.specs.Rest.{is_blank, is_white}
 use Rattle.md_seam.proofs.LookLemmas.{not-passing, not-white}
 
 -- its first byte is one of its line, and not white

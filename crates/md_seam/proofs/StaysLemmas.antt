@@ -13,7 +13,7 @@ use Rattle.md_engine.specs.World.{World, looks}
 use Rattle.md_engine.proofs.ClassLemmas.{no-ending}
 use Rattle.md_seam.specs.Spaces.{ends_line}
 use Rattle.md_definition.specs.Rest.{is_white}
-use Rattle.md_seam.specs.Standard.Rest.{is_white}
+use Rattle.md_definition.specs.Rest.{is_white}
 use Rattle.md_seam.specs.Stays.{TakesEach}
 use Rattle.md_seam.specs.Transition.{Transition}
 use Rattle.md_seam.proofs.SpacesGoods.{Does, does-stands}
